@@ -1,0 +1,24 @@
+-- Document 01, "Access": host reads and writes of any length; length 0 passes at the size and not beyond.
+use Prim.Native.Nat.{ℕ, _+_}
+use mathlib.Core.List.{List}
+use lib.ListN.{length}
+use Rattle.types.specs.Pick.{pick}
+use Rattle.types.specs.Span.{inside, cut, over}
+use Rattle.types.specs.Answer.{refuse, accept}
+use Rattle.memory.specs.Access.{Stored, done}
+use Rattle.memory.specs.Memory.{soundMemory}
+use Rattle.memory.specs.declared.memory.Memory.{Memory}
+
+-- the caller's buffer becomes the bytes from an offset on; a refused read (9, or 19) leaves it
+unfoldable pub readMemory : Memory → List ℕ → ℕ → List ℕ → Stored
+readMemory m bs offset buf =
+    pick (soundMemory m (length bs))
+    (pick (inside offset (length buf) (m .size)) (done (accept 0) (cut bs (m .start + offset) (length buf))) (done (refuse 9 0) buf))
+    (done (refuse 19 0) buf)
+
+-- the bytes from an offset on become the caller's buffer; a refused write (9, or 19) changes none
+unfoldable pub writeMemory : Memory → List ℕ → ℕ → List ℕ → Stored
+writeMemory m bs offset buf =
+    pick (soundMemory m (length bs))
+    (pick (inside offset (length buf) (m .size)) (done (accept 0) (over bs (m .start + offset) buf)) (done (refuse 9 0) bs))
+    (done (refuse 19 0) bs)

@@ -1,0 +1,48 @@
+-- Document 01, "The machine": a memory's record, its size, and when it is sound; WebAssembly Core Specification 3.0, Execution, Runtime structure, memory instances.
+use Prim.Native.Nat.{ℕ, _+_, _/_, _%_}
+use mathlib.Core.Bool.{Bool}
+use mathlib.Core.List.{List}
+use lib.Dec.{eqb, leb}
+use lib.ListN.{length}
+use Rattle.types.specs.Pick.{pick, both}
+use Rattle.types.specs.Limits.{admitsOf}
+use Rattle.types.specs.MemoryType.{pageBytes, pageBound, validMemory}
+use Rattle.types.specs.Answer.{refuse}
+use Rattle.types.specs.declared.answer.Answer.{Answer}
+use Rattle.memory.specs.Access.{Stored, done, loadAt, storeAt}
+use Rattle.memory.specs.declared.access.LoadKind.{LoadKind}
+use Rattle.memory.specs.declared.access.StoreKind.{StoreKind}
+use Rattle.memory.specs.declared.memory.Memory.{Memory}
+
+-- the size in pages
+unfoldable pub pagesOf : Memory → ℕ
+pagesOf m = m .size / pageBytes (m .ty .page)
+
+-- the same memory with another size
+abbrev pub resized : Memory → ℕ → Memory
+resized m size = record { ty = m .ty; start = m .start; room = m .room; size = size }
+
+-- the room lies inside the buffer, and the size within the room
+unfoldable pub soundRoom : Memory → ℕ → Bool
+soundRoom m len = both (leb (m .start + m .room) len) (leb (m .size) (m .room))
+
+-- the size is of whole pages, at least the minimum, at most the page bound and the maximum
+unfoldable pub soundSize : Memory → Bool
+soundSize m =
+    both (eqb (m .size % pageBytes (m .ty .page)) 0)
+    (both (leb (m .ty .limits .minimum) (pagesOf m))
+    (both (leb (pagesOf m) (pageBound (m .ty))) (admitsOf (m .ty .limits) (pagesOf m))))
+
+-- a sound record: its type is valid, and its size lies within type and room
+unfoldable pub soundMemory : Memory → ℕ → Bool
+soundMemory m len = both (soundRoom m len) (both (validMemory (m .ty)) (soundSize m))
+
+-- a load from a memory, or 19
+unfoldable pub loadMemory : LoadKind → Memory → List ℕ → ℕ → ℕ → Answer
+loadMemory k m bs ptr offset =
+    pick (soundMemory m (length bs)) (loadAt k bs (m .start) (m .size) ptr offset) (refuse 19 0)
+
+-- a store to a memory, or 19
+unfoldable pub storeMemory : StoreKind → Memory → List ℕ → ℕ → ℕ → ℕ → Stored
+storeMemory k m bs ptr offset v =
+    pick (soundMemory m (length bs)) (storeAt k bs (m .start) (m .size) ptr offset v) (done (refuse 19 0) bs)

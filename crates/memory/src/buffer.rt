@@ -1,0 +1,80 @@
+// The small routines that write a lent part of the byte buffer.
+ghost use mathlib.Core.Path.{_≡_};
+ghost use Prim.Native.Nat.{_+_, _≤_, _^_, _<_};
+ghost use lib.ListN.{length, replicate};
+ghost use Rattle.types.specs.Span.{over, cut};
+ghost use Rattle.memory.specs.LittleEndian.{leBytes};
+
+// Every byte of the part becomes `v`.
+pub(crate) fn fill(part: &mut [u8], v: u8)
+    ensures { λ _. ⌜ now (part .exit) ≡ replicate (length (now (part .entry))) v ⌝ }
+{
+    let mut i = 0;
+    while i < part.len() {
+        part[i] = v;
+        i += 1;
+    }
+}
+
+// The part becomes the low bytes of a number, the lowest first.
+pub(crate) fn put_number(part: &mut [u8], v: u64)
+    ensures { λ _. ⌜ now (part .exit) ≡ leBytes (length (now (part .entry))) v ⌝ }
+{
+    let mut rest = v;
+    let mut i = 0;
+    while i < part.len() {
+        part[i] = (rest % 256) as u8;
+        rest = rest / 256;
+        i += 1;
+    }
+}
+
+// The part becomes the bytes of a source of the same length.
+fn put(part: &mut [u8], source: &[u8])
+    requires { ⌜ length (now part) ≡ length (now source) ⌝ }
+    ensures { λ _. ⌜ now (part .exit) ≡ now (source .entry) ⌝ }
+{
+    let mut i = 0;
+    while i < part.len() {
+        part[i] = source[i];
+        i += 1;
+    }
+}
+
+fn blank() -> [u8; 4096] {
+    [0u8; 4096]
+}
+
+// The same through a row of its own: two copies whose ends cannot meet are block moves in the machine code.
+fn put_through(part: &mut [u8], row: &mut [u8], source: &[u8])
+    requires { ⌜ (length (now part) ≡ length (now source)) × (length (now row) ≡ length (now source)) ⌝ }
+    ensures { λ _. ⌜ now (part .exit) ≡ now (source .entry) ⌝ }
+{
+    put(row, source);
+    put(part, row);
+}
+
+// The same for up to 4096 bytes.
+fn put_some(part: &mut [u8], source: &[u8])
+    requires { ⌜ (length (now part) ≡ length (now source)) × (length (now source) ≤ 4096) ⌝ }
+    ensures { λ _. ⌜ now (part .exit) ≡ now (source .entry) ⌝ }
+{
+    let mut row = blank();
+    let n = source.len();
+    put_through(part, &mut row[..n], source);
+}
+
+// The part becomes the bytes of a source of the same length, however long.
+pub(crate) fn put_all(part: &mut [u8], source: &[u8])
+    requires { ⌜ length (now part) ≡ length (now source) ⌝ }
+    ensures { λ _. ⌜ now (part .exit) ≡ now (source .entry) ⌝ }
+{
+    let n = source.len();
+    let mut i = 0;
+    while 4096 < n - i {
+        let e = i + 4096;
+        put_some(&mut part[i..e], &source[i..e]);
+        i = e;
+    }
+    put_some(&mut part[i..n], &source[i..n]);
+}

@@ -1,0 +1,152 @@
+// A memory's record: size, soundness, loads and stores, host reads and writes.
+use super::access;
+use super::access::LoadKind;
+use super::access::StoreKind;
+use super::buffer;
+use types::answer::Answer;
+use types::answer::Refusal;
+use types::answer::Value;
+use types::memory_ty::MemoryType;
+ghost use mathlib.Core.Path.{_≡_};
+ghost use Prim.Native.Nat.{_+_, _≤_};
+ghost use lib.ListN.{length};
+ghost use Rattle.types.specs.Answer.{refuse};
+ghost use Rattle.types.specs.Span.{over, cut};
+ghost use Rattle.memory.specs.Access.{done};
+ghost use Rattle.memory.specs.Memory.{pagesOf, soundRoom, soundSize, soundMemory, loadMemory, storeMemory};
+ghost use Rattle.memory.specs.Host.{readMemory, writeMemory};
+
+// `size` bytes in use of a room of `room` bytes, which starts at `start` in the buffer.
+pub struct Memory {
+    pub ty: MemoryType,
+    pub start: usize,
+    pub room: u64,
+    pub size: u64,
+}
+
+pub(crate) fn refused(number: u8) -> Answer
+    ensures { λ r. ⌜ r ≡ refuse number 0 ⌝ }
+{
+    Answer::Refusal(Refusal { number, amount: 0 })
+}
+
+impl Memory {
+    // The size in pages.
+    pub fn pages(self) -> u64
+        ensures { λ r. ⌜ r ≡ pagesOf self ⌝ }
+    {
+        let page = self.ty.page;
+        self.size / page.page_size()
+    }
+
+    // Whether the room lies inside a buffer of `len` bytes, and the size within the room.
+    fn sound_room(self, len: usize) -> bool
+        ensures { λ r. ⌜ r ≡ soundRoom self len ⌝ }
+    {
+        let room = self.room as usize;
+        if len < room {
+            return false;
+        }
+        if len - room < self.start {
+            return false;
+        }
+        self.size <= self.room
+    }
+
+    // Whether the size is of whole pages and within the type.
+    fn sound_size(self) -> bool
+        ensures { λ r. ⌜ r ≡ soundSize self ⌝ }
+    {
+        let ty = self.ty;
+        let page = ty.page;
+        let limits = ty.limits;
+        let pages = self.pages();
+        if self.size % page.page_size() != 0 {
+            return false;
+        }
+        if pages < limits.minimum {
+            return false;
+        }
+        if !ty.absolute_max().covers(pages) {
+            return false;
+        }
+        limits.admits(pages)
+    }
+
+    // Whether the record is sound over a buffer of `len` bytes.
+    pub fn is_sound(self, len: usize) -> bool
+        ensures { λ r. ⌜ r ≡ soundMemory self len ⌝ }
+    {
+        let ty = self.ty;
+        if !self.sound_room(len) {
+            return false;
+        }
+        if !ty.is_valid() {
+            return false;
+        }
+        self.sound_size()
+    }
+
+    // A load: 9 outside, 19 where the record is unsound.
+    pub fn load(self, bytes: &[u8], kind: LoadKind, ptr: u64, offset: u64) -> Answer
+        ensures { λ r. ⌜ r ≡ loadMemory kind self (now (bytes .entry)) ptr offset ⌝ }
+    {
+        let len = bytes.len();
+        if self.is_sound(len) {
+            return access::load_at(bytes, self.start, self.size, kind, ptr, offset);
+        }
+        refused(19)
+    }
+
+    // A store: 9 outside, 19 where the record is unsound.
+    pub fn store(
+        self,
+        bytes: &mut [u8],
+        kind: StoreKind,
+        ptr: u64,
+        offset: u64,
+        bits: u64,
+    ) -> Answer
+        ensures { λ r. ⌜ done r (now (bytes .exit)) ≡ storeMemory kind self (now (bytes .entry)) ptr offset bits ⌝ }
+    {
+        let len = bytes.len();
+        if self.is_sound(len) {
+            return access::store_at(bytes, self.start, self.size, kind, ptr, offset, bits);
+        }
+        refused(19)
+    }
+
+    // A host read into the caller's buffer, which a refusal leaves.
+    pub fn read(self, bytes: &[u8], offset: u64, to: &mut [u8]) -> Answer
+        ensures { λ r. ⌜ done r (now (to .exit)) ≡ readMemory self (now (bytes .entry)) offset (now (to .entry)) ⌝ }
+    {
+        let len = bytes.len();
+        if !self.is_sound(len) {
+            return refused(19);
+        }
+        if !types::span::within(offset, to.len() as u64, self.size) {
+            return refused(9);
+        }
+        let a = self.start + (offset as usize);
+        let e = a + to.len();
+        buffer::put_all(to, &bytes[a..e]);
+        Answer::Value(Value::Number(0))
+    }
+
+    // A host write from the caller's buffer.
+    pub fn write(self, bytes: &mut [u8], offset: u64, from: &[u8]) -> Answer
+        ensures { λ r. ⌜ done r (now (bytes .exit)) ≡ writeMemory self (now (bytes .entry)) offset (now (from .entry)) ⌝ }
+    {
+        let len = bytes.len();
+        if !self.is_sound(len) {
+            return refused(19);
+        }
+        if !types::span::within(offset, from.len() as u64, self.size) {
+            return refused(9);
+        }
+        let a = self.start + (offset as usize);
+        let e = a + from.len();
+        buffer::put_all(&mut bytes[a..e], from);
+        Answer::Value(Value::Number(0))
+    }
+}

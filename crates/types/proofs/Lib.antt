@@ -1,0 +1,9 @@
+pub mod Picks
+pub mod Halves
+pub mod Prices
+pub mod Floats
+pub mod Signs
+pub mod Scripts
+pub mod Spans
+pub mod Moves
+pub mod Sizes

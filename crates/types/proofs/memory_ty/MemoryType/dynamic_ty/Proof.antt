@@ -1,0 +1,15 @@
+-- `types::memory_ty::MemoryType::dynamic_ty` meets its contract. Assumes nothing.
+use Rattle.types.specs.MemoryType.{dynamicMemory}
+use borrow.Author.Needs.{needs}
+use Rattle.types.proofs.memory_ty.MemoryType.dynamic_ty.Statement.{statement}
+use Rattle.types.proofs.memory_ty.MemoryType.dynamic_ty.Tie as tie
+
+from-requires : tie.Need-from-requires
+from-requires c κs = search needs
+
+returns : tie.Need-returns
+unfolding dynamicMemory
+returns c = cc
+
+pub dynamic-ty-spec : {M : Type 1} → statement M
+dynamic-ty-spec = tie.close (tie.spec from-requires returns)

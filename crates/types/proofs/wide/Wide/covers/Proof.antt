@@ -1,0 +1,21 @@
+-- `types::wide::Wide::covers` meets its contract. Assumes nothing.
+use Prim.Native.Nat.{_≤_}
+use Rattle.types.proofs.Halves.{whole-low}
+use Rattle.types.proofs.Picks.{cases}
+use Rattle.types.specs.Wide.{whole}
+use native.Mathlib.Omega.{arith}
+use Rattle.types.proofs.wide.Wide.covers.Statement.{statement}
+use Rattle.types.proofs.wide.Wide.covers.Tie as tie
+
+returns : tie.Need-returns
+unfolding whole
+returns c =
+    let a = c .before .before .args in
+    let h : a .n ≤ whole (a .self) = omega arith in
+    search cases
+
+returns-2 : tie.Need-returns-2
+returns-2 c = rw (whole-low (c .before .before .before .args .self) (c .before .if1 .left))
+
+pub covers-spec : {M : Type 1} → statement M
+covers-spec = tie.close (tie.spec returns returns-2)

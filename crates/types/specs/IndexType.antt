@@ -1,0 +1,33 @@
+-- WebAssembly Core Specification 3.0, Structure, Types, address types; document 01, "Modules in port order": index type; largest size 2^32 or 2^64.
+use Prim.Native.Nat.{ℕ, _^_}
+use mathlib.Core.Bool.{Bool, true, false}
+use Rattle.types.specs.declared.index_ty.IndexType.{IndexType}
+use Rattle.types.specs.declared.index_ty.IndexType.the-variants.{I32, I64}
+
+-- the N of an address type
+abbrev pub indexBits : IndexType → ℕ
+indexBits I32 = 32
+indexBits I64 = 64
+
+-- the largest size
+abbrev pub maxSize : IndexType → ℕ
+maxSize i = 2 ^ indexBits i
+
+abbrev pub is64 : IndexType → Bool
+is64 I32 = false
+is64 I64 = true
+
+abbrev pub indexOf : Bool → IndexType
+indexOf false = I32
+indexOf true = I64
+
+abbrev pub sameIndex : IndexType → IndexType → Bool
+sameIndex I32 I32 = true
+sameIndex I32 I64 = false
+sameIndex I64 I32 = false
+sameIndex I64 I64 = true
+
+-- the smaller of two
+abbrev pub smaller : IndexType → IndexType → IndexType
+smaller I32 j = I32
+smaller I64 j = j

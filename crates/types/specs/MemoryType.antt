@@ -1,0 +1,75 @@
+-- WebAssembly Core Specification 3.0, Validation, Types and Matching, memory types; document 01, "Types", for the page exponent and the page bound.
+use Prim.Native.Nat.{ℕ, _*_, _/_, _^_}
+use mathlib.Core.Bool.{Bool, true, false}
+use lib.Dec.{eqb, ltb}
+use Rattle.types.specs.Pick.{pick, both}
+use Rattle.types.specs.Answer.{refusal}
+use Rattle.types.specs.IndexType.{maxSize, indexOf, sameIndex}
+use Rattle.types.specs.Limits.{validLimits, matchLimits, fromMinimum}
+use Rattle.types.specs.declared.limits.Limits.{Limits}
+use Rattle.types.specs.declared.memory_ty.PageSize.{PageSize}
+use Rattle.types.specs.declared.memory_ty.PageSize.the-variants.{One, Wasm}
+use Rattle.types.specs.declared.memory_ty.MemoryType.{MemoryType}
+use Rattle.types.specs.declared.memory_ty.BuiltMemory.{BuiltMemory}
+use Rattle.types.specs.declared.memory_ty.BuiltMemory.the-variants.{Built, Refused}
+use Rattle.types.specs.declared.memory_ty.ByteSize.{ByteSize}
+use Rattle.types.specs.declared.memory_ty.ByteSize.the-variants.{Bytes, Overflow}
+
+-- the page exponent, 0 or 16
+abbrev pub log2Of : PageSize → ℕ
+log2Of One = 0
+log2Of Wasm = 16
+
+-- the bytes of a page
+abbrev pub pageBytes : PageSize → ℕ
+pageBytes p = 2 ^ log2Of p
+
+abbrev pub samePage : PageSize → PageSize → Bool
+samePage One One = true
+samePage One Wasm = false
+samePage Wasm One = false
+samePage Wasm Wasm = true
+
+-- the page bound: the largest size shifted right by the exponent
+unfoldable pub pageBound : MemoryType → ℕ
+pageBound t = maxSize (t .index) / 2 ^ log2Of (t .page)
+
+-- minimum and maximum may equal the page bound
+unfoldable pub validMemory : MemoryType → Bool
+validMemory t = validLimits (t .limits) (pageBound t)
+
+abbrev pub memoryType : Bool → PageSize → Limits → MemoryType
+memoryType wide p l = record { index = indexOf wide; page = p; limits = l }
+
+-- a valid type, or 1
+unfoldable pub validated : MemoryType → BuiltMemory
+validated t = pick (validMemory t) (Built t) (Refused (refusal 1 0))
+
+-- the type of five fields: 64-bit or not, minimum, maximum if there is one, page exponent; or 1
+unfoldable pub buildMemory : Bool → Limits → ℕ → BuiltMemory
+buildMemory wide l e =
+    pick (eqb e 0)
+    (validated (memoryType wide One l))
+    (pick (eqb e 16) (validated (memoryType wide Wasm l)) (Refused (refusal 1 0)))
+
+-- a size in bytes, where it is below 2^64
+unfoldable pub byteSize : ℕ → ByteSize
+byteSize n = pick (ltb n (2 ^ 64)) (Bytes n) Overflow
+
+unfoldable pub minimumBytes : MemoryType → ByteSize
+minimumBytes t = byteSize (t .limits .minimum * pageBytes (t .page))
+
+-- the maximum's bytes, or the largest size where there is no maximum
+unfoldable pub maximumBytes : MemoryType → ByteSize
+maximumBytes t =
+    byteSize (pick (t .limits .bounded) (t .limits .maximum * pageBytes (t .page)) (maxSize (t .index)))
+
+-- a is a subtype of b: same index type, same page size, matching limits
+unfoldable pub matchMemory : MemoryType → MemoryType → Bool
+matchMemory a b =
+    both (sameIndex (a .index) (b .index))
+    (both (samePage (a .page) (b .page)) (matchLimits (a .limits) (b .limits)))
+
+-- the dynamic type has the present size as minimum
+unfoldable pub dynamicMemory : MemoryType → ℕ → MemoryType
+dynamicMemory t n = record { index = t .index; page = t .page; limits = fromMinimum (t .limits) n }

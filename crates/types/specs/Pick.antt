@@ -1,0 +1,12 @@
+-- First check wins (document 01, "Numbers given back"): a test picks one of two values. Used by every definition below.
+use mathlib.Core.Bool.{Bool, true, false}
+
+-- the first value where the test holds, else the second
+unfoldable pub pick : {A : Type 0} → Bool → A → A → A
+pick true a b = a
+pick false a b = b
+
+-- both tests hold
+unfoldable pub both : Bool → Bool → Bool
+both true b = b
+both false b = false

@@ -1,0 +1,31 @@
+-- Document 01, "The machine" and "Fuel": references of 64 bits, their kinds (func, extern), and the R bytes that one counts.
+use Prim.Native.Nat.{ℕ}
+use mathlib.Core.Bool.{Bool, true, false}
+use lib.Dec.{eqb}
+use Rattle.types.specs.declared.raw.RefType.{RefType}
+use Rattle.types.specs.declared.raw.RefType.the-variants.{Func, Extern}
+use Rattle.types.specs.declared.raw.RawRef.{RawRef}
+use Rattle.types.specs.declared.raw.TypedRawRef.{TypedRawRef}
+
+abbrev pub sameKind : RefType → RefType → Bool
+sameKind Func Func = true
+sameKind Func Extern = false
+sameKind Extern Func = false
+sameKind Extern Extern = true
+
+-- the null reference has no bit set
+abbrev pub nullRef : RawRef
+nullRef = record { bits = 0 }
+
+abbrev pub isNull : RawRef → Bool
+isNull r = eqb (r .bits) 0
+
+abbrev pub typedOf : RawRef → RefType → TypedRawRef
+typedOf r k = record { raw = r; ty = k }
+
+abbrev pub nullOf : RefType → TypedRawRef
+nullOf k = typedOf nullRef k
+
+-- R of the machine: the size of the crate's RawRef
+unfoldable pub rawBytes : ℕ
+rawBytes = 4
