@@ -6,4 +6,5 @@ pub mod Signs
 pub mod Scripts
 pub mod Spans
 pub mod Moves
+pub mod Stepping
 pub mod Sizes

@@ -1,10 +1,13 @@
 -- Document 01, "First check wins": the steps that memories and tables share, from the limiter's question to the room.
 use Prim.Native.Nat.{ℕ}
 use mathlib.Core.Bool.{Bool}
+use mathlib.Core.List.{List}
 use Rattle.types.specs.Pick.{pick}
-use Rattle.types.specs.Answer.{refusal}
+use Rattle.types.specs.Answer.{refusal, accept}
 use Rattle.types.specs.Fuel.{consumeIf}
 use Rattle.types.specs.Limiter.{ask, notify}
+use Rattle.types.specs.declared.answer.Answer.{Answer}
+use Rattle.types.specs.declared.answer.Answer.the-variants as answer
 use Rattle.types.specs.declared.answer.Refusal.{Refusal}
 use Rattle.types.specs.declared.fuel.Fuel.{Fuel}
 use Rattle.types.specs.declared.fuel.FuelStep.{FuelStep}
@@ -14,6 +17,7 @@ use Rattle.types.specs.declared.limiter.Permit.{Permit}
 use Rattle.types.specs.declared.limiter.Permit.the-variants.{Granted, Denied}
 use Rattle.types.specs.declared.limiter.Asked.{Asked}
 use Rattle.types.specs.declared.grant.Growth.{Growth}
+use Rattle.types.specs.declared.grant.Spanned.{Spanned}
 
 -- a refusal of which the limiter is told
 unfoldable pub told : Limiter → Refusal → Asked
@@ -62,3 +66,16 @@ grantGrowth l f admits price fits = growthPermit (ask l 6 .permit) (ask l 6 .lim
 -- a span operation: the bounds come first, then the fuel step
 unfoldable pub grantSpan : Fuel → Bool → ℕ → ℕ → FuelStep
 grantSpan f inBounds number price = pick inBounds (consumeIf f price) (Refused (refusal number 0))
+
+-- what a span operation gives back, and the cells after it
+pub record SpanDone : Type 0 where
+  pub out : Spanned
+  pub cells : List ℕ
+
+abbrev pub spanDone : Answer → Fuel → List ℕ → SpanDone
+spanDone a f cs = record { out = record { answer = a; fuel = f }; cells = cs }
+
+-- after the fuel step: a refusal leaves fuel and cells, else the cells are the new ones
+unfoldable pub spanned : FuelStep → Fuel → List ℕ → List ℕ → SpanDone
+spanned (Refused r) f cs new = spanDone (answer.Refusal r) f cs
+spanned (Done g) f cs new = spanDone (accept 0) g new

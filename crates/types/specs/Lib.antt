@@ -7,6 +7,7 @@ pub mod Raw
 pub mod TableType
 pub mod Price
 pub mod Span
+pub mod Steps
 pub mod Answer
 pub mod Fuel
 pub mod Limiter

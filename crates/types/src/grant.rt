@@ -1,4 +1,5 @@
 // The steps that memories and tables share, from the limiter's question to the room.
+use super::answer::Answer;
 use super::answer::Refusal;
 use super::fuel::Fuel;
 use super::fuel::FuelStep;
@@ -14,6 +15,12 @@ pub struct Growth {
     pub permit: Permit,
     pub fuel: Fuel,
     pub limiter: Limiter,
+}
+
+// What a span operation gives back beside its cells.
+pub struct Spanned {
+    pub answer: Answer,
+    pub fuel: Fuel,
 }
 
 // A refusal of which the limiter is told.

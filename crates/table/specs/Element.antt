@@ -1,0 +1,45 @@
+-- Document 01, "The machine": element segments; WebAssembly Core Specification 3.0, Execution, Instructions, elem.drop.
+use Prim.Native.Nat.{ℕ, _+_}
+use mathlib.Core.Bool.{Bool}
+use mathlib.Core.List.{List}
+use lib.Dec.{leb}
+use lib.ListN.{length, getD}
+use Rattle.types.specs.Pick.{pick, both}
+use Rattle.types.specs.Span.{over}
+use Rattle.types.specs.Answer.{refusal, refuse, accept}
+use Rattle.types.specs.declared.answer.Answer.{Answer}
+use Rattle.types.specs.declared.raw.RefType.{RefType}
+use Rattle.table.specs.Table.{soundBuffer}
+use Rattle.table.specs.declared.element.ElementSegment.{ElementSegment}
+use Rattle.table.specs.declared.element.MadeSegment.{MadeSegment}
+use Rattle.table.specs.declared.element.MadeSegment.the-variants.{Made, Refused}
+
+-- a sound segment: its places lie inside the items, and its size within its places
+unfoldable pub soundSegment : ElementSegment → ℕ → Bool
+soundSegment s len = both (soundBuffer (s .start) (s .places) len) (leb (s .size) (s .places))
+
+-- elem.drop: the segment becomes empty; kind and places stay
+abbrev pub dropped : ElementSegment → ElementSegment
+dropped s = record { ty = s .ty; start = s .start; places = s .places; size = 0 }
+
+-- an item: 9 where the index is not below the size
+unfoldable pub itemOf : ElementSegment → List ℕ → ℕ → Answer
+itemOf s items i =
+    pick (soundSegment s (length items))
+    (pick (leb (s .size) i) (refuse 9 0) (accept (getD items (s .start + i) 0)))
+    (refuse 19 0)
+
+-- what making a segment gives back, and the items after it
+pub record MadeWith : Type 0 where
+  pub made : MadeSegment
+  pub items : List ℕ
+
+abbrev pub done : MadeSegment → List ℕ → MadeWith
+done m items = record { made = m; items = items }
+
+-- the items go to their places, or 19 where these are not inside the buffer
+unfoldable pub newSegment : RefType → ℕ → List ℕ → List ℕ → MadeWith
+newSegment k start items given =
+    pick (soundBuffer start (length given) (length items))
+    (done (Made (record { ty = k; start = start; places = length given; size = length given })) (over items start given))
+    (done (Refused (refusal 19 0)) items)

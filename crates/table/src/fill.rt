@@ -1,0 +1,100 @@
+// Filling cells of a table, in the order of checks of document 01.
+use super::cells;
+use super::table;
+use super::table::Table;
+use types::answer::Answer;
+use types::answer::Value;
+use types::fuel::Fuel;
+use types::fuel::FuelStep;
+use types::grant::Spanned;
+use types::raw::RawRef;
+use types::raw::TypedRawRef;
+ghost use mathlib.Core.Path.{_≡_};
+ghost use mathlib.Core.Bool.{true};
+ghost use Prim.Native.Nat.{_+_, _≤_};
+ghost use lib.ListN.{length, replicate};
+ghost use Rattle.types.specs.Span.{over};
+ghost use Rattle.types.specs.Grant.{spanDone, spanned};
+ghost use Rattle.types.specs.Raw.{rawBytes};
+ghost use Rattle.table.specs.Facts.{Goes, Within};
+ghost use Rattle.table.specs.Table.{soundTable};
+ghost use Rattle.table.specs.Fill.{fillKind, fillSound, fillTable};
+
+// By what bounds and fuel say.
+fn fill_by(
+    step: FuelStep,
+    fuel: Fuel,
+    table: Table,
+    cells: &mut [u64],
+    start: u64,
+    bits: u64,
+    n: u64,
+) -> Spanned
+    requires { ⌜ Goes step (table .start + (start + n)) (length (now cells)) ⌝ }
+    ensures { λ r. ⌜ spanDone (r .answer) (r .fuel) (now (cells .exit)) ≡ spanned step fuel (now (cells .entry)) (over (now (cells .entry)) (table .start + start) (replicate n bits)) ⌝ }
+{
+    match step {
+        FuelStep::Refused(refusal) => Spanned {
+            answer: Answer::Refusal(refusal),
+            fuel,
+        },
+        FuelStep::Done(left) => {
+            let at = table.start + (start as usize);
+            cells::fill_cells(cells, at, bits, n as usize);
+            Spanned {
+                answer: Answer::Value(Value::Number(0)),
+                fuel: left,
+            }
+        }
+    }
+}
+
+fn fill_kind(table: Table, cells: &mut [u64], start: u64, bits: u64, n: u64, fuel: Fuel) -> Spanned
+    requires { ⌜ Within table (length (now cells)) ⌝ }
+    ensures { λ r. ⌜ spanDone (r .answer) (r .fuel) (now (cells .exit)) ≡ fillKind rawBytes table (now (cells .entry)) start bits n fuel ⌝ }
+{
+    let costs = fuel.costs;
+    let in_bounds = types::span::within(start, n, table.size);
+    let price = costs.fuel_for_copying_values(n, RawRef::size());
+    let step = types::grant::grant_span(fuel, in_bounds, 11, price);
+    fill_by(step, fuel, table, cells, start, bits, n)
+}
+
+fn fill_sound(
+    table: Table,
+    cells: &mut [u64],
+    start: u64,
+    value: TypedRawRef,
+    n: u64,
+    fuel: Fuel,
+) -> Spanned
+    requires { ⌜ soundTable table (length (now cells)) ≡ true ⌝ }
+    ensures { λ r. ⌜ spanDone (r .answer) (r .fuel) (now (cells .exit)) ≡ fillSound rawBytes table (now (cells .entry)) start value n fuel ⌝ }
+{
+    let ty = table.ty;
+    let kind = value.ty;
+    if ty.element_matches(kind) {
+        return fill_kind(table, cells, start, value.raw.bits, n, fuel);
+    }
+    table::not_spanned(14, fuel)
+}
+
+impl Table {
+    // The `n` cells from `start` on become the reference: 14, 11 outside, 7; 19 where the record is unsound.
+    pub fn fill(
+        self,
+        cells: &mut [u64],
+        start: u64,
+        value: TypedRawRef,
+        n: u64,
+        fuel: Fuel,
+    ) -> Spanned
+        ensures { λ r. ⌜ spanDone (r .answer) (r .fuel) (now (cells .exit)) ≡ fillTable rawBytes self (now (cells .entry)) start value n fuel ⌝ }
+    {
+        let len = cells.len();
+        if self.is_sound(len) {
+            return fill_sound(self, cells, start, value, n, fuel);
+        }
+        table::not_spanned(19, fuel)
+    }
+}

@@ -1,0 +1,184 @@
+// Making a table in a room of the buffer, in the order of checks of document 01.
+use super::cells;
+use super::table;
+use super::table::Table;
+use types::answer::Refusal;
+use types::limiter::Limiter;
+use types::limiter::Permit;
+use types::limits::Limits;
+use types::raw::RefType;
+use types::raw::TypedRawRef;
+use types::table_ty::BuiltTable;
+use types::table_ty::TableType;
+ghost use mathlib.Core.Path.{_≡_};
+ghost use Prim.Native.Nat.{_+_, _≤_};
+ghost use lib.ListN.{length};
+ghost use Rattle.types.specs.declared.limiter.Permit.the-variants.{Granted};
+ghost use Rattle.types.specs.TableType.{buildTable};
+ghost use Rattle.table.specs.New.{done, refused, madeBy, madeOf, byKind, byType, newTable};
+
+pub enum MadeTable {
+    Made(Table),
+    Refused(Refusal),
+}
+
+pub struct CreatedTable {
+    pub made: MadeTable,
+    pub limiter: Limiter,
+}
+
+fn no_table(limiter: Limiter, refusal: Refusal) -> CreatedTable
+    ensures { λ r. ⌜ r ≡ refused limiter refusal ⌝ }
+{
+    CreatedTable {
+        made: MadeTable::Refused(refusal),
+        limiter,
+    }
+}
+
+// The table that was granted.
+fn make(
+    limiter: Limiter,
+    ty: TableType,
+    start: usize,
+    room: u64,
+    bits: u64,
+    cells: &mut [u64],
+) -> CreatedTable
+    requires { ⌜ start + ty .limits .minimum ≤ length (now cells) ⌝ }
+    ensures { λ r. ⌜ done r (now (cells .exit)) ≡ madeBy Granted limiter ty start room bits (now (cells .entry)) ⌝ }
+{
+    let size = ty.limits.minimum;
+    cells::fill_cells(cells, start, bits, size as usize);
+    CreatedTable {
+        made: MadeTable::Made(Table {
+            ty,
+            start,
+            room,
+            size,
+        }),
+        limiter,
+    }
+}
+
+// By what the limiter and the room say.
+fn make_by(
+    permit: Permit,
+    limiter: Limiter,
+    ty: TableType,
+    start: usize,
+    room: u64,
+    bits: u64,
+    cells: &mut [u64],
+) -> CreatedTable
+    requires { ⌜ (permit ≡ Granted → start + ty .limits .minimum ≤ length (now cells)) ⌝ }
+    ensures { λ r. ⌜ done r (now (cells .exit)) ≡ madeBy permit limiter ty start room bits (now (cells .entry)) ⌝ }
+{
+    match permit {
+        Permit::Denied(refusal) => no_table(limiter, refusal),
+        Permit::Granted => make(limiter, ty, start, room, bits, cells),
+    }
+}
+
+fn make_granted(
+    limiter: Limiter,
+    ty: TableType,
+    start: usize,
+    room: u64,
+    bits: u64,
+    cells: &mut [u64],
+) -> CreatedTable
+    requires { ⌜ start + room ≤ length (now cells) ⌝ }
+    ensures { λ r. ⌜ done r (now (cells .exit)) ≡ madeOf limiter ty start room bits (now (cells .entry)) ⌝ }
+{
+    let asked = types::grant::grant_creation(limiter, ty.limits.minimum <= room);
+    let permit = asked.permit;
+    let left = asked.limiter;
+    make_by(permit, left, ty, start, room, bits, cells)
+}
+
+// By the kind of the initial reference.
+fn by_kind(
+    limiter: Limiter,
+    ty: TableType,
+    start: usize,
+    room: u64,
+    init: TypedRawRef,
+    cells: &mut [u64],
+) -> CreatedTable
+    requires { ⌜ start + room ≤ length (now cells) ⌝ }
+    ensures { λ r. ⌜ done r (now (cells .exit)) ≡ byKind limiter ty start room init (now (cells .entry)) ⌝ }
+{
+    let kind = init.ty;
+    if ty.element_matches(kind) {
+        return make_granted(limiter, ty, start, room, init.raw.bits, cells);
+    }
+    no_table(
+        limiter,
+        Refusal {
+            number: 14,
+            amount: 0,
+        },
+    )
+}
+
+// By whether the type is valid.
+fn by_type(
+    built: BuiltTable,
+    limiter: Limiter,
+    start: usize,
+    room: u64,
+    init: TypedRawRef,
+    cells: &mut [u64],
+) -> CreatedTable
+    requires { ⌜ start + room ≤ length (now cells) ⌝ }
+    ensures { λ r. ⌜ done r (now (cells .exit)) ≡ byType built limiter start room init (now (cells .entry)) ⌝ }
+{
+    match built {
+        BuiltTable::Refused(refusal) => no_table(limiter, refusal),
+        BuiltTable::Built(ty) => by_kind(limiter, ty, start, room, init, cells),
+    }
+}
+
+fn make_in(
+    element: RefType,
+    is_64: bool,
+    limits: Limits,
+    init: TypedRawRef,
+    start: usize,
+    room: u64,
+    cells: &mut [u64],
+    limiter: Limiter,
+) -> CreatedTable
+    requires { ⌜ start + room ≤ length (now cells) ⌝ }
+    ensures { λ r. ⌜ done r (now (cells .exit)) ≡ byType (buildTable element is_64 limits) limiter start room init (now (cells .entry)) ⌝ }
+{
+    let built = TableType::build(element, is_64, limits);
+    by_type(built, limiter, start, room, init, cells)
+}
+
+// A new table in the `room` cells from `start` on: 1, 14, the limiter's 3 or 4, 5 with notice; 19 where the room is not inside the buffer.
+pub fn new_table(
+    element: RefType,
+    is_64: bool,
+    limits: Limits,
+    init: TypedRawRef,
+    start: usize,
+    room: u64,
+    cells: &mut [u64],
+    limiter: Limiter,
+) -> CreatedTable
+    ensures { λ r. ⌜ done r (now (cells .exit)) ≡ newTable element is_64 limits init start room (now (cells .entry)) limiter ⌝ }
+{
+    let len = cells.len();
+    if table::sound_buffer(start, room, len) {
+        return make_in(element, is_64, limits, init, start, room, cells, limiter);
+    }
+    no_table(
+        limiter,
+        Refusal {
+            number: 19,
+            amount: 0,
+        },
+    )
+}

@@ -1,0 +1,125 @@
+// A table's record: size, soundness, get and set.
+use super::cells;
+use types::answer::Answer;
+use types::answer::Refusal;
+use types::answer::Value;
+use types::fuel::Fuel;
+use types::grant::Spanned;
+use types::raw::TypedRawRef;
+use types::table_ty::TableType;
+ghost use mathlib.Core.Path.{_≡_};
+ghost use mathlib.Core.Bool.{true};
+ghost use lib.ListN.{length};
+ghost use Rattle.types.specs.Answer.{refuse};
+ghost use Rattle.table.specs.Table.{done, soundBuffer, soundSize, soundTable, getTable, setSound, setTable};
+
+// `size` cells in use of a room of `room` cells, which starts at `start` in the buffer.
+pub struct Table {
+    pub ty: TableType,
+    pub start: usize,
+    pub room: u64,
+    pub size: u64,
+}
+
+pub(crate) fn refused(number: u8) -> Answer
+    ensures { λ r. ⌜ r ≡ refuse number 0 ⌝ }
+{
+    Answer::Refusal(Refusal { number, amount: 0 })
+}
+
+// A span operation that is refused: fuel and cells stay.
+pub(crate) fn not_spanned(number: u8, fuel: Fuel) -> Spanned
+    ensures { λ r. ⌜ (r .answer ≡ refuse number 0) × (r .fuel ≡ fuel) ⌝ }
+{
+    Spanned {
+        answer: refused(number),
+        fuel,
+    }
+}
+
+// Whether places lie inside a buffer of `len` references, which has at most 2^32.
+pub(crate) fn sound_buffer(start: usize, places: u64, len: usize) -> bool
+    ensures { λ r. ⌜ r ≡ soundBuffer start places len ⌝ }
+{
+    if 4294967296 < len {
+        return false;
+    }
+    types::span::within(start as u64, places, len as u64)
+}
+
+impl Table {
+    // Whether the size lies within type and room.
+    fn sound_size(self) -> bool
+        ensures { λ r. ⌜ r ≡ soundSize self ⌝ }
+    {
+        let ty = self.ty;
+        let limits = ty.limits;
+        if self.room < self.size {
+            return false;
+        }
+        if self.size < limits.minimum {
+            return false;
+        }
+        if !ty.absolute_max().covers(self.size) {
+            return false;
+        }
+        limits.admits(self.size)
+    }
+
+    // Whether the record is sound over a buffer of `len` references.
+    pub fn is_sound(self, len: usize) -> bool
+        ensures { λ r. ⌜ r ≡ soundTable self len ⌝ }
+    {
+        let ty = self.ty;
+        if !sound_buffer(self.start, self.room, len) {
+            return false;
+        }
+        if !ty.is_valid() {
+            return false;
+        }
+        self.sound_size()
+    }
+
+    // The reference at an index: 9 outside.
+    pub fn get(self, cells: &[u64], index: u64) -> Answer
+        ensures { λ r. ⌜ r ≡ getTable self (now (cells .entry)) index ⌝ }
+    {
+        let len = cells.len();
+        if !self.is_sound(len) {
+            return refused(19);
+        }
+        if self.size <= index {
+            return refused(9);
+        }
+        let at = self.start + (index as usize);
+        Answer::Value(Value::Number(cells[at]))
+    }
+
+    // The cell at an index becomes the reference: 14, 10 outside.
+    pub fn set(self, cells: &mut [u64], index: u64, value: TypedRawRef) -> Answer
+        ensures { λ r. ⌜ done r (now (cells .exit)) ≡ setTable self (now (cells .entry)) index value ⌝ }
+    {
+        let len = cells.len();
+        if self.is_sound(len) {
+            return set_sound(self, cells, index, value);
+        }
+        refused(19)
+    }
+}
+
+fn set_sound(table: Table, cells: &mut [u64], index: u64, value: TypedRawRef) -> Answer
+    requires { ⌜ soundTable table (length (now cells)) ≡ true ⌝ }
+    ensures { λ r. ⌜ done r (now (cells .exit)) ≡ setSound table (now (cells .entry)) index value ⌝ }
+{
+    let ty = table.ty;
+    let kind = value.ty;
+    if !ty.element_matches(kind) {
+        return refused(14);
+    }
+    if table.size <= index {
+        return refused(10);
+    }
+    let at = table.start + (index as usize);
+    cells::fill_cells(cells, at, value.raw.bits, 1);
+    Answer::Value(Value::Number(0))
+}
