@@ -1,3 +1,5 @@
+pub mod One
+pub mod Unique
 pub mod Picks
 pub mod Halves
 pub mod Prices
