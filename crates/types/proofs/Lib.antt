@@ -1,12 +1,3 @@
-pub mod One
 pub mod Unique
-pub mod Picks
 pub mod Halves
-pub mod Prices
-pub mod Floats
-pub mod Signs
-pub mod Scripts
-pub mod Spans
-pub mod Moves
-pub mod Stepping
 pub mod Sizes

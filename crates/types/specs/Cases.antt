@@ -4,11 +4,11 @@ use mathlib.Core.Bool.{Bool, true, false}
 use mathlib.Core.List.{List, [], _∷_}
 use mathlib.Core.Path.{_≡_, refl}
 use lib.Dec.{eqb, ltb}
-use Rattle.types.specs.Pick.{pick, both}
+use Rattle.base.specs.Pick.{pick, both}
 use Rattle.types.specs.IndexType.{maxSize}
 use Rattle.types.specs.Limits.{validLimits, validMaximum}
 use Rattle.types.specs.MemoryType.{pageBound, validMemory, validated, buildMemory, byteSize, minimumBytes}
-use Rattle.types.specs.Price.{capped, price}
+use Rattle.base.specs.Price.{capped, price}
 use Rattle.types.specs.declared.index_ty.IndexType.the-variants.{I32}
 use Rattle.types.specs.declared.limits.Limits.{Limits}
 use Rattle.types.specs.declared.memory_ty.BuiltMemory.{BuiltMemory}

@@ -1,15 +1,7 @@
-pub mod Pick
 pub mod Wide
 pub mod IndexType
 pub mod Limits
 pub mod MemoryType
 pub mod Raw
 pub mod TableType
-pub mod Price
-pub mod Span
-pub mod Steps
-pub mod Answer
-pub mod Fuel
-pub mod Limiter
-pub mod Grant
 pub mod Cases

@@ -1,12 +1,7 @@
-// Types and fuel, the lowest layer: it knows numbers only.
-pub mod answer;
-pub mod fuel;
-pub mod grant;
+// Memory and table types, and references. It knows numbers only.
 pub mod index_ty;
-pub mod limiter;
 pub mod limits;
 pub mod memory_ty;
 pub mod raw;
-pub mod span;
 pub mod table_ty;
 pub mod wide;

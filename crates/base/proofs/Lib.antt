@@ -1,0 +1,10 @@
+pub mod One
+pub mod Unique
+pub mod Picks
+pub mod Prices
+pub mod Floats
+pub mod Signs
+pub mod Scripts
+pub mod Spans
+pub mod Moves
+pub mod Stepping

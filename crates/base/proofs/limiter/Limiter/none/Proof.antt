@@ -1,0 +1,12 @@
+-- `base::limiter::Limiter::none` meets its contract. Assumes nothing.
+use Rattle.base.specs.Limiter.{noLimiter}
+use mathlib.Core.Path.{refl}
+use Rattle.base.proofs.limiter.Limiter.none.Statement.{statement}
+use Rattle.base.proofs.limiter.Limiter.none.Tie as tie
+
+returns : tie.Need-returns
+unfolding noLimiter
+returns c = refl
+
+pub none-spec : {M : Type 1} → statement M
+none-spec = tie.close (tie.spec returns)

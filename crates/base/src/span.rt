@@ -1,0 +1,13 @@
+// The bounds of every span of cells.
+ghost use mathlib.Core.Path.{_≡_};
+ghost use Rattle.base.specs.Span.{inside};
+
+// Whether `len` cells from `start` on lie within `size` cells.
+pub fn within(start: u64, len: u64, size: u64) -> bool
+    ensures { λ r. ⌜ r ≡ inside start len size ⌝ }
+{
+    if size < len {
+        return false;
+    }
+    start <= size - len
+}
