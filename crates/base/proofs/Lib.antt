@@ -8,3 +8,4 @@ pub mod Scripts
 pub mod Spans
 pub mod Moves
 pub mod Stepping
+pub mod Grants

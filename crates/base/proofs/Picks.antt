@@ -51,6 +51,11 @@ unfolding both
 both-2 true b p = p
 both-2 false b p = absurd (false≢true p)
 
+-- either way of a test, with its equation
+pub either : (t : Bool) {C : Type 0} → (t ≡ true → C) → (t ≡ false → C) → C
+either true f g = f refl
+either false f g = g refl
+
 -- what a call's result was tested to be, said of what its contract says it is
 pub known-test : {r s v : Bool} → r ≡ s → r ≡ v → s ≡ v
 known-test p q = sym p ∙ q

@@ -1,5 +1,5 @@
--- Uniqueness: each public function's contract names one outcome for each input. Assumes nothing.
-use mathlib.Core.Path.{_≡_, sym, _∙_, ap}
+-- Uniqueness: each public function's contract names one answer, and one content of what it is lent to write, for each input. Assumes nothing.
+use mathlib.Core.Path.{sym, _∙_}
 use Rattle.base.proofs.One.{One}
 use Rattle.base.proofs.answer.Value.from_f32_bits.Reads as value-from-f32-bits-reads
 use Rattle.base.proofs.answer.Value.from_f32_bits.Kinds as value-from-f32-bits-kinds

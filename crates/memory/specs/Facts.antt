@@ -5,13 +5,13 @@ use mathlib.Core.List.{List}
 use lib.Dec.{ltb}
 use lib.IntN.{ℤ, pos, negsuc}
 use mir.Val.{sel}
-use Rattle.types.specs.Span.{cut}
+use Rattle.base.specs.Span.{cut}
 use Rattle.types.specs.declared.memory_ty.ByteSize.{ByteSize}
 use Rattle.types.specs.declared.memory_ty.ByteSize.the-variants.{Bytes}
 use Rattle.memory.specs.LittleEndian.{leValue}
 use Rattle.memory.specs.declared.memory.Memory.{Memory}
 use Rattle.memory.specs.declared.access.Address.{Address}
-use Rattle.memory.specs.declared.access.Address.the-variants.{At, Outside}
+use Rattle.memory.specs.declared.access.Address.the-variants.{At}
 
 -- an access of n bytes, at most 8
 pub record Reach (at n len : ℕ) : Type 0 where

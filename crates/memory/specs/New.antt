@@ -4,15 +4,15 @@ use mathlib.Core.Bool.{Bool}
 use mathlib.Core.List.{List}
 use lib.Dec.{leb}
 use lib.ListN.{length, replicate}
-use Rattle.types.specs.Pick.{pick}
-use Rattle.types.specs.Span.{over}
-use Rattle.types.specs.Answer.{refusal}
+use Rattle.base.specs.Pick.{pick}
+use Rattle.base.specs.Span.{over}
+use Rattle.base.specs.Answer.{refusal}
 use Rattle.types.specs.MemoryType.{buildMemory, minimumBytes}
-use Rattle.types.specs.Grant.{grantCreation}
-use Rattle.types.specs.declared.answer.Refusal.{Refusal}
-use Rattle.types.specs.declared.limiter.Limiter.{Limiter}
-use Rattle.types.specs.declared.limiter.Permit.{Permit}
-use Rattle.types.specs.declared.limiter.Permit.the-variants.{Granted, Denied}
+use Rattle.base.specs.Grant.{grantCreation}
+use Rattle.base.specs.declared.answer.Refusal.{Refusal}
+use Rattle.base.specs.declared.limiter.Limiter.{Limiter}
+use Rattle.base.specs.declared.limiter.Permit.{Permit}
+use Rattle.base.specs.declared.limiter.Permit.the-variants.{Granted, Denied}
 use Rattle.types.specs.declared.limits.Limits.{Limits}
 use Rattle.types.specs.declared.memory_ty.MemoryType.{MemoryType}
 use Rattle.types.specs.declared.memory_ty.BuiltMemory.{BuiltMemory}
@@ -20,7 +20,6 @@ use Rattle.types.specs.declared.memory_ty.BuiltMemory.the-variants as built
 use Rattle.types.specs.declared.memory_ty.ByteSize.{ByteSize}
 use Rattle.types.specs.declared.memory_ty.ByteSize.the-variants.{Bytes, Overflow}
 use Rattle.memory.specs.declared.memory.Memory.{Memory}
-use Rattle.memory.specs.declared.new.MadeMemory.{MadeMemory}
 use Rattle.memory.specs.declared.new.MadeMemory.the-variants.{Made, Refused}
 use Rattle.memory.specs.declared.new.CreatedMemory.{CreatedMemory}
 

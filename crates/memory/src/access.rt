@@ -1,15 +1,15 @@
 // Little-endian loads and stores: one routine over a byte count each, and the typed ones above them.
 use super::buffer;
-use types::answer::Answer;
-use types::answer::Refusal;
-use types::answer::Value;
+use base::answer::Answer;
+use base::answer::Refusal;
+use base::answer::Value;
 ghost use mathlib.Core.Path.{_≡_};
 ghost use Prim.Native.Nat.{_+_, _*_, _^_, _≤_, _<_};
 ghost use mir.Syntax.{w64};
 ghost use mir.Val.{toZ};
 ghost use lib.ListN.{length};
-ghost use Rattle.types.specs.Span.{over, cut};
-ghost use Rattle.memory.specs.LittleEndian.{leBytes, leValue};
+ghost use Rattle.base.specs.Span.{over};
+ghost use Rattle.memory.specs.LittleEndian.{leBytes};
 ghost use Rattle.memory.specs.Facts.{Read, Reach, SignsBy, signedOf, Found};
 ghost use Rattle.memory.specs.Access.{addressOf, widthBytes, loadWidth, extend, loadedOf, loadFound, loadAt, load, storeWidth, done, storeFound, storeAt, store};
 
@@ -117,7 +117,7 @@ pub fn locate(size: u64, ptr: u64, offset: u64, n: u64) -> Address
     if 18446744073709551615 - ptr < offset {
         return Address::Outside;
     }
-    if types::span::within(ptr + offset, n, size) {
+    if base::span::within(ptr + offset, n, size) {
         return Address::At(ptr + offset);
     }
     Address::Outside
@@ -307,146 +307,4 @@ pub fn store(bytes: &mut [u8], kind: StoreKind, ptr: u64, offset: u64, bits: u64
 {
     let size = bytes.len() as u64;
     store_at(bytes, 0, size, kind, ptr, offset, bits)
-}
-
-// The fourteen typed loads.
-
-pub fn load_i32(bytes: &[u8], ptr: u64, offset: u64) -> Answer
-    ensures { λ r. ⌜ r ≡ load LoadKind.I32 (now (bytes .entry)) ptr offset ⌝ }
-{
-    load(bytes, LoadKind::I32, ptr, offset)
-}
-
-pub fn load_i64(bytes: &[u8], ptr: u64, offset: u64) -> Answer
-    ensures { λ r. ⌜ r ≡ load LoadKind.I64 (now (bytes .entry)) ptr offset ⌝ }
-{
-    load(bytes, LoadKind::I64, ptr, offset)
-}
-
-pub fn load_f32(bytes: &[u8], ptr: u64, offset: u64) -> Answer
-    ensures { λ r. ⌜ r ≡ load LoadKind.F32 (now (bytes .entry)) ptr offset ⌝ }
-{
-    load(bytes, LoadKind::F32, ptr, offset)
-}
-
-pub fn load_f64(bytes: &[u8], ptr: u64, offset: u64) -> Answer
-    ensures { λ r. ⌜ r ≡ load LoadKind.F64 (now (bytes .entry)) ptr offset ⌝ }
-{
-    load(bytes, LoadKind::F64, ptr, offset)
-}
-
-pub fn load_i32_8s(bytes: &[u8], ptr: u64, offset: u64) -> Answer
-    ensures { λ r. ⌜ r ≡ load LoadKind.I32From8S (now (bytes .entry)) ptr offset ⌝ }
-{
-    load(bytes, LoadKind::I32From8S, ptr, offset)
-}
-
-pub fn load_i32_8u(bytes: &[u8], ptr: u64, offset: u64) -> Answer
-    ensures { λ r. ⌜ r ≡ load LoadKind.I32From8U (now (bytes .entry)) ptr offset ⌝ }
-{
-    load(bytes, LoadKind::I32From8U, ptr, offset)
-}
-
-pub fn load_i32_16s(bytes: &[u8], ptr: u64, offset: u64) -> Answer
-    ensures { λ r. ⌜ r ≡ load LoadKind.I32From16S (now (bytes .entry)) ptr offset ⌝ }
-{
-    load(bytes, LoadKind::I32From16S, ptr, offset)
-}
-
-pub fn load_i32_16u(bytes: &[u8], ptr: u64, offset: u64) -> Answer
-    ensures { λ r. ⌜ r ≡ load LoadKind.I32From16U (now (bytes .entry)) ptr offset ⌝ }
-{
-    load(bytes, LoadKind::I32From16U, ptr, offset)
-}
-
-pub fn load_i64_8s(bytes: &[u8], ptr: u64, offset: u64) -> Answer
-    ensures { λ r. ⌜ r ≡ load LoadKind.I64From8S (now (bytes .entry)) ptr offset ⌝ }
-{
-    load(bytes, LoadKind::I64From8S, ptr, offset)
-}
-
-pub fn load_i64_8u(bytes: &[u8], ptr: u64, offset: u64) -> Answer
-    ensures { λ r. ⌜ r ≡ load LoadKind.I64From8U (now (bytes .entry)) ptr offset ⌝ }
-{
-    load(bytes, LoadKind::I64From8U, ptr, offset)
-}
-
-pub fn load_i64_16s(bytes: &[u8], ptr: u64, offset: u64) -> Answer
-    ensures { λ r. ⌜ r ≡ load LoadKind.I64From16S (now (bytes .entry)) ptr offset ⌝ }
-{
-    load(bytes, LoadKind::I64From16S, ptr, offset)
-}
-
-pub fn load_i64_16u(bytes: &[u8], ptr: u64, offset: u64) -> Answer
-    ensures { λ r. ⌜ r ≡ load LoadKind.I64From16U (now (bytes .entry)) ptr offset ⌝ }
-{
-    load(bytes, LoadKind::I64From16U, ptr, offset)
-}
-
-pub fn load_i64_32s(bytes: &[u8], ptr: u64, offset: u64) -> Answer
-    ensures { λ r. ⌜ r ≡ load LoadKind.I64From32S (now (bytes .entry)) ptr offset ⌝ }
-{
-    load(bytes, LoadKind::I64From32S, ptr, offset)
-}
-
-pub fn load_i64_32u(bytes: &[u8], ptr: u64, offset: u64) -> Answer
-    ensures { λ r. ⌜ r ≡ load LoadKind.I64From32U (now (bytes .entry)) ptr offset ⌝ }
-{
-    load(bytes, LoadKind::I64From32U, ptr, offset)
-}
-
-// The nine typed stores: the bits of the value, float or not.
-
-pub fn store_i32(bytes: &mut [u8], ptr: u64, offset: u64, bits: u32) -> Answer
-    ensures { λ r. ⌜ done r (now (bytes .exit)) ≡ store StoreKind.I32 (now (bytes .entry)) ptr offset bits ⌝ }
-{
-    store(bytes, StoreKind::I32, ptr, offset, bits as u64)
-}
-
-pub fn store_i64(bytes: &mut [u8], ptr: u64, offset: u64, bits: u64) -> Answer
-    ensures { λ r. ⌜ done r (now (bytes .exit)) ≡ store StoreKind.I64 (now (bytes .entry)) ptr offset bits ⌝ }
-{
-    store(bytes, StoreKind::I64, ptr, offset, bits)
-}
-
-pub fn store_f32(bytes: &mut [u8], ptr: u64, offset: u64, bits: u32) -> Answer
-    ensures { λ r. ⌜ done r (now (bytes .exit)) ≡ store StoreKind.F32 (now (bytes .entry)) ptr offset bits ⌝ }
-{
-    store(bytes, StoreKind::F32, ptr, offset, bits as u64)
-}
-
-pub fn store_f64(bytes: &mut [u8], ptr: u64, offset: u64, bits: u64) -> Answer
-    ensures { λ r. ⌜ done r (now (bytes .exit)) ≡ store StoreKind.F64 (now (bytes .entry)) ptr offset bits ⌝ }
-{
-    store(bytes, StoreKind::F64, ptr, offset, bits)
-}
-
-pub fn store_i32_8(bytes: &mut [u8], ptr: u64, offset: u64, bits: u32) -> Answer
-    ensures { λ r. ⌜ done r (now (bytes .exit)) ≡ store StoreKind.I32To8 (now (bytes .entry)) ptr offset bits ⌝ }
-{
-    store(bytes, StoreKind::I32To8, ptr, offset, bits as u64)
-}
-
-pub fn store_i32_16(bytes: &mut [u8], ptr: u64, offset: u64, bits: u32) -> Answer
-    ensures { λ r. ⌜ done r (now (bytes .exit)) ≡ store StoreKind.I32To16 (now (bytes .entry)) ptr offset bits ⌝ }
-{
-    store(bytes, StoreKind::I32To16, ptr, offset, bits as u64)
-}
-
-pub fn store_i64_8(bytes: &mut [u8], ptr: u64, offset: u64, bits: u64) -> Answer
-    ensures { λ r. ⌜ done r (now (bytes .exit)) ≡ store StoreKind.I64To8 (now (bytes .entry)) ptr offset bits ⌝ }
-{
-    store(bytes, StoreKind::I64To8, ptr, offset, bits)
-}
-
-pub fn store_i64_16(bytes: &mut [u8], ptr: u64, offset: u64, bits: u64) -> Answer
-    ensures { λ r. ⌜ done r (now (bytes .exit)) ≡ store StoreKind.I64To16 (now (bytes .entry)) ptr offset bits ⌝ }
-{
-    store(bytes, StoreKind::I64To16, ptr, offset, bits)
-}
-
-pub fn store_i64_32(bytes: &mut [u8], ptr: u64, offset: u64, bits: u64) -> Answer
-    ensures { λ r. ⌜ done r (now (bytes .exit)) ≡ store StoreKind.I64To32 (now (bytes .entry)) ptr offset bits ⌝ }
-{
-    store(bytes, StoreKind::I64To32, ptr, offset, bits)
 }

@@ -1,8 +1,8 @@
 // The small routines that write a lent part of the byte buffer.
 ghost use mathlib.Core.Path.{_≡_};
-ghost use Prim.Native.Nat.{_+_, _≤_, _^_, _<_};
+ghost use Prim.Native.Nat.{_+_, _≤_};
 ghost use lib.ListN.{length, replicate};
-ghost use Rattle.types.specs.Span.{over, cut};
+ghost use Rattle.base.specs.Span.{over, cut};
 ghost use Rattle.memory.specs.LittleEndian.{leBytes};
 
 // Every byte of the part becomes `v`.
@@ -65,7 +65,7 @@ fn put_some(part: &mut [u8], source: &[u8])
 }
 
 // The part becomes the bytes of a source of the same length, however long.
-pub(crate) fn put_all(part: &mut [u8], source: &[u8])
+fn put_all(part: &mut [u8], source: &[u8])
     requires { ⌜ length (now part) ≡ length (now source) ⌝ }
     ensures { λ _. ⌜ now (part .exit) ≡ now (source .entry) ⌝ }
 {
@@ -77,4 +77,22 @@ pub(crate) fn put_all(part: &mut [u8], source: &[u8])
         i = e;
     }
     put_some(&mut part[i..n], &source[i..n]);
+}
+
+// The part becomes the bytes from a place on.
+pub(crate) fn get_part(part: &mut [u8], bytes: &[u8], at: usize)
+    requires { ⌜ at + length (now part) ≤ length (now bytes) ⌝ }
+    ensures { λ _. ⌜ now (part .exit) ≡ cut (now (bytes .entry)) at (length (now (part .entry))) ⌝ }
+{
+    let n = part.len();
+    put_all(part, &bytes[at..at + n]);
+}
+
+// The bytes from a place on become those of a source.
+pub(crate) fn put_part(bytes: &mut [u8], at: usize, source: &[u8])
+    requires { ⌜ at + length (now source) ≤ length (now bytes) ⌝ }
+    ensures { λ _. ⌜ now (bytes .exit) ≡ over (now (bytes .entry)) at (now (source .entry)) ⌝ }
+{
+    let n = source.len();
+    put_all(&mut bytes[at..at + n], source);
 }

@@ -1,22 +1,23 @@
 // Growing a memory, in the order of checks of document 01.
+use super::memory;
 use super::memory::Memory;
 use super::new;
-use types::answer::Answer;
-use types::answer::Refusal;
-use types::answer::Value;
-use types::fuel::Fuel;
-use types::grant::Growth;
-use types::limiter::Limiter;
-use types::limiter::Permit;
+use base::answer::Answer;
+use base::answer::Refusal;
+use base::answer::Value;
+use base::fuel::Fuel;
+use base::grant::Growth;
+use base::limiter::Limiter;
+use base::limiter::Permit;
 use types::memory_ty::ByteSize;
 use types::memory_ty::MemoryType;
 ghost use mathlib.Core.Path.{_≡_};
 ghost use mathlib.Core.Bool.{true};
 ghost use Prim.Native.Nat.{_+_, _≤_};
 ghost use lib.ListN.{length};
-ghost use Rattle.types.specs.declared.limiter.Permit.the-variants.{Granted};
-ghost use Rattle.types.specs.Answer.{refuse, accept};
-ghost use Rattle.memory.specs.Memory.{pagesOf, resized, soundMemory};
+ghost use Rattle.base.specs.declared.limiter.Permit.the-variants.{Granted};
+ghost use Rattle.base.specs.Answer.{refuse, accept};
+ghost use Rattle.memory.specs.Memory.{pagesOf, soundMemory};
 ghost use Rattle.memory.specs.Facts.{Roomy, Held, Reaches};
 ghost use Rattle.memory.specs.Grow.{done, answered, mayHave, reachPages, reachOf, enlargedBy, grantOf, growTo, byReach, growSound, growMemory};
 
@@ -54,11 +55,7 @@ fn may_have(ty: MemoryType, pages: u64) -> bool
     ensures { λ r. ⌜ r ≡ mayHave ty pages ⌝ }
 {
     let page = ty.page;
-    let limits = ty.limits;
-    if !ty.absolute_max().covers(pages) {
-        return false;
-    }
-    if !limits.admits(pages) {
+    if !memory::admits_pages(ty, pages) {
         return false;
     }
     pages <= 18446744073709551615 / page.page_size()
@@ -68,11 +65,12 @@ fn may_have(ty: MemoryType, pages: u64) -> bool
 fn reach(memory: Memory, additional: u64) -> ByteSize
     ensures { λ r. ⌜ r ≡ reachOf memory additional ⌝ }
 {
+    let ty = memory.ty;
     let pages = memory.pages();
     if 18446744073709551615 - pages < additional {
         return ByteSize::Overflow;
     }
-    reach_pages(memory.ty, pages + additional)
+    reach_pages(ty, pages + additional)
 }
 
 fn reach_pages(ty: MemoryType, pages: u64) -> ByteSize
@@ -127,7 +125,7 @@ fn grant(memory: Memory, size: u64, fuel: Fuel, limiter: Limiter) -> Growth
     let costs = fuel.costs;
     let price = costs.fuel_for_copying_bytes(size - memory.size);
     let fits = size <= memory.room;
-    types::grant::grant_growth(limiter, fuel, true, price, fits)
+    base::grant::grant_growth(limiter, fuel, true, price, fits)
 }
 
 fn grow_to(memory: Memory, bytes: &mut [u8], size: u64, fuel: Fuel, limiter: Limiter) -> GrownMemory

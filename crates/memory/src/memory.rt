@@ -3,18 +3,21 @@ use super::access;
 use super::access::LoadKind;
 use super::access::StoreKind;
 use super::buffer;
-use types::answer::Answer;
-use types::answer::Refusal;
-use types::answer::Value;
+use base::answer::Answer;
+use base::answer::Refusal;
+use base::answer::Value;
 use types::memory_ty::MemoryType;
 ghost use mathlib.Core.Path.{_≡_};
 ghost use Prim.Native.Nat.{_+_, _≤_};
 ghost use lib.ListN.{length};
-ghost use Rattle.types.specs.Answer.{refuse};
-ghost use Rattle.types.specs.Span.{over, cut};
+ghost use lib.Dec.{leb};
+ghost use Rattle.base.specs.Pick.{both};
+ghost use Rattle.types.specs.Limits.{admitsOf};
+ghost use Rattle.types.specs.MemoryType.{pageBound};
+ghost use Rattle.base.specs.Answer.{refuse};
 ghost use Rattle.memory.specs.Access.{done};
 ghost use Rattle.memory.specs.Memory.{pagesOf, soundRoom, soundSize, soundMemory, loadMemory, storeMemory};
-ghost use Rattle.memory.specs.Host.{readMemory, writeMemory};
+ghost use Rattle.memory.specs.Host.{readUsed, readMemory, writeUsed, writeMemory};
 
 // `size` bytes in use of a room of `room` bytes, which starts at `start` in the buffer.
 pub struct Memory {
@@ -30,12 +33,25 @@ pub(crate) fn refused(number: u8) -> Answer
     Answer::Refusal(Refusal { number, amount: 0 })
 }
 
+// Whether so many pages are within the page bound and the maximum.
+pub(crate) fn admits_pages(ty: MemoryType, pages: u64) -> bool
+    ensures { λ r. ⌜ r ≡ both (leb pages (pageBound ty)) (admitsOf (ty .limits) pages) ⌝ }
+{
+    let limits = ty.limits;
+    let most = ty.absolute_max();
+    if most.covers(pages) {
+        return limits.admits(pages);
+    }
+    false
+}
+
 impl Memory {
     // The size in pages.
     pub fn pages(self) -> u64
         ensures { λ r. ⌜ r ≡ pagesOf self ⌝ }
     {
-        let page = self.ty.page;
+        let ty = self.ty;
+        let page = ty.page;
         self.size / page.page_size()
     }
 
@@ -67,10 +83,7 @@ impl Memory {
         if pages < limits.minimum {
             return false;
         }
-        if !ty.absolute_max().covers(pages) {
-            return false;
-        }
-        limits.admits(pages)
+        admits_pages(ty, pages)
     }
 
     // Whether the record is sound over a buffer of `len` bytes.
@@ -116,21 +129,39 @@ impl Memory {
         refused(19)
     }
 
+    // A host read of bytes in use: 9 outside.
+    fn read_used(self, bytes: &[u8], offset: u64, to: &mut [u8]) -> Answer
+        requires { ⌜ self .start + self .size ≤ length (now bytes) ⌝ }
+        ensures { λ r. ⌜ done r (now (to .exit)) ≡ readUsed self (now (bytes .entry)) offset (now (to .entry)) ⌝ }
+    {
+        if base::span::within(offset, to.len() as u64, self.size) {
+            buffer::get_part(to, bytes, self.start + (offset as usize));
+            return Answer::Value(Value::Number(0));
+        }
+        refused(9)
+    }
+
     // A host read into the caller's buffer, which a refusal leaves.
     pub fn read(self, bytes: &[u8], offset: u64, to: &mut [u8]) -> Answer
         ensures { λ r. ⌜ done r (now (to .exit)) ≡ readMemory self (now (bytes .entry)) offset (now (to .entry)) ⌝ }
     {
         let len = bytes.len();
-        if !self.is_sound(len) {
-            return refused(19);
+        if self.is_sound(len) {
+            return self.read_used(bytes, offset, to);
         }
-        if !types::span::within(offset, to.len() as u64, self.size) {
-            return refused(9);
+        refused(19)
+    }
+
+    // A host write to bytes in use: 9 outside.
+    fn write_used(self, bytes: &mut [u8], offset: u64, from: &[u8]) -> Answer
+        requires { ⌜ self .start + self .size ≤ length (now bytes) ⌝ }
+        ensures { λ r. ⌜ done r (now (bytes .exit)) ≡ writeUsed self (now (bytes .entry)) offset (now (from .entry)) ⌝ }
+    {
+        if base::span::within(offset, from.len() as u64, self.size) {
+            buffer::put_part(bytes, self.start + (offset as usize), from);
+            return Answer::Value(Value::Number(0));
         }
-        let a = self.start + (offset as usize);
-        let e = a + to.len();
-        buffer::put_all(to, &bytes[a..e]);
-        Answer::Value(Value::Number(0))
+        refused(9)
     }
 
     // A host write from the caller's buffer.
@@ -138,15 +169,9 @@ impl Memory {
         ensures { λ r. ⌜ done r (now (bytes .exit)) ≡ writeMemory self (now (bytes .entry)) offset (now (from .entry)) ⌝ }
     {
         let len = bytes.len();
-        if !self.is_sound(len) {
-            return refused(19);
+        if self.is_sound(len) {
+            return self.write_used(bytes, offset, from);
         }
-        if !types::span::within(offset, from.len() as u64, self.size) {
-            return refused(9);
-        }
-        let a = self.start + (offset as usize);
-        let e = a + from.len();
-        buffer::put_all(&mut bytes[a..e], from);
-        Answer::Value(Value::Number(0))
+        refused(19)
     }
 }

@@ -1,3 +1,4 @@
 pub mod Unique
 pub mod Halves
 pub mod Sizes
+pub mod Built

@@ -1,5 +1,5 @@
--- Uniqueness: each public function's contract names one outcome for each input. Assumes nothing.
-use mathlib.Core.Path.{_≡_, sym, _∙_, ap}
+-- Uniqueness: each public function's contract names one answer, and one content of what it is lent to write, for each input. Assumes nothing.
+use mathlib.Core.Path.{sym, _∙_}
 use Rattle.base.proofs.One.{One}
 use Rattle.types.proofs.index_ty.IndexType.of.Reads as index-type-of-reads
 use Rattle.types.proofs.index_ty.IndexType.of.Kinds as index-type-of-kinds

@@ -1,0 +1,10 @@
+pub mod Bytes
+pub mod Patterns
+pub mod Values
+pub mod Accesses
+pub mod Sounds
+pub mod Growths
+pub mod Copies
+pub mod Stages
+pub mod Frames
+pub mod Unique

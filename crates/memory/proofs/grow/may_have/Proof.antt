@@ -1,0 +1,28 @@
+-- `memory::grow::may_have` meets its contract. Assumes nothing.
+use Rattle.memory.proofs.Growths.{may-by, may-not}
+use Rattle.base.proofs.Picks.{known-test}
+use Rattle.types.proofs.Sizes.{page-pos}
+use borrow.Author.Needs.{needs}
+use borrow.Author.Tests.{not-false, not-true}
+use native.Mathlib.Omega.{arith}
+use Rattle.memory.proofs.grow.may_have.Statement.{statement}
+use Rattle.memory.proofs.grow.may_have.Tie as tie
+
+admits-pages-requires : tie.Need-admits-pages-requires
+admits-pages-requires c κs = search needs
+
+returns : tie.Need-returns
+returns c = search (may-not, known-test, not-true)
+
+page-size-requires : tie.Need-page-size-requires
+page-size-requires c κs = search needs
+
+div-result : tie.Need-div-result
+div-result c = omega (arith, page-pos (c .before .before .before .args .ty .page), c .page-size .ensures)
+
+returns-2 : tie.Need-returns-2
+returns-2 c = search (may-by, known-test, not-false)
+
+pub may-have-spec : {M : Type 1} → statement M
+may-have-spec =
+    tie.close (tie.spec admits-pages-requires returns page-size-requires div-result returns-2)

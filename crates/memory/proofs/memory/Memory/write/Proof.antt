@@ -1,0 +1,33 @@
+-- `memory::memory::Memory::write` meets its contract. Assumes nothing.
+use Rattle.memory.proofs.Sounds.{sound-used}
+use Rattle.memory.proofs.Stages.{stage}
+use Rattle.memory.specs.Host.{writeMemory}
+use Rattle.base.proofs.Picks.{known-test}
+use borrow.Author.Needs.{needs}
+use Rattle.memory.proofs.memory.Memory.write.Statement.{statement}
+use Rattle.memory.proofs.memory.Memory.write.Tie as tie
+
+is-sound-requires : tie.Need-is-sound-requires
+is-sound-requires c κs = search needs
+
+write-used-requires : tie.Need-write-used-requires
+write-used-requires c κs = sound-used _ _ (known-test (c .before .before .is-sound .ensures) (c .before .if1 .taken))
+
+same-length : tie.Need-same-length
+same-length c = search needs
+
+returns : tie.Need-returns
+unfolding writeMemory
+returns c = search stage
+
+refused-requires : tie.Need-refused-requires
+refused-requires c κs = search needs
+
+returns-2 : tie.Need-returns-2
+unfolding writeMemory
+returns-2 c = search stage
+
+pub write-spec : {M : Type 1} → statement M
+write-spec =
+    tie.close
+    (tie.spec is-sound-requires write-used-requires same-length returns refused-requires returns-2)

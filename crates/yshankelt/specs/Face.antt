@@ -1,0 +1,23 @@
+-- Document 01, "Access" and "Numbers given back": what C gets of an answer. The number is the result; a refusal leaves the out parameter alone.
+use Prim.Native.Nat.{ℕ}
+use mathlib.Core.Path.{_≡_}
+use mathlib.Core.List.{List}
+use Rattle.base.specs.Answer.{bitsOf, numberOf}
+use Rattle.base.specs.declared.answer.Answer.{Answer}
+use Rattle.base.specs.declared.answer.Answer.the-variants as answer
+use Rattle.memory.specs.Access.{Stored}
+
+-- the value's bits, or what stood there
+unfoldable pub delivered : Answer → ℕ → ℕ
+delivered (answer.Value v) old = bitsOf v
+delivered (answer.Refusal r) old = old
+
+-- of a load: the number, and the out parameter after it
+pub record Given (a : Answer) (old result new : ℕ) : Type 0 where
+  pub number : result ≡ numberOf a
+  pub out : new ≡ delivered a old
+
+-- of a store: the number, and the bytes after it
+pub record Taken (s : Stored) (result : ℕ) (new : List ℕ) : Type 0 where
+  pub number : result ≡ numberOf (s .answer)
+  pub bytes : new ≡ s .cells
