@@ -9,7 +9,7 @@ use Rattle.base.specs.Pick.{pick, both}
 use Rattle.base.specs.Answer.{refusal}
 use Rattle.base.specs.Fuel.{left, consumeIf, consumeUnchecked}
 use Rattle.base.specs.Limiter.{saysOf, permitOf, ask, heardOf, notify}
-use Rattle.base.specs.Grant.{told, creationRoom, creationPermit, grantCreation, growthRoom, growthPaid, growthFuel, growthPermit, grantGrowth, SpanDone, spanDone}
+use Rattle.base.specs.Grant.{told, creationRoom, creationPermit, grantCreation, growthRoom, growthPaid, growthFuel, growthPermit, grantGrowth, grantSpan, SpanDone, spanDone}
 use Rattle.base.specs.declared.answer.Refusal.{Refusal}
 use Rattle.base.specs.declared.fuel.Fuel.{Fuel}
 use Rattle.base.specs.declared.fuel.FuelStep.{FuelStep}
@@ -72,6 +72,10 @@ pub creation-fair : (l : Limiter) (fits : Bool) → Fair (grantCreation l fits .
 unfolding grantCreation
 creation-fair l fits = creation-permit (ask l 3 .permit) (ask l 3 .limiter) fits (λ r. ask-some l 3 r (omega arith))
 
+-- a creation that is granted has its room
+pub granted-creation : (l : Limiter) (fits : Bool) → grantCreation l fits .permit ≡ Granted → fits ≡ true
+granted-creation l fits e = creation-fair l fits .0 e
+
 -- a growth
 growth-room : (l : Limiter) (f : Fuel) (fits : Bool) → Fair (growthRoom l f fits .permit) fits
 unfolding growthRoom pick
@@ -112,11 +116,17 @@ growth-fair l f admits p fits =
     growth-permit (ask l 6 .permit) (ask l 6 .limiter) f admits p fits (λ r. ask-some l 6 r (omega arith))
 
 -- a granted growth was admitted, and fits
-pub growth-fits : (l : Limiter) (f : Fuel) (admits : Bool) (p : ℕ) (fits : Bool) → grantGrowth l f admits p fits .permit ≡ Granted → fits ≡ true
-growth-fits l f admits p fits e = both-2 _ _ (growth-fair l f admits p fits .0 e)
+pub granted-growth : (l : Limiter) (f : Fuel) (admits : Bool) (p : ℕ) (fits : Bool) → grantGrowth l f admits p fits .permit ≡ Granted → fits ≡ true
+granted-growth l f admits p fits e = both-2 _ _ (growth-fair l f admits p fits .0 e)
 
-pub growth-admits : (l : Limiter) (f : Fuel) (admits : Bool) (p : ℕ) (fits : Bool) → grantGrowth l f admits p fits .permit ≡ Granted → admits ≡ true
-growth-admits l f admits p fits e = both-1 _ _ (growth-fair l f admits p fits .0 e)
+pub granted-admits : (l : Limiter) (f : Fuel) (admits : Bool) (p : ℕ) (fits : Bool) → grantGrowth l f admits p fits .permit ≡ Granted → admits ≡ true
+granted-admits l f admits p fits e = both-1 _ _ (growth-fair l f admits p fits .0 e)
+
+-- a span operation that goes on is within its bounds
+pub granted-span : (f : Fuel) (inBounds : Bool) (number price : ℕ) (g : Fuel) → grantSpan f inBounds number price ≡ Done g → inBounds ≡ true
+unfolding grantSpan pick
+granted-span f true number price g e = refl
+granted-span f false number price g e = let z : _≡_ {A = ℕ} 0 1 = cc in absurd (omega arith)
 
 -- one outcome of a span operation, taken apart
 pub spans : {r s : Spanned} {cs ds : List ℕ} → spanDone (r .answer) (r .fuel) cs ≡ spanDone (s .answer) (s .fuel) ds → (r ≡ s) × (cs ≡ ds)

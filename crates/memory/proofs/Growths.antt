@@ -21,7 +21,7 @@ use Rattle.types.specs.declared.memory_ty.ByteSize.the-variants.{Bytes, Overflo
 use Rattle.base.proofs.Picks.{pick-true, pick-false, both-2, both-left, both-right, both-then}
 use Rattle.base.proofs.Prices.{too-large, product-fits}
 use Rattle.types.proofs.Sizes.{page-pos}
-use Rattle.base.proofs.Grants.{creation-fair, growth-fits}
+use Rattle.base.proofs.Grants.{creation-fair, granted-growth}
 use Rattle.memory.specs.Memory.{pagesOf, soundMemory}
 use Rattle.memory.specs.Grow.{mayHave, reachPages, reachOf, grantOf}
 use Rattle.memory.specs.Facts.{Held, Roomy}
@@ -114,5 +114,5 @@ created-room l start room size len a e h q =
 pub granted-room : (m : Memory) (size len : ℕ) (f : Fuel) (l : Limiter) (g : Growth) → g ≡ grantOf m size f l → Held m size len → g .permit ≡ Granted → Roomy m size len
 unfolding grantOf
 granted-room m size len f l g e h q =
-    let k : size ≤ m .room = leb-true _ _ (growth-fits l f true _ (leb size (m .room)) (ap (λ (x : Growth). x .permit) (sym e) ∙ q)) in
+    let k : size ≤ m .room = leb-true _ _ (granted-growth l f true _ (leb size (m .room)) (ap (λ (x : Growth). x .permit) (sym e) ∙ q)) in
     record { more = h .more; room = omega (arith, h .inside) }

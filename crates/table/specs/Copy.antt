@@ -4,13 +4,13 @@ use mathlib.Core.Bool.{Bool, true}
 use mathlib.Core.List.{List}
 use lib.Dec.{leb}
 use lib.ListN.{length}
-use Rattle.types.specs.Pick.{pick, both}
-use Rattle.types.specs.Span.{inside, cut, over}
-use Rattle.types.specs.Answer.{refuse}
+use Rattle.base.specs.Pick.{pick, both}
+use Rattle.base.specs.Span.{inside, cut, over}
+use Rattle.base.specs.Answer.{refuse}
 use Rattle.types.specs.TableType.{elementMatches}
-use Rattle.types.specs.Price.{price}
-use Rattle.types.specs.Grant.{grantSpan, SpanDone, spanDone, spanned}
-use Rattle.types.specs.declared.fuel.Fuel.{Fuel}
+use Rattle.base.specs.Price.{price}
+use Rattle.base.specs.Grant.{grantSpan, SpanDone, spanDone, spanned}
+use Rattle.base.specs.declared.fuel.Fuel.{Fuel}
 use Rattle.table.specs.Table.{soundTable}
 use Rattle.table.specs.declared.table.Table.{Table}
 

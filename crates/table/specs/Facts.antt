@@ -1,9 +1,9 @@
 -- What the inner functions of this crate ask of each other, as records of plain facts; no public function asks any.
 use Prim.Native.Nat.{ℕ, _+_, _≤_}
 use mathlib.Core.Path.{_≡_}
-use Rattle.types.specs.declared.fuel.Fuel.{Fuel}
-use Rattle.types.specs.declared.fuel.FuelStep.{FuelStep}
-use Rattle.types.specs.declared.fuel.FuelStep.the-variants.{Done}
+use Rattle.base.specs.declared.fuel.Fuel.{Fuel}
+use Rattle.base.specs.declared.fuel.FuelStep.{FuelStep}
+use Rattle.base.specs.declared.fuel.FuelStep.the-variants.{Done}
 use Rattle.table.specs.declared.table.Table.{Table}
 use Rattle.table.specs.declared.element.ElementSegment.{ElementSegment}
 
@@ -11,6 +11,10 @@ use Rattle.table.specs.declared.element.ElementSegment.{ElementSegment}
 pub record Roomy (t : Table) (size len : ℕ) : Type 0 where
   pub more : t .size ≤ size
   pub room : t .start + size ≤ len
+
+-- the room lies in the buffer
+abbrev pub Roomed : Table → ℕ → Type 0
+Roomed t len = t .start + t .room ≤ len
 
 -- the size in use lies in the buffer
 abbrev pub Within : Table → ℕ → Type 0

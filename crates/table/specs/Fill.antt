@@ -2,13 +2,13 @@
 use Prim.Native.Nat.{ℕ, _+_, _*_}
 use mathlib.Core.List.{List}
 use lib.ListN.{length, replicate}
-use Rattle.types.specs.Pick.{pick}
-use Rattle.types.specs.Span.{inside, over}
-use Rattle.types.specs.Answer.{refuse}
+use Rattle.base.specs.Pick.{pick}
+use Rattle.base.specs.Span.{inside, over}
+use Rattle.base.specs.Answer.{refuse}
 use Rattle.types.specs.TableType.{elementMatches}
-use Rattle.types.specs.Price.{price}
-use Rattle.types.specs.Grant.{grantSpan, SpanDone, spanDone, spanned}
-use Rattle.types.specs.declared.fuel.Fuel.{Fuel}
+use Rattle.base.specs.Price.{price}
+use Rattle.base.specs.Grant.{grantSpan, SpanDone, spanDone, spanned}
+use Rattle.base.specs.declared.fuel.Fuel.{Fuel}
 use Rattle.types.specs.declared.raw.TypedRawRef.{TypedRawRef}
 use Rattle.table.specs.Table.{soundTable}
 use Rattle.table.specs.declared.table.Table.{Table}

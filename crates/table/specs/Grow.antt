@@ -3,21 +3,21 @@ use Prim.Native.Nat.{ℕ, _+_, _-_, _*_}
 use mathlib.Core.List.{List}
 use lib.Dec.{eqb, leb, ltb}
 use lib.ListN.{length, replicate}
-use Rattle.types.specs.Pick.{pick}
-use Rattle.types.specs.Span.{over}
-use Rattle.types.specs.Answer.{refuse, accept}
+use Rattle.base.specs.Pick.{pick}
+use Rattle.base.specs.Span.{over}
+use Rattle.base.specs.Answer.{refuse, accept}
 use Rattle.types.specs.IndexType.{maxSize}
 use Rattle.types.specs.Limits.{admitsOf}
 use Rattle.types.specs.TableType.{elementMatches}
-use Rattle.types.specs.Price.{price}
-use Rattle.types.specs.Grant.{grantGrowth}
-use Rattle.types.specs.declared.answer.Answer.{Answer}
-use Rattle.types.specs.declared.answer.Answer.the-variants as answer
-use Rattle.types.specs.declared.fuel.Fuel.{Fuel}
-use Rattle.types.specs.declared.grant.Growth.{Growth}
-use Rattle.types.specs.declared.limiter.Limiter.{Limiter}
-use Rattle.types.specs.declared.limiter.Permit.{Permit}
-use Rattle.types.specs.declared.limiter.Permit.the-variants.{Granted, Denied}
+use Rattle.base.specs.Price.{price}
+use Rattle.base.specs.Grant.{grantGrowth}
+use Rattle.base.specs.declared.answer.Answer.{Answer}
+use Rattle.base.specs.declared.answer.Answer.the-variants as answer
+use Rattle.base.specs.declared.fuel.Fuel.{Fuel}
+use Rattle.base.specs.declared.grant.Growth.{Growth}
+use Rattle.base.specs.declared.limiter.Limiter.{Limiter}
+use Rattle.base.specs.declared.limiter.Permit.{Permit}
+use Rattle.base.specs.declared.limiter.Permit.the-variants.{Granted, Denied}
 use Rattle.types.specs.declared.raw.TypedRawRef.{TypedRawRef}
 use Rattle.table.specs.Table.{resized, soundTable}
 use Rattle.table.specs.declared.table.Table.{Table}

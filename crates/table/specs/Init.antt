@@ -1,17 +1,16 @@
 -- Document 01, "First check wins", init: 14, 13, length 0 accepted without fuel, 7; WebAssembly Core Specification 3.0, Execution, Instructions, table.init, whose steps leave this span.
 use Prim.Native.Nat.{ℕ, _+_, _*_}
-use mathlib.Core.Bool.{Bool}
 use mathlib.Core.List.{List}
 use lib.Dec.{eqb}
 use lib.ListN.{length}
-use Rattle.types.specs.Pick.{pick, both}
-use Rattle.types.specs.Span.{inside, cut, over}
-use Rattle.types.specs.Answer.{refuse, accept}
-use Rattle.types.specs.Fuel.{consumeIf}
+use Rattle.base.specs.Pick.{pick, both}
+use Rattle.base.specs.Span.{inside, cut, over}
+use Rattle.base.specs.Answer.{refuse, accept}
+use Rattle.base.specs.Fuel.{consumeIf}
 use Rattle.types.specs.TableType.{elementMatches}
-use Rattle.types.specs.Price.{price}
-use Rattle.types.specs.Grant.{SpanDone, spanDone, spanned}
-use Rattle.types.specs.declared.fuel.Fuel.{Fuel}
+use Rattle.base.specs.Price.{price}
+use Rattle.base.specs.Grant.{SpanDone, spanDone, spanned}
+use Rattle.base.specs.declared.fuel.Fuel.{Fuel}
 use Rattle.table.specs.Table.{soundTable}
 use Rattle.table.specs.Element.{soundSegment}
 use Rattle.table.specs.declared.table.Table.{Table}

@@ -4,15 +4,15 @@ use mathlib.Core.Bool.{Bool}
 use mathlib.Core.List.{List}
 use lib.Dec.{leb}
 use lib.ListN.{length, replicate}
-use Rattle.types.specs.Pick.{pick}
-use Rattle.types.specs.Span.{over}
-use Rattle.types.specs.Answer.{refusal}
+use Rattle.base.specs.Pick.{pick}
+use Rattle.base.specs.Span.{over}
+use Rattle.base.specs.Answer.{refusal}
 use Rattle.types.specs.TableType.{buildTable, elementMatches}
-use Rattle.types.specs.Grant.{grantCreation}
-use Rattle.types.specs.declared.answer.Refusal.{Refusal}
-use Rattle.types.specs.declared.limiter.Limiter.{Limiter}
-use Rattle.types.specs.declared.limiter.Permit.{Permit}
-use Rattle.types.specs.declared.limiter.Permit.the-variants.{Granted, Denied}
+use Rattle.base.specs.Grant.{grantCreation}
+use Rattle.base.specs.declared.answer.Refusal.{Refusal}
+use Rattle.base.specs.declared.limiter.Limiter.{Limiter}
+use Rattle.base.specs.declared.limiter.Permit.{Permit}
+use Rattle.base.specs.declared.limiter.Permit.the-variants.{Granted, Denied}
 use Rattle.types.specs.declared.limits.Limits.{Limits}
 use Rattle.types.specs.declared.raw.RefType.{RefType}
 use Rattle.types.specs.declared.raw.TypedRawRef.{TypedRawRef}
@@ -21,7 +21,6 @@ use Rattle.types.specs.declared.table_ty.BuiltTable.{BuiltTable}
 use Rattle.types.specs.declared.table_ty.BuiltTable.the-variants as built
 use Rattle.table.specs.Table.{soundBuffer}
 use Rattle.table.specs.declared.table.Table.{Table}
-use Rattle.table.specs.declared.new.MadeTable.{MadeTable}
 use Rattle.table.specs.declared.new.MadeTable.the-variants.{Made, Refused}
 use Rattle.table.specs.declared.new.CreatedTable.{CreatedTable}
 

@@ -2,33 +2,20 @@
 use super::cells;
 use super::table;
 use super::table::Table;
-use types::answer::Answer;
-use types::answer::Value;
-use types::fuel::Fuel;
-use types::fuel::FuelStep;
-use types::grant::Spanned;
+use base::answer::Answer;
+use base::answer::Value;
+use base::fuel::Fuel;
+use base::fuel::FuelStep;
+use base::grant::Spanned;
 use types::raw::RawRef;
 ghost use mathlib.Core.Path.{_≡_};
-ghost use mathlib.Core.Bool.{true};
-ghost use Prim.Native.Nat.{_+_, _≤_};
+ghost use Prim.Native.Nat.{_+_};
 ghost use lib.ListN.{length};
-ghost use Rattle.types.specs.Pick.{both};
-ghost use Rattle.types.specs.Span.{inside, over, cut};
-ghost use Rattle.types.specs.Grant.{spanDone, spanned};
+ghost use Rattle.base.specs.Span.{over, cut};
+ghost use Rattle.base.specs.Grant.{spanDone, spanned};
 ghost use Rattle.types.specs.Raw.{rawBytes};
 ghost use Rattle.table.specs.Facts.{Goes, Within};
 ghost use Rattle.table.specs.Copy.{copySpan, roomsApart, soundTwo, copyKinds, copyTable, copyWithin};
-ghost use Rattle.table.specs.Table.{soundTable};
-
-// Whether both spans lie within their tables.
-fn in_bounds(to: Table, from: Table, i: u64, j: u64, n: u64) -> bool
-    ensures { λ r. ⌜ r ≡ both (inside i n (to .size)) (inside j n (from .size)) ⌝ }
-{
-    if types::span::within(i, n, to.size) {
-        return types::span::within(j, n, from.size);
-    }
-    false
-}
 
 // By what bounds and fuel say.
 fn copy_by(
@@ -74,9 +61,9 @@ fn copy_span(
     ensures { λ r. ⌜ spanDone (r .answer) (r .fuel) (now (cells .exit)) ≡ copySpan rawBytes to from (now (cells .entry)) i j n fuel ⌝ }
 {
     let costs = fuel.costs;
-    let ok = in_bounds(to, from, i, j, n);
+    let ok = table::both_within(i, to.size, j, from.size, n);
     let price = costs.fuel_for_copying_values(n, RawRef::size());
-    let step = types::grant::grant_span(fuel, ok, 12, price);
+    let step = base::grant::grant_span(fuel, ok, 12, price);
     copy_by(step, fuel, to, from, cells, i, j, n)
 }
 
@@ -84,10 +71,10 @@ fn copy_span(
 fn rooms_apart(to: Table, from: Table) -> bool
     ensures { λ r. ⌜ r ≡ roomsApart to from ⌝ }
 {
-    if types::span::within(to.start as u64, to.room, from.start as u64) {
+    if base::span::within(to.start as u64, to.room, from.start as u64) {
         return true;
     }
-    types::span::within(from.start as u64, from.room, to.start as u64)
+    base::span::within(from.start as u64, from.room, to.start as u64)
 }
 
 fn sound_two(to: Table, from: Table, len: usize) -> bool

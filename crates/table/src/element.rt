@@ -1,9 +1,9 @@
 // Element segments: a kind, and items at places of a lent buffer.
 use super::cells;
 use super::table;
-use types::answer::Answer;
-use types::answer::Refusal;
-use types::answer::Value;
+use base::answer::Answer;
+use base::answer::Refusal;
+use base::answer::Value;
 use types::raw::RefType;
 ghost use mathlib.Core.Path.{_≡_};
 ghost use Rattle.table.specs.Element.{soundSegment, dropped, itemOf, done, newSegment};
@@ -64,7 +64,8 @@ impl ElementSegment {
             return table::refused(9);
         }
         let at = self.start + (index as usize);
-        Answer::Value(Value::Number(items[at]))
+        let cell = items[at];
+        Answer::Value(Value::Number(cell))
     }
 
     // The segment becomes empty, again too.

@@ -1,24 +1,25 @@
 // Growing a table, in the order of checks of document 01: the limiter is asked before the maximum.
 use super::cells;
 use super::table::Table;
-use types::answer::Answer;
-use types::answer::Refusal;
-use types::answer::Value;
-use types::fuel::Fuel;
-use types::grant::Growth;
-use types::limiter::Limiter;
-use types::limiter::Permit;
+use base::answer::Answer;
+use base::answer::Refusal;
+use base::answer::Value;
+use base::fuel::Fuel;
+use base::grant::Growth;
+use base::limiter::Limiter;
+use base::limiter::Permit;
+use types::index_ty::IndexType;
 use types::raw::RawRef;
 use types::raw::TypedRawRef;
 ghost use mathlib.Core.Path.{_≡_};
-ghost use mathlib.Core.Bool.{true};
-ghost use Prim.Native.Nat.{_+_, _≤_};
+ghost use Prim.Native.Nat.{_≤_};
+ghost use lib.Dec.{ltb};
 ghost use lib.ListN.{length};
-ghost use Rattle.types.specs.declared.limiter.Permit.the-variants.{Granted};
-ghost use Rattle.types.specs.Answer.{refuse};
+ghost use Rattle.base.specs.declared.limiter.Permit.the-variants.{Granted};
+ghost use Rattle.base.specs.Answer.{refuse};
+ghost use Rattle.types.specs.IndexType.{maxSize};
 ghost use Rattle.types.specs.Raw.{rawBytes};
-ghost use Rattle.table.specs.Table.{soundTable};
-ghost use Rattle.table.specs.Facts.{Roomy};
+ghost use Rattle.table.specs.Facts.{Roomy, Roomed};
 ghost use Rattle.table.specs.Grow.{done, answered, enlargedBy, grantOf, growTo, growSome, growSound, growTable};
 
 pub struct GrownTable {
@@ -101,7 +102,7 @@ fn grant(table: Table, size: u64, fuel: Fuel, limiter: Limiter) -> Growth
     let price = costs.fuel_for_copying_values(size - table.size, RawRef::size());
     let admits = limits.admits(size);
     let fits = size <= table.room;
-    types::grant::grant_growth(limiter, fuel, admits, price, fits)
+    base::grant::grant_growth(limiter, fuel, admits, price, fits)
 }
 
 fn grow_to(
@@ -112,7 +113,7 @@ fn grow_to(
     fuel: Fuel,
     limiter: Limiter,
 ) -> GrownTable
-    requires { ⌜ (soundTable table (length (now cells)) ≡ true) × (table .size ≤ size) ⌝ }
+    requires { ⌜ Roomed table (length (now cells)) × (table .size ≤ size) ⌝ }
     ensures { λ r. ⌜ done r (now (cells .exit)) ≡ growTo rawBytes table (now (cells .entry)) size bits fuel limiter ⌝ }
 {
     let growth = grant(table, size, fuel, limiter);
@@ -122,7 +123,15 @@ fn grow_to(
     enlarge_by(permit, paid, left, table, cells, size, bits)
 }
 
-// Whether the new size stays below the index type's largest.
+// Whether a size is below the index type's largest.
+fn below_largest(index: IndexType, size: u64) -> bool
+    ensures { λ r. ⌜ r ≡ ltb size (maxSize index) ⌝ }
+{
+    let largest = index.max_size();
+    largest.exceeds(size)
+}
+
+// The new size stays below the index type's largest.
 fn grow_some(
     table: Table,
     cells: &mut [u64],
@@ -131,7 +140,7 @@ fn grow_some(
     fuel: Fuel,
     limiter: Limiter,
 ) -> GrownTable
-    requires { ⌜ soundTable table (length (now cells)) ≡ true ⌝ }
+    requires { ⌜ Roomed table (length (now cells)) ⌝ }
     ensures { λ r. ⌜ done r (now (cells .exit)) ≡ growSome rawBytes table (now (cells .entry)) delta bits fuel limiter ⌝ }
 {
     let ty = table.ty;
@@ -140,7 +149,7 @@ fn grow_some(
         return refused(6, table, fuel, limiter);
     }
     let size = table.size + delta;
-    if index.max_size().exceeds(size) {
+    if below_largest(index, size) {
         return grow_to(table, cells, size, bits, fuel, limiter);
     }
     refused(6, table, fuel, limiter)
@@ -155,7 +164,7 @@ fn grow_sound(
     fuel: Fuel,
     limiter: Limiter,
 ) -> GrownTable
-    requires { ⌜ soundTable table (length (now cells)) ≡ true ⌝ }
+    requires { ⌜ Roomed table (length (now cells)) ⌝ }
     ensures { λ r. ⌜ done r (now (cells .exit)) ≡ growSound rawBytes table (now (cells .entry)) delta value fuel limiter ⌝ }
 {
     let ty = table.ty;

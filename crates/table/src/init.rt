@@ -3,20 +3,22 @@ use super::cells;
 use super::element::ElementSegment;
 use super::table;
 use super::table::Table;
-use types::answer::Answer;
-use types::answer::Value;
-use types::fuel::Fuel;
-use types::fuel::FuelStep;
-use types::grant::Spanned;
+use base::answer::Answer;
+use base::answer::Value;
+use base::fuel::Fuel;
+use base::fuel::FuelStep;
+use base::grant::Spanned;
 use types::raw::RawRef;
 ghost use mathlib.Core.Path.{_≡_};
 ghost use Prim.Native.Nat.{_+_, _≤_};
 ghost use lib.ListN.{length};
-ghost use Rattle.types.specs.Pick.{both};
-ghost use Rattle.types.specs.Span.{inside, over, cut};
-ghost use Rattle.types.specs.Grant.{spanDone, spanned};
+ghost use Rattle.base.specs.Pick.{both};
+ghost use Rattle.base.specs.Span.{over, cut};
+ghost use Rattle.base.specs.Grant.{spanDone, spanned};
 ghost use Rattle.types.specs.Raw.{rawBytes};
 ghost use Rattle.table.specs.Facts.{Within, Places};
+ghost use Rattle.table.specs.Table.{soundTable};
+ghost use Rattle.table.specs.Element.{soundSegment};
 ghost use Rattle.table.specs.Init.{initSome, initSpan, initKinds, initTable};
 
 // By what the fuel step says.
@@ -70,16 +72,6 @@ fn init_some(
     init_by(step, fuel, to, from, cells, items, i, j, n)
 }
 
-// Whether both spans lie within table and segment.
-fn in_bounds(to: Table, from: ElementSegment, i: u64, j: u64, n: u64) -> bool
-    ensures { λ r. ⌜ r ≡ both (inside i n (to .size)) (inside j n (from .size)) ⌝ }
-{
-    if types::span::within(i, n, to.size) {
-        return types::span::within(j, n, from.size);
-    }
-    false
-}
-
 fn init_span(
     to: Table,
     from: ElementSegment,
@@ -93,7 +85,7 @@ fn init_span(
     requires { ⌜ Within to (length (now cells)) × Places from (length (now items)) ⌝ }
     ensures { λ r. ⌜ spanDone (r .answer) (r .fuel) (now (cells .exit)) ≡ initSpan rawBytes to from (now (cells .entry)) (now (items .entry)) i j n fuel ⌝ }
 {
-    if !in_bounds(to, from, i, j, n) {
+    if !table::both_within(i, to.size, j, from.size, n) {
         return table::not_spanned(13, fuel);
     }
     if n == 0 {
@@ -126,6 +118,16 @@ fn init_kinds(
     table::not_spanned(14, fuel)
 }
 
+// Whether table and segment are both sound, each over its buffer.
+fn sound_pair(to: Table, from: ElementSegment, len: usize, count: usize) -> bool
+    ensures { λ r. ⌜ r ≡ both (soundTable to len) (soundSegment from count) ⌝ }
+{
+    if !to.is_sound(len) {
+        return false;
+    }
+    from.is_sound(count)
+}
+
 impl Table {
     // `n` items of a segment, from `j` on, go to the cells from `i` on: 14, 13 outside, length 0 is free, 7; 19 where a record is unsound.
     pub fn init(
@@ -142,10 +144,8 @@ impl Table {
     {
         let len = cells.len();
         let count = items.len();
-        if self.is_sound(len) {
-            if from.is_sound(count) {
-                return init_kinds(self, from, cells, items, i, j, n, fuel);
-            }
+        if sound_pair(self, from, len, count) {
+            return init_kinds(self, from, cells, items, i, j, n, fuel);
         }
         table::not_spanned(19, fuel)
     }

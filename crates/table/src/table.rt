@@ -1,16 +1,20 @@
 // A table's record: size, soundness, get and set.
 use super::cells;
-use types::answer::Answer;
-use types::answer::Refusal;
-use types::answer::Value;
-use types::fuel::Fuel;
-use types::grant::Spanned;
+use base::answer::Answer;
+use base::answer::Refusal;
+use base::answer::Value;
+use base::fuel::Fuel;
+use base::grant::Spanned;
 use types::raw::TypedRawRef;
 use types::table_ty::TableType;
 ghost use mathlib.Core.Path.{_≡_};
-ghost use mathlib.Core.Bool.{true};
+ghost use lib.Dec.{leb};
 ghost use lib.ListN.{length};
-ghost use Rattle.types.specs.Answer.{refuse};
+ghost use Rattle.base.specs.Answer.{refuse};
+ghost use Rattle.base.specs.Pick.{both};
+ghost use Rattle.base.specs.Span.{inside};
+ghost use Rattle.types.specs.TableType.{tableBound};
+ghost use Rattle.table.specs.Facts.{Within};
 ghost use Rattle.table.specs.Table.{done, soundBuffer, soundSize, soundTable, getTable, setSound, setTable};
 
 // `size` cells in use of a room of `room` cells, which starts at `start` in the buffer.
@@ -44,7 +48,25 @@ pub(crate) fn sound_buffer(start: usize, places: u64, len: usize) -> bool
     if 4294967296 < len {
         return false;
     }
-    types::span::within(start as u64, places, len as u64)
+    base::span::within(start as u64, places, len as u64)
+}
+
+// Whether `n` cells lie within sizes `a` from `i` on and `b` from `j` on.
+pub(crate) fn both_within(i: u64, a: u64, j: u64, b: u64, n: u64) -> bool
+    ensures { λ r. ⌜ r ≡ both (inside i n a) (inside j n b) ⌝ }
+{
+    if base::span::within(i, n, a) {
+        return base::span::within(j, n, b);
+    }
+    false
+}
+
+// Whether a table of this type may have so many cells by its index type.
+fn within_bound(ty: TableType, size: u64) -> bool
+    ensures { λ r. ⌜ r ≡ leb size (tableBound ty) ⌝ }
+{
+    let bound = ty.absolute_max();
+    bound.covers(size)
 }
 
 impl Table {
@@ -60,7 +82,7 @@ impl Table {
         if self.size < limits.minimum {
             return false;
         }
-        if !ty.absolute_max().covers(self.size) {
+        if !within_bound(ty, self.size) {
             return false;
         }
         limits.admits(self.size)
@@ -92,7 +114,8 @@ impl Table {
             return refused(9);
         }
         let at = self.start + (index as usize);
-        Answer::Value(Value::Number(cells[at]))
+        let cell = cells[at];
+        Answer::Value(Value::Number(cell))
     }
 
     // The cell at an index becomes the reference: 14, 10 outside.
@@ -108,7 +131,7 @@ impl Table {
 }
 
 fn set_sound(table: Table, cells: &mut [u64], index: u64, value: TypedRawRef) -> Answer
-    requires { ⌜ soundTable table (length (now cells)) ≡ true ⌝ }
+    requires { ⌜ Within table (length (now cells)) ⌝ }
     ensures { λ r. ⌜ done r (now (cells .exit)) ≡ setSound table (now (cells .entry)) index value ⌝ }
 {
     let ty = table.ty;

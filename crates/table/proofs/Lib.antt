@@ -1,0 +1,7 @@
+pub mod Sounds
+pub mod Puts
+pub mod Outcomes
+pub mod Growths
+pub mod Exits
+pub mod Frames
+pub mod Unique

@@ -1,0 +1,76 @@
+-- What soundness says of the places of tables and segments. Assumes nothing.
+use mathlib.Core.Path.{_≡_}
+use mathlib.Core.Bool.{Bool, true, false, not}
+use Prim.Native.Nat.{ℕ, _+_, _≤_, _<_, _^_}
+use native.Mathlib.Omega.{arith}
+use borrow.Author.Tests.{leb-true, not-false}
+use Rattle.base.specs.Pick.{both}
+use Rattle.base.proofs.Picks.{both-1, both-2, known-test}
+use Rattle.base.proofs.Spans.{within-is}
+use Rattle.table.specs.Table.{soundBuffer, soundSize, soundTable}
+use Rattle.table.specs.Element.{soundSegment}
+use Rattle.table.specs.Copy.{soundTwo}
+use Rattle.table.specs.Facts.{Within, Roomed, Places}
+use Rattle.table.specs.declared.table.Table.{Table}
+use Rattle.table.specs.declared.element.ElementSegment.{ElementSegment}
+
+pub buffer-few : (start places len : ℕ) → soundBuffer start places len ≡ true → len ≤ 2 ^ 32
+unfolding soundBuffer
+buffer-few start places len e = leb-true _ _ (both-1 _ _ e)
+
+pub buffer-within : (start places len : ℕ) → soundBuffer start places len ≡ true → start + places ≤ len
+unfolding soundBuffer
+buffer-within start places len e = within-is _ _ _ (both-2 _ _ e)
+
+pub size-within : (t : Table) → soundSize t ≡ true → t .size ≤ t .room
+unfolding soundSize
+size-within t e = leb-true _ _ (both-1 _ _ e)
+
+module _ (t : Table) (len : ℕ) (e : soundTable t len ≡ true) where
+  pub sound-room : Roomed t len
+  unfolding soundTable
+  sound-room = buffer-within _ _ _ (both-1 _ _ e)
+
+  pub sound-size : t .size ≤ t .room
+  unfolding soundTable
+  sound-size = size-within t (both-2 _ _ (both-2 _ _ e))
+
+  pub sound-within : Within t len
+  sound-within = omega (arith, sound-room, sound-size)
+
+module _ (s : ElementSegment) (len : ℕ) (e : soundSegment s len ≡ true) where
+  pub segment-places : Places s len
+  unfolding soundSegment
+  segment-places =
+      let p : s .start + s .places ≤ len = buffer-within _ _ _ (both-1 _ _ e) in
+      let q : s .size ≤ s .places = leb-true _ _ (both-2 _ _ e) in
+      omega arith
+
+-- once the record was tested
+pub tested-room : (t : Table) (len : ℕ) {r : Bool} → r ≡ soundTable t len → r ≡ true → Roomed t len
+tested-room t len p q = sound-room t len (known-test p q)
+
+pub tested-within : (t : Table) (len : ℕ) {r : Bool} → r ≡ soundTable t len → r ≡ true → Within t len
+tested-within t len p q = sound-within t len (known-test p q)
+
+pub tested-two : (d s : Table) (len : ℕ) {r : Bool} → r ≡ soundTwo d s len → r ≡ true → Within d len × Within s len
+unfolding soundTwo
+tested-two d s len p q =
+    let e = known-test p q in
+    (sound-within d len (both-1 _ _ e), sound-within s len (both-1 _ _ (both-2 _ _ e)))
+
+pub tested-pair : (t : Table) (s : ElementSegment) (len count : ℕ) {r : Bool} → r ≡ both (soundTable t len) (soundSegment s count) → r ≡ true
+    → Within t len × Places s count
+tested-pair t s len count p q =
+    let e = known-test p q in
+    (sound-within t len (both-1 _ _ e), segment-places s count (both-2 _ _ e))
+
+pub tested-buffer : (start places len : ℕ) {r : Bool} → r ≡ soundBuffer start places len → r ≡ true → start + places ≤ len
+tested-buffer start places len p q = buffer-within start places len (known-test p q)
+
+-- an index below the size is one of the buffer, once the record was tested
+pub cell-within : (t : Table) (len i : ℕ) {r : Bool} → r ≡ soundTable t len → not r ≡ false → i < t .size → t .start + i < len
+cell-within t len i p q h = omega (arith, sound-within t len (known-test p (not-false _ q)))
+
+pub item-within : (s : ElementSegment) (len i : ℕ) {r : Bool} → r ≡ soundSegment s len → not r ≡ false → i < s .size → s .start + i < len
+item-within s len i p q h = omega (arith, segment-places s len (known-test p (not-false _ q)))

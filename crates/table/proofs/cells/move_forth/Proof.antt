@@ -1,0 +1,87 @@
+-- `table::cells::move_forth` meets its contract. Assumes nothing.
+use Prim.Native.Nat.{_-_, _≤_}
+use Rattle.base.proofs.Moves.{cut-none, forth-on}
+use Rattle.base.specs.Span.{cut, over}
+use borrow.Author.Needs.{needs}
+use lib.ListN.{length}
+use mathlib.Core.Path.{_≡_, refl}
+use native.Mathlib.Omega.{arith}
+use Rattle.table.proofs.cells.move_forth.Statement.{statement}
+use Rattle.table.proofs.cells.move_forth.Tie as tie
+
+abbrev Inv-loop : tie.InvT-loop
+Inv-loop cells₀ to from n i₀ cells i = (cells ≡ over cells₀ to (cut cells₀ from i)) × (i ≤ n) × (length cells ≡ length cells₀)
+
+abbrev μ-loop : tie.MeasureT-loop
+μ-loop cells₀ to from n i₀ cells i = n - i
+
+loop-holds : tie.Need-loop-holds Inv-loop μ-loop
+loop-holds c = (cut-none _ _ _, omega arith, refl)
+
+sub-loop : tie.Need-sub-loop Inv-loop μ-loop
+sub-loop c = search needs
+
+add-move-some : tie.Need-add-move-some Inv-loop μ-loop
+add-move-some c = search needs
+
+add-move-some-2 : tie.Need-add-move-some-2 Inv-loop μ-loop
+add-move-some-2 c = search needs
+
+move-some-requires : tie.Need-move-some-requires Inv-loop μ-loop
+move-some-requires c κs = search needs
+
+add-i : tie.Need-add-i Inv-loop μ-loop
+add-i c = search needs
+
+loop-less : tie.Need-loop-less Inv-loop μ-loop
+loop-less c = search needs
+
+loop-again : tie.Need-loop-again Inv-loop μ-loop
+loop-again c =
+    let l = c .before .before .before .before .before .loop in
+    let a = c .before .before .before .before .before .before .before .args in
+    let p = c .before .before .before .before .before .before .before .pre in
+    (forth-on _ (l .cells) _ (a .to) (a .from) (l .i) 512 _ refl (record { there = omega arith; here = omega arith }) (p .1) (l .inv .0) (c .before .before .move-some .ensures), omega arith, search needs)
+
+add-move-some-3 : tie.Need-add-move-some-3 Inv-loop μ-loop
+add-move-some-3 c = search needs
+
+add-move-some-4 : tie.Need-add-move-some-4 Inv-loop μ-loop
+add-move-some-4 c = search needs
+
+sub-move-some : tie.Need-sub-move-some Inv-loop μ-loop
+sub-move-some c = search needs
+
+move-some-requires-2 : tie.Need-move-some-requires-2 Inv-loop μ-loop
+move-some-requires-2 c κs = search needs
+
+same-length : tie.Need-same-length Inv-loop μ-loop
+same-length c = search needs
+
+returns : tie.Need-returns Inv-loop μ-loop
+returns c =
+    let l = c .before .before .before .before .before .loop in
+    let a = c .before .before .before .before .before .before .before .args in
+    let p = c .before .before .before .before .before .before .before .pre in
+    forth-on _ (l .cells) _ (a .to) (a .from) (l .i) (a .n - l .i) (a .n) (omega arith) (p .0) (p .1) (l .inv .0) (c .before .before .move-some2 .ensures)
+
+pub move-forth-spec : {M : Type 1} → statement M
+move-forth-spec =
+    tie.close
+    (tie.spec
+    Inv-loop
+    μ-loop
+    loop-holds
+    sub-loop
+    add-move-some
+    add-move-some-2
+    move-some-requires
+    add-i
+    loop-less
+    loop-again
+    add-move-some-3
+    add-move-some-4
+    sub-move-some
+    move-some-requires-2
+    same-length
+    returns)

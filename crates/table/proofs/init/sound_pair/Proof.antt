@@ -1,0 +1,20 @@
+-- `table::init::sound_pair` meets its contract. Assumes nothing.
+use Rattle.table.proofs.Exits.{exits}
+use borrow.Author.Needs.{needs}
+use Rattle.table.proofs.init.sound_pair.Statement.{statement}
+use Rattle.table.proofs.init.sound_pair.Tie as tie
+
+is-sound-requires : tie.Need-is-sound-requires
+is-sound-requires c κs = search needs
+
+returns : tie.Need-returns
+returns c = search exits
+
+is-sound-requires-2 : tie.Need-is-sound-requires-2
+is-sound-requires-2 c κs = search needs
+
+returns-2 : tie.Need-returns-2
+returns-2 c = search exits
+
+pub sound-pair-spec : {M : Type 1} → statement M
+sound-pair-spec = tie.close (tie.spec is-sound-requires returns is-sound-requires-2 returns-2)

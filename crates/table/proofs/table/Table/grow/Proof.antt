@@ -1,0 +1,32 @@
+-- `table::table::Table::grow` meets its contract. Assumes nothing.
+use Rattle.table.proofs.Exits.{exits}
+use Rattle.table.proofs.Sounds.{tested-room}
+use Rattle.table.specs.Grow.{growTable}
+use borrow.Author.Needs.{needs}
+use Rattle.table.proofs.table.Table.grow.Statement.{statement}
+use Rattle.table.proofs.table.Table.grow.Tie as tie
+
+is-sound-requires : tie.Need-is-sound-requires
+is-sound-requires c κs = search needs
+
+grow-sound-requires : tie.Need-grow-sound-requires
+grow-sound-requires c κs = tested-room _ _ (c .before .before .is-sound .ensures) (c .before .if1 .taken)
+
+same-length : tie.Need-same-length
+same-length c = search needs
+
+returns : tie.Need-returns
+unfolding growTable
+returns c = search exits
+
+refused-requires : tie.Need-refused-requires
+refused-requires c κs = search needs
+
+returns-2 : tie.Need-returns-2
+unfolding growTable
+returns-2 c = search exits
+
+pub grow-spec : {M : Type 1} → statement M
+grow-spec =
+    tie.close
+    (tie.spec is-sound-requires grow-sound-requires same-length returns refused-requires returns-2)

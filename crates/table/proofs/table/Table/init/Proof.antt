@@ -1,0 +1,38 @@
+-- `table::table::Table::init` meets its contract. Assumes nothing.
+use Rattle.table.proofs.Exits.{exits}
+use Rattle.table.proofs.Sounds.{tested-pair}
+use Rattle.table.specs.Init.{initTable}
+use borrow.Author.Needs.{needs}
+use Rattle.table.proofs.table.Table.init.Statement.{statement}
+use Rattle.table.proofs.table.Table.init.Tie as tie
+
+sound-pair-requires : tie.Need-sound-pair-requires
+sound-pair-requires c κs = search needs
+
+init-kinds-requires : tie.Need-init-kinds-requires
+init-kinds-requires c κs = tested-pair _ _ _ _ (c .before .before .sound-pair .ensures) (c .before .if1 .taken)
+
+same-length : tie.Need-same-length
+same-length c = search needs
+
+returns : tie.Need-returns
+unfolding initTable
+returns c = search exits
+
+not-spanned-requires : tie.Need-not-spanned-requires
+not-spanned-requires c κs = search needs
+
+returns-2 : tie.Need-returns-2
+unfolding initTable
+returns-2 c = search exits
+
+pub init-spec : {M : Type 1} → statement M
+init-spec =
+    tie.close
+    (tie.spec
+    sound-pair-requires
+    init-kinds-requires
+    same-length
+    returns
+    not-spanned-requires
+    returns-2)
