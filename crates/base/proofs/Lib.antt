@@ -9,3 +9,4 @@ pub mod Spans
 pub mod Moves
 pub mod Stepping
 pub mod Grants
+pub mod Chains

@@ -2,7 +2,7 @@
 use Prim.Native.Nat.{ℕ, _-_}
 use mathlib.Core.Bool.{Bool}
 use lib.Dec.{ltb}
-use Rattle.base.specs.Pick.{pick}
+use Rattle.base.specs.Pick.{pick, both}
 use Rattle.base.specs.Answer.{refusal, refuse, accept}
 use Rattle.base.specs.declared.answer.Answer.{Answer}
 use Rattle.base.specs.declared.fuel.FuelCosts.{FuelCosts}
@@ -20,6 +20,14 @@ newFuel on costs = record { remaining = 0; enabled = on; costs = costs }
 -- the same record with so much left
 abbrev pub left : Fuel → ℕ → Fuel
 left f n = record { remaining = n; enabled = f .enabled; costs = f .costs }
+
+-- metering is on, and less is left than the price
+abbrev pub short : Fuel → ℕ → Bool
+short f p = both (f .enabled) (ltb (f .remaining) p)
+
+-- the record after a price is paid; with metering off it is free
+abbrev pub paid : Fuel → ℕ → Fuel
+paid f p = pick (f .enabled) (left f (f .remaining - p)) f
 
 unfoldable pub setFuel : Fuel → ℕ → FuelStep
 setFuel f n = pick (f .enabled) (Done (left f n)) (Refused (refusal 15 0))

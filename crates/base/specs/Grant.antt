@@ -1,4 +1,5 @@
--- Document 01, "First check wins": the steps that memories and tables share, from the limiter's question to the room.
+-- Document 01, "First check wins": the stages that memories and tables share, from the limiter's question to the room, as the code has them.
+-- The definition of each operation says the same in one chain of checks; crates/base/proofs/Chains.antt shows that they agree.
 use Prim.Native.Nat.{ℕ}
 use mathlib.Core.Bool.{Bool}
 use mathlib.Core.List.{List}

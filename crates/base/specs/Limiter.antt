@@ -6,6 +6,8 @@ use lib.Dec.{eqb, leb, ltb}
 use lib.ListN.{length, take, drop, getD, replicate}
 use Rattle.base.specs.Pick.{pick, both}
 use Rattle.base.specs.Answer.{refusal, refuse, accept}
+use Rattle.base.specs.declared.answer.Answer.{Answer}
+use Rattle.base.specs.declared.answer.Answer.the-variants as answer
 use Rattle.base.specs.declared.answer.Refusal.{Refusal}
 use Rattle.base.specs.declared.limiter.Limiter.{Limiter}
 use Rattle.base.specs.declared.limiter.Permit.{Permit}
@@ -52,6 +54,10 @@ heardOf said r = pick (eqb said 2) (refusal 4 0) r
 -- one notice
 unfoldable pub notify : Limiter → Refusal → Noticed
 notify l r = record { refusal = heardOf (saysOf l) r; limiter = moved l }
+
+-- a refusal of which the limiter is told: 4 where the notice is met by its own error
+abbrev pub noticed : Limiter → ℕ → ℕ → Answer
+noticed l number amount = answer.Refusal (heardOf (saysOf l) (refusal number amount))
 
 -- every byte is an answer
 unfoldable pub allAnswers : List ℕ → Bool

@@ -6,6 +6,10 @@ unfoldable pub pick : {A : Type 0} → Bool → A → A → A
 pick true a b = a
 pick false a b = b
 
+-- the first value unless the test holds
+abbrev pub unless : {A : Type 0} → Bool → A → A → A
+unless t a b = pick t b a
+
 -- both tests hold
 unfoldable pub both : Bool → Bool → Bool
 both true b = b

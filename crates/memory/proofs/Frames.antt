@@ -39,7 +39,10 @@ use Rattle.memory.specs.Access.{widthBytes, addressOf, loadWidth, extend
 use Rattle.memory.specs.Memory.{pagesOf, resized, soundMemory, loadMemory, storeMemory}
 use Rattle.memory.specs.Host.{readUsed, readMemory, writeUsed, writeMemory}
 use Rattle.memory.specs.New as new
+use Rattle.memory.specs.NewStages as new-stages
 use Rattle.memory.specs.Grow as grow
+use Rattle.memory.specs.Grow.{grownSize}
+use Rattle.memory.specs.GrowStages as grow-stages
 use Rattle.memory.specs.declared.access.LoadKind.{LoadKind}
 use Rattle.memory.specs.declared.access.StoreKind.{StoreKind}
 use Rattle.memory.specs.declared.access.Address.{Address}
@@ -50,6 +53,7 @@ use Rattle.memory.proofs.Bytes.{length-bytes}
 use Rattle.memory.proofs.Accesses.{address-is}
 use Rattle.memory.proofs.Sounds.{Sound, sound-is, is-sound}
 use Rattle.memory.proofs.Growths.{reach-is, reach-more}
+use Rattle.memory.proofs.Readings.{grow-goes, grow-stops, new-goes, new-stops}
 
 -- every cell a byte, past the end too
 abbrev pub Octets : List ℕ → Type 0
@@ -295,10 +299,6 @@ pub record Stays (m : Memory) (bs : List ℕ) (g : grow.Grown) : Type 0 where
   pub memory : g .out .memory ≡ m
   pub cells : g .cells ≡ bs
 
--- the size in bytes of n pages more
-abbrev pub grownSize : Memory → ℕ → ℕ
-grownSize m n = (pagesOf m + n) * pageBytes (m .ty .page)
-
 -- an accepted growth: the new bytes are 0, and all else is as it was
 pub record Grows (m : Memory) (bs : List ℕ) (n : ℕ) (g : grow.Grown) : Type 0 where
   pub sound : Sound m (length bs)
@@ -318,8 +318,8 @@ record Enlarges (m : Memory) (bs : List ℕ) (size : ℕ) (g : grow.Grown) : Typ
   cells : g .cells ≡ over bs (m .start + m .size) (replicate (size - m .size) 0)
 
 enlarged-view : (p : Permit) (f : Fuel) (l : Limiter) (m : Memory) (bs : List ℕ) (size : ℕ) → Fair p (both true (leb size (m .room)))
-    → Stays m bs (grow.enlargedBy p f l m bs size) ⊎ Enlarges m bs size (grow.enlargedBy p f l m bs size)
-unfolding grow.enlargedBy numberOf
+    → Stays m bs (grow-stages.enlargedBy p f l m bs size) ⊎ Enlarges m bs size (grow-stages.enlargedBy p f l m bs size)
+unfolding grow-stages.enlargedBy numberOf
 enlarged-view (Denied r) f l m bs size h = inl (record { number = h .1 r refl; memory = refl; cells = refl })
 enlarged-view Granted f l m bs size h =
     inr (record { held = leb-true _ _ (both-2 _ _ (h .0 refl)); answer = refl; memory = refl; cells = refl })
@@ -351,8 +351,8 @@ module _ (m : Memory) (bs : List ℕ) (n : ℕ) (f : Fuel) (l : Limiter) where
           cells = sym (ap (λ (x : ℕ). over bs (m .start + m .size) (replicate x 0)) z ∙ over-nil bs (m .start + m .size));
         }
 
-    to-view : (size : ℕ) → Stays m bs (grow.growTo m bs size f l) ⊎ Enlarges m bs size (grow.growTo m bs size f l)
-    unfolding grow.growTo grow.grantOf
+    to-view : (size : ℕ) → Stays m bs (grow-stages.growTo m bs size f l) ⊎ Enlarges m bs size (grow-stages.growTo m bs size f l)
+    unfolding grow-stages.growTo grow-stages.grantOf
     to-view size = enlarged-view _ _ _ m bs size (growth-fair l f true _ (leb size (m .room)))
 
     grows : (size : ℕ) (g : grow.Grown) → grow.mayHave (m .ty) (pagesOf m + n) ≡ true → grownSize m n ≡ size → Enlarges m bs size g → Grows m bs n g
@@ -369,26 +369,26 @@ module _ (m : Memory) (bs : List ℕ) (n : ℕ) (f : Fuel) (l : Limiter) where
           cells = w .cells ∙ ap (λ (x : ℕ). over bs (m .start + m .size) (replicate (x - m .size) 0)) (sym q);
         }
 
-    by-reach : (to : ByteSize) → grow.reachOf m n ≡ to → Stays m bs (grow.byReach to m bs f l) ⊎ Grows m bs n (grow.byReach to m bs f l)
-    unfolding grow.byReach numberOf
+    by-reach : (to : ByteSize) → grow-stages.reachOf m n ≡ to → Stays m bs (grow-stages.byReach to m bs f l) ⊎ Grows m bs n (grow-stages.byReach to m bs f l)
+    unfolding grow-stages.byReach numberOf
     by-reach Overflow e = inl (record { number = omega arith; memory = refl; cells = refl })
     by-reach (Bytes size) e =
         let r = reach-is (m .ty) (pagesOf m + n) size e in
         ⊎-elim inl (λ w. inr (grows size _ (r .0) (r .1) w)) (to-view size)
 
-    sound-view : Stays m bs (grow.growSound m bs n f l) ⊎ Grows m bs n (grow.growSound m bs n f l)
-    unfolding grow.growSound
+    sound-view : Stays m bs (grow-stages.growSound m bs n f l) ⊎ Grows m bs n (grow-stages.growSound m bs n f l)
+    unfolding grow-stages.growSound
     sound-view =
         either (eqb n 0)
         (λ e. inr (subst (Grows m bs n) (sym (pick-true _ _ _ e)) (none-grows (eqb-true _ _ e))))
-        (λ e. subst (λ (g : grow.Grown). Stays m bs g ⊎ Grows m bs n g) (sym (pick-false _ _ _ e)) (by-reach (grow.reachOf m n) refl))
+        (λ e. subst (λ (g : grow.Grown). Stays m bs g ⊎ Grows m bs n g) (sym (pick-false _ _ _ e)) (by-reach (grow-stages.reachOf m n) refl))
 
   pub grow-view : Stays m bs (grow.growMemory m bs n f l) ⊎ Grows m bs n (grow.growMemory m bs n f l)
-  unfolding grow.growMemory numberOf
+  unfolding numberOf
   grow-view =
       either (soundMemory m (length bs))
-      (λ e. subst (λ (g : grow.Grown). Stays m bs g ⊎ Grows m bs n g) (sym (pick-true _ _ _ e)) (sound-view (sound-is m (length bs) e)))
-      (λ e. inl (subst (Stays m bs) (sym (pick-false _ _ _ e)) (record { number = omega arith; memory = refl; cells = refl })))
+      (λ e. subst (λ (g : grow.Grown). Stays m bs g ⊎ Grows m bs n g) (grow-goes m bs n f l e refl) (sound-view (sound-is m (length bs) e)))
+      (λ e. inl (subst (Stays m bs) (grow-stops m bs n f l e refl) (record { number = omega arith; memory = refl; cells = refl })))
 
   -- a refused growth changes no byte and no size
   pub grow-kept : (numberOf (grow.growMemory m bs n f l .out .answer) ≡ 0 → ⊥) → Stays m bs (grow.growMemory m bs n f l)
@@ -492,8 +492,8 @@ module _ (kind : BuiltMemory) (bs : List ℕ) (start room : ℕ) (h : start + ro
               (λ q. pick-false _ _ _ q);
         }
 
-    made-by : (p : Permit) (l : Limiter) (size : ℕ) → minimumBytes t ≡ Bytes size → Fair p (leb size room) → View (new.madeBy p l t start room size bs)
-    unfolding new.madeBy
+    made-by : (p : Permit) (l : Limiter) (size : ℕ) → minimumBytes t ≡ Bytes size → Fair p (leb size room) → View (new-stages.madeBy p l t start room size bs)
+    unfolding new-stages.madeBy
     made-by (Denied r) l size e g = inl (record { refusal = r; made = refl; number = g .1 r refl; cells = refl })
     made-by Granted l size e g =
         inr
@@ -508,27 +508,26 @@ module _ (kind : BuiltMemory) (bs : List ℕ) (start room : ℕ) (h : start + ro
           cells = refl;
         })
 
-    by-size : (to : ByteSize) (l : Limiter) → minimumBytes t ≡ to → View (new.bySize to l t start room bs)
-    unfolding new.bySize new.madeOf
+    by-size : (to : ByteSize) (l : Limiter) → minimumBytes t ≡ to → View (new-stages.bySize to l t start room bs)
+    unfolding new-stages.bySize new-stages.madeOf
     by-size Overflow l e = inl (record { refusal = refusal 2 0; made = refl; number = omega arith; cells = refl })
     by-size (Bytes size) l e = made-by _ _ size e (creation-fair l (leb size room))
 
   by-type : (k : BuiltMemory) (l : Limiter) → kind ≡ k → ((t : MemoryType) → k ≡ built.Built t → validMemory t ≡ true) → ((r : Refusal) → k ≡ built.Refused r → 0 < r .number)
-      → View (new.byType k l start room bs)
-  unfolding new.byType
+      → View (new-stages.byType k l start room bs)
+  unfolding new-stages.byType
   by-type (built.Refused r) l e p q = inl (record { refusal = r; made = refl; number = q r refl; cells = refl })
   by-type (built.Built t) l e p q = by-size t (p t refl) e (minimumBytes t) l refl
 
 module _ (wide : Bool) (limits : Limits) (exponent start room : ℕ) (bs : List ℕ) (l : Limiter) where
   pub new-view : NotMade bs (new.newMemory wide limits exponent start room bs l) ⊎ Makes (buildMemory wide limits exponent) bs start room (new.newMemory wide limits exponent start room bs l)
-  unfolding new.newMemory
   new-view =
       let kind = buildMemory wide limits exponent in
       either (leb (start + room) (length bs))
-      (λ e. subst (λ (c : new.Created). NotMade bs c ⊎ Makes kind bs start room c) (sym (pick-true _ _ _ e))
+      (λ e. subst (λ (c : new.Created). NotMade bs c ⊎ Makes kind bs start room c) (new-goes wide limits exponent start room bs l e refl)
       (by-type kind bs start room (leb-true _ _ e) kind l refl (built-valid wide limits exponent)
       (λ r q. let k : r .number ≡ 1 = ap (λ (x : Refusal). x .number) (built-refused wide limits exponent r q) in omega arith)))
-      (λ e. inl (subst (NotMade bs) (sym (pick-false _ _ _ e)) (record { refusal = refusal 19 0; made = refl; number = omega arith; cells = refl })))
+      (λ e. inl (subst (NotMade bs) (new-stops wide limits exponent start room bs l e refl) (record { refusal = refusal 19 0; made = refl; number = omega arith; cells = refl })))
 
   -- a refused creation changes no byte, and its number is not 0
   pub new-kept : (r : Refusal) → new.newMemory wide limits exponent start room bs l .out .made ≡ Refused r

@@ -23,7 +23,8 @@ use Rattle.base.proofs.Prices.{too-large, product-fits}
 use Rattle.types.proofs.Sizes.{page-pos}
 use Rattle.base.proofs.Grants.{creation-fair, granted-growth}
 use Rattle.memory.specs.Memory.{pagesOf, soundMemory}
-use Rattle.memory.specs.Grow.{mayHave, reachPages, reachOf, grantOf}
+use Rattle.memory.specs.Grow.{mayHave}
+use Rattle.memory.specs.GrowStages.{reachPages, reachOf, grantOf}
 use Rattle.memory.specs.Facts.{Held, Roomy}
 use Rattle.memory.specs.declared.memory.Memory.{Memory}
 use Rattle.memory.proofs.Sounds.{Sound, sound-is}

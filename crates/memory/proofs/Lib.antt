@@ -6,5 +6,6 @@ pub mod Sounds
 pub mod Growths
 pub mod Copies
 pub mod Stages
+pub mod Readings
 pub mod Frames
 pub mod Unique

@@ -1,26 +1,22 @@
--- Document 01, "First check wins", grow memory; WebAssembly Core Specification 3.0, Execution, Modules, growing memories.
+-- Document 01, "First check wins", grow memory: by 0 accepted; 6 beyond the bounds; limiter 6/4 without notice; 7 with notice; 8 with notice.
+-- WebAssembly Core Specification 3.0, Execution, Modules, growing memories: the answer is the size before, and the new bytes are 0.
 use Prim.Native.Nat.{ℕ, _+_, _-_, _*_, _^_}
-use mathlib.Core.Bool.{Bool, true}
+use mathlib.Core.Bool.{Bool}
 use mathlib.Core.List.{List}
 use lib.Dec.{eqb, leb, ltb}
 use lib.ListN.{length, replicate}
-use Rattle.base.specs.Pick.{pick, both}
+use Rattle.base.specs.Pick.{pick, unless, both}
 use Rattle.base.specs.Span.{over}
 use Rattle.base.specs.Answer.{refuse, accept}
-use Rattle.types.specs.Limits.{admitsOf}
-use Rattle.types.specs.MemoryType.{pageBytes, pageBound}
 use Rattle.base.specs.Price.{price}
-use Rattle.base.specs.Grant.{grantGrowth}
+use Rattle.base.specs.Fuel.{short, paid}
+use Rattle.base.specs.Limiter.{saysOf, moved, noticed}
 use Rattle.base.specs.declared.answer.Answer.{Answer}
-use Rattle.base.specs.declared.answer.Answer.the-variants as answer
 use Rattle.base.specs.declared.fuel.Fuel.{Fuel}
 use Rattle.base.specs.declared.limiter.Limiter.{Limiter}
-use Rattle.base.specs.declared.limiter.Permit.{Permit}
-use Rattle.base.specs.declared.limiter.Permit.the-variants.{Granted, Denied}
-use Rattle.base.specs.declared.grant.Growth.{Growth}
+use Rattle.types.specs.Limits.{admitsOf}
+use Rattle.types.specs.MemoryType.{pageBytes, pageBound}
 use Rattle.types.specs.declared.memory_ty.MemoryType.{MemoryType}
-use Rattle.types.specs.declared.memory_ty.ByteSize.{ByteSize}
-use Rattle.types.specs.declared.memory_ty.ByteSize.the-variants.{Bytes, Overflow}
 use Rattle.memory.specs.Memory.{pagesOf, resized, soundMemory}
 use Rattle.memory.specs.declared.memory.Memory.{Memory}
 use Rattle.memory.specs.declared.grow.GrownMemory.{GrownMemory}
@@ -41,39 +37,23 @@ unfoldable pub mayHave : MemoryType → ℕ → Bool
 mayHave t pages =
     both (leb pages (pageBound t)) (both (admitsOf (t .limits) pages) (ltb (pages * pageBytes (t .page)) (2 ^ 64)))
 
--- the bytes of so many pages, if a memory of the type may have them
-unfoldable pub reachPages : MemoryType → ℕ → ByteSize
-reachPages t pages = pick (mayHave t pages) (Bytes (pages * pageBytes (t .page))) Overflow
+-- the size in bytes after a growth by n pages
+abbrev pub grownSize : Memory → ℕ → ℕ
+grownSize m n = (pagesOf m + n) * pageBytes (m .ty .page)
 
--- the size in bytes that a growth by n pages reaches, if it may
-abbrev pub reachOf : Memory → ℕ → ByteSize
-reachOf m n = reachPages (m .ty) (pagesOf m + n)
+-- the price of the new bytes
+abbrev pub growthPrice : Memory → ℕ → Fuel → ℕ
+growthPrice m n f = price (f .costs .copied) (grownSize m n - m .size)
 
--- the new bytes are 0, and the answer is the size before
-unfoldable pub enlargedBy : Permit → Fuel → Limiter → Memory → List ℕ → ℕ → Grown
-enlargedBy (Denied r) f l m bs size = done (answered (answer.Refusal r) m f l) bs
-enlargedBy Granted f l m bs size =
-    done (answered (accept (pagesOf m)) (resized m size) f l) (over bs (m .start + m .size) (replicate (size - m .size) 0))
-
--- limiter 6/4 without notice; 7 with notice; 8 with notice
-unfoldable pub grantOf : Memory → ℕ → Fuel → Limiter → Growth
-grantOf m size f l = grantGrowth l f true (price (f .costs .copied) (size - m .size)) (leb size (m .room))
-
-unfoldable pub growTo : Memory → List ℕ → ℕ → Fuel → Limiter → Grown
-growTo m bs size f l =
-    enlargedBy (grantOf m size f l .permit) (grantOf m size f l .fuel) (grantOf m size f l .limiter) m bs size
-
--- 6 beyond the bounds
-unfoldable pub byReach : ByteSize → Memory → List ℕ → Fuel → Limiter → Grown
-byReach Overflow m bs f l = done (answered (refuse 6 0) m f l) bs
-byReach (Bytes size) m bs f l = growTo m bs size f l
-
--- by 0 accepted
-unfoldable pub growSound : Memory → List ℕ → ℕ → Fuel → Limiter → Grown
-growSound m bs n f l =
-    pick (eqb n 0) (done (answered (accept (pagesOf m)) m f l) bs) (byReach (reachOf m n) m bs f l)
-
--- growth by n pages, or 19
+-- growth by n pages
 unfoldable pub growMemory : Memory → List ℕ → ℕ → Fuel → Limiter → Grown
 growMemory m bs n f l =
-    pick (soundMemory m (length bs)) (growSound m bs n f l) (done (answered (refuse 19 0) m f l) bs)
+    unless (soundMemory m (length bs)) (done (answered (refuse 19 0) m f l) bs)
+    (pick (eqb n 0) (done (answered (accept (pagesOf m)) m f l) bs)
+    (unless (mayHave (m .ty) (pagesOf m + n)) (done (answered (refuse 6 0) m f l) bs)
+    (pick (eqb (saysOf l) 1) (done (answered (refuse 6 0) m f (moved l)) bs)
+    (pick (eqb (saysOf l) 2) (done (answered (refuse 4 0) m f (moved l)) bs)
+    (pick (short f (growthPrice m n f)) (done (answered (noticed (moved l) 7 (growthPrice m n f)) m f (moved (moved l))) bs)
+    (unless (leb (grownSize m n) (m .room)) (done (answered (noticed (moved l) 8 0) m (paid f (growthPrice m n f)) (moved (moved l))) bs)
+    (done (answered (accept (pagesOf m)) (resized m (grownSize m n)) (paid f (growthPrice m n f)) (moved l))
+    (over bs (m .start + m .size) (replicate (grownSize m n - m .size) 0)))))))))

@@ -3,5 +3,7 @@ pub mod Facts
 pub mod Access
 pub mod Memory
 pub mod New
+pub mod NewStages
 pub mod Grow
+pub mod GrowStages
 pub mod Host

@@ -1,25 +1,20 @@
 -- Document 01, "First check wins", new memory: 1, 2, limiter 3/4, room 5 with notice; not metered; cells become 0.
-use Prim.Native.Nat.{ℕ, _+_}
-use mathlib.Core.Bool.{Bool}
+use Prim.Native.Nat.{ℕ, _+_, _*_, _^_}
+use mathlib.Core.Bool.{Bool, true}
 use mathlib.Core.List.{List}
-use lib.Dec.{leb}
+use lib.Dec.{eqb, leb, ltb}
 use lib.ListN.{length, replicate}
-use Rattle.base.specs.Pick.{pick}
+use Rattle.base.specs.Pick.{pick, unless, both}
 use Rattle.base.specs.Span.{over}
 use Rattle.base.specs.Answer.{refusal}
-use Rattle.types.specs.MemoryType.{buildMemory, minimumBytes}
-use Rattle.base.specs.Grant.{grantCreation}
+use Rattle.base.specs.Limiter.{saysOf, moved, heardOf}
 use Rattle.base.specs.declared.answer.Refusal.{Refusal}
 use Rattle.base.specs.declared.limiter.Limiter.{Limiter}
-use Rattle.base.specs.declared.limiter.Permit.{Permit}
-use Rattle.base.specs.declared.limiter.Permit.the-variants.{Granted, Denied}
+use Rattle.types.specs.MemoryType.{pageBytes, pageOf, memoryType, validExponent, validMemory}
 use Rattle.types.specs.declared.limits.Limits.{Limits}
 use Rattle.types.specs.declared.memory_ty.MemoryType.{MemoryType}
-use Rattle.types.specs.declared.memory_ty.BuiltMemory.{BuiltMemory}
-use Rattle.types.specs.declared.memory_ty.BuiltMemory.the-variants as built
-use Rattle.types.specs.declared.memory_ty.ByteSize.{ByteSize}
-use Rattle.types.specs.declared.memory_ty.ByteSize.the-variants.{Bytes, Overflow}
 use Rattle.memory.specs.declared.memory.Memory.{Memory}
+use Rattle.memory.specs.declared.new.MadeMemory.{MadeMemory}
 use Rattle.memory.specs.declared.new.MadeMemory.the-variants.{Made, Refused}
 use Rattle.memory.specs.declared.new.CreatedMemory.{CreatedMemory}
 
@@ -38,30 +33,21 @@ refused l r = record { made = Refused r; limiter = l }
 abbrev pub memoryOf : MemoryType → ℕ → ℕ → ℕ → Memory
 memoryOf t start room size = record { ty = t; start = start; room = room; size = size }
 
--- the minimum's bytes become 0, whatever stood there
-unfoldable pub madeBy : Permit → Limiter → MemoryType → ℕ → ℕ → ℕ → List ℕ → Created
-madeBy (Denied r) l t start room size bs = done (refused l r) bs
-madeBy Granted l t start room size bs =
-    done (record { made = Made (memoryOf t start room size); limiter = l }) (over bs start (replicate size 0))
+-- the type asked for, and its minimum in bytes
+abbrev pub wanted : Bool → Limits → ℕ → MemoryType
+wanted wide limits exponent = memoryType wide (pageOf exponent) limits
 
--- limiter 3/4, room 5 with notice
-unfoldable pub madeOf : Limiter → MemoryType → ℕ → ℕ → ℕ → List ℕ → Created
-madeOf l t start room size bs =
-    madeBy (grantCreation l (leb size room) .permit) (grantCreation l (leb size room) .limiter) t start room size bs
+abbrev pub leastBytes : Limits → ℕ → ℕ
+leastBytes limits exponent = limits .minimum * pageBytes (pageOf exponent)
 
--- 2 where the minimum in bytes is 2^64
-unfoldable pub bySize : ByteSize → Limiter → MemoryType → ℕ → ℕ → List ℕ → Created
-bySize Overflow l t start room bs = done (refused l (refusal 2 0)) bs
-bySize (Bytes size) l t start room bs = madeOf l t start room size bs
-
--- 1 where the type is invalid
-unfoldable pub byType : BuiltMemory → Limiter → ℕ → ℕ → List ℕ → Created
-byType (built.Refused r) l start room bs = done (refused l r) bs
-byType (built.Built t) l start room bs = bySize (minimumBytes t) l t start room bs
-
--- a new memory in a room of the buffer, or 19 where the room is not inside it
+-- a new memory in the room bytes from start on
 unfoldable pub newMemory : Bool → Limits → ℕ → ℕ → ℕ → List ℕ → Limiter → Created
 newMemory wide limits exponent start room bs l =
-    pick (leb (start + room) (length bs))
-    (byType (buildMemory wide limits exponent) l start room bs)
-    (done (refused l (refusal 19 0)) bs)
+    unless (leb (start + room) (length bs)) (done (refused l (refusal 19 0)) bs)
+    (unless (both (validExponent exponent) (validMemory (wanted wide limits exponent))) (done (refused l (refusal 1 0)) bs)
+    (unless (ltb (leastBytes limits exponent) (2 ^ 64)) (done (refused l (refusal 2 0)) bs)
+    (pick (eqb (saysOf l) 1) (done (refused (moved l) (refusal 3 0)) bs)
+    (pick (eqb (saysOf l) 2) (done (refused (moved l) (refusal 4 0)) bs)
+    (unless (leb (leastBytes limits exponent) room) (done (refused (moved (moved l)) (heardOf (saysOf (moved l)) (refusal 5 0))) bs)
+    (done (record { made = Made (memoryOf (wanted wide limits exponent) start room (leastBytes limits exponent)); limiter = moved l })
+    (over bs start (replicate (leastBytes limits exponent) 0))))))))

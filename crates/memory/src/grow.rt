@@ -19,7 +19,8 @@ ghost use Rattle.base.specs.declared.limiter.Permit.the-variants.{Granted};
 ghost use Rattle.base.specs.Answer.{refuse, accept};
 ghost use Rattle.memory.specs.Memory.{pagesOf, soundMemory};
 ghost use Rattle.memory.specs.Facts.{Roomy, Held, Reaches};
-ghost use Rattle.memory.specs.Grow.{done, answered, mayHave, reachPages, reachOf, enlargedBy, grantOf, growTo, byReach, growSound, growMemory};
+ghost use Rattle.memory.specs.Grow.{done, answered, mayHave, growMemory};
+ghost use Rattle.memory.specs.GrowStages.{reachPages, reachOf, enlargedBy, grantOf, growTo, byReach, growSound};
 
 pub struct GrownMemory {
     pub answer: Answer,

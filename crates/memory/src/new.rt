@@ -15,7 +15,8 @@ ghost use Rattle.base.specs.declared.limiter.Permit.the-variants.{Granted};
 ghost use Rattle.base.specs.Answer.{refusal};
 ghost use Rattle.types.specs.MemoryType.{buildMemory, minimumBytes};
 ghost use Rattle.base.specs.Span.{over};
-ghost use Rattle.memory.specs.New.{done, refused, madeBy, madeOf, bySize, byType, newMemory};
+ghost use Rattle.memory.specs.New.{done, refused, newMemory};
+ghost use Rattle.memory.specs.NewStages.{madeBy, madeOf, bySize, byType};
 
 pub enum MadeMemory {
     Made(Memory),

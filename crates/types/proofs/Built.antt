@@ -3,15 +3,19 @@ use mathlib.Core.Path.{_≡_, sym, ap, _∙_}
 use mathlib.Core.Bool.{Bool, true}
 use Prim.Native.Nat.{ℕ, _*_, _^_}
 use native.Mathlib.Omega.{arith}
-use lib.Dec.{eqb, ltb}
+use lib.Dec.{ltb}
+use borrow.Author.Tests.{eq-eqb, ne-eqb}
 use Rattle.base.specs.Answer.{refusal}
-use Rattle.types.specs.MemoryType.{pageBytes, validMemory, validated, buildMemory, byteSize, minimumBytes}
+use Rattle.base.specs.Pick.{pick, both}
+use Rattle.types.specs.MemoryType.{pageBytes, pageOf, memoryType, validExponent, validMemory, validated, buildMemory, byteSize, minimumBytes}
 use Rattle.base.specs.declared.answer.Refusal.{Refusal}
 use Rattle.types.specs.declared.limits.Limits.{Limits}
 use Rattle.types.specs.declared.memory_ty.MemoryType.{MemoryType}
 use Rattle.types.specs.declared.memory_ty.BuiltMemory.the-variants as built
 use Rattle.types.specs.declared.memory_ty.ByteSize.the-variants.{Bytes, Overflow}
-use Rattle.base.proofs.Picks.{pick-true, pick-false, either}
+use Rattle.types.specs.declared.memory_ty.BuiltMemory.{BuiltMemory}
+use Rattle.types.specs.declared.memory_ty.PageSize.the-variants.{One, Wasm}
+use Rattle.base.proofs.Picks.{pick-true, pick-false, both-2, either}
 
 -- the bytes of a minimum that is below 2^64
 pub minimum-is : (t : MemoryType) (size : ℕ) → minimumBytes t ≡ Bytes size → t .limits .minimum * pageBytes (t .page) ≡ size
@@ -22,38 +26,39 @@ minimum-is t size q =
     (λ e. let d : Bytes n ≡ Bytes size = sym (pick-true _ _ _ e) ∙ q in cc)
     (λ e. let d : Overflow ≡ Bytes size = sym (pick-false _ _ _ e) ∙ q in let z : _≡_ {A = ℕ} 0 1 = cc in absurd (omega arith))
 
-validated-is : (s t : MemoryType) → validated s ≡ built.Built t → validMemory t ≡ true
-unfolding validated
-validated-is s t q =
-    either (validMemory s)
-    (λ e. let d : built.Built s ≡ built.Built t = sym (pick-true _ _ _ e) ∙ q in let k : s ≡ t = cc in ap validMemory (sym k) ∙ e)
-    (λ e. let d : built.Refused (refusal 1 0) ≡ built.Built t = sym (pick-false _ _ _ e) ∙ q in let z : _≡_ {A = ℕ} 0 1 = cc in absurd (omega arith))
+-- by the exponent, as the code tests it
+module _ (wide : Bool) (limits : Limits) (e : ℕ) {r : BuiltMemory} where
+  pub built-one : e ≡ 0 → r ≡ validated (memoryType wide One limits) → r ≡ buildMemory wide limits e
+  unfolding buildMemory validated both pick
+  built-one h q = q ∙ sym (rw (eq-eqb e 0 h))
 
-refused-not : (r : Refusal) (t : MemoryType) → built.Refused r ≡ built.Built t → validMemory t ≡ true
-refused-not r t q = let z : _≡_ {A = ℕ} 0 1 = cc in absurd (omega arith)
+  pub built-wasm : (e ≡ 0 → ⊥) → e ≡ 16 → r ≡ validated (memoryType wide Wasm limits) → r ≡ buildMemory wide limits e
+  unfolding buildMemory validated both pick
+  built-wasm h k q = q ∙ sym (rw (ne-eqb e 0 h, eq-eqb e 16 k))
 
--- a built type is valid, and one that is not built is refused by 1
-pub built-valid : (wide : Bool) (limits : Limits) (exponent : ℕ) (t : MemoryType) → buildMemory wide limits exponent ≡ built.Built t → validMemory t ≡ true
-unfolding buildMemory
-built-valid wide limits exponent t q =
-    either (eqb exponent 0)
-    (λ e. validated-is _ t (sym (pick-true _ _ _ e) ∙ q))
-    (λ e. either (eqb exponent 16)
-    (λ d. validated-is _ t (sym (pick-true _ _ _ d) ∙ sym (pick-false _ _ _ e) ∙ q))
-    (λ d. refused-not _ t (sym (pick-false _ _ _ d) ∙ sym (pick-false _ _ _ e) ∙ q)))
+pub built-none : (wide : Bool) (limits : Limits) (e : ℕ) → (e ≡ 0 → ⊥) → (e ≡ 16 → ⊥) → built.Refused (refusal 1 0) ≡ buildMemory wide limits e
+unfolding buildMemory both pick
+built-none wide limits e h k = rw (ne-eqb e 0 h, ne-eqb e 16 k)
 
-validated-no : (s : MemoryType) (r : Refusal) → validated s ≡ built.Refused r → r ≡ refusal 1 0
-unfolding validated
-validated-no s r q =
-    either (validMemory s)
-    (λ e. let d : built.Built s ≡ built.Refused r = sym (pick-true _ _ _ e) ∙ q in let z : _≡_ {A = ℕ} 0 1 = cc in absurd (omega arith))
-    (λ e. let d : built.Refused (refusal 1 0) ≡ built.Refused r = sym (pick-false _ _ _ e) ∙ q in cc)
+-- a built type is the one asked for and valid, and one that is not built is refused by 1
+module _ (wide : Bool) (limits : Limits) (e : ℕ) where
+  pub built-is : (t : MemoryType) → buildMemory wide limits e ≡ built.Built t → memoryType wide (pageOf e) limits ≡ t
+  unfolding buildMemory
+  built-is t q =
+      either (both (validExponent e) (validMemory (memoryType wide (pageOf e) limits)))
+      (λ h. let d : built.Built (memoryType wide (pageOf e) limits) ≡ built.Built t = sym (pick-true _ _ _ h) ∙ q in cc)
+      (λ h. let d : built.Refused (refusal 1 0) ≡ built.Built t = sym (pick-false _ _ _ h) ∙ q in let z : _≡_ {A = ℕ} 0 1 = cc in absurd (omega arith))
 
-pub built-refused : (wide : Bool) (limits : Limits) (exponent : ℕ) (r : Refusal) → buildMemory wide limits exponent ≡ built.Refused r → r ≡ refusal 1 0
-unfolding buildMemory
-built-refused wide limits exponent r q =
-    either (eqb exponent 0)
-    (λ e. validated-no _ r (sym (pick-true _ _ _ e) ∙ q))
-    (λ e. either (eqb exponent 16)
-    (λ d. validated-no _ r (sym (pick-true _ _ _ d) ∙ sym (pick-false _ _ _ e) ∙ q))
-    (λ d. let k : built.Refused (refusal 1 0) ≡ built.Refused r = sym (pick-false _ _ _ d) ∙ sym (pick-false _ _ _ e) ∙ q in cc))
+  pub built-valid : (t : MemoryType) → buildMemory wide limits e ≡ built.Built t → validMemory t ≡ true
+  unfolding buildMemory
+  built-valid t q =
+      either (both (validExponent e) (validMemory (memoryType wide (pageOf e) limits)))
+      (λ h. ap validMemory (sym (built-is t q)) ∙ both-2 _ _ h)
+      (λ h. let d : built.Refused (refusal 1 0) ≡ built.Built t = sym (pick-false _ _ _ h) ∙ q in let z : _≡_ {A = ℕ} 0 1 = cc in absurd (omega arith))
+
+  pub built-refused : (r : Refusal) → buildMemory wide limits e ≡ built.Refused r → r ≡ refusal 1 0
+  unfolding buildMemory
+  built-refused r q =
+      either (both (validExponent e) (validMemory (memoryType wide (pageOf e) limits)))
+      (λ h. let d : built.Built (memoryType wide (pageOf e) limits) ≡ built.Refused r = sym (pick-true _ _ _ h) ∙ q in let z : _≡_ {A = ℕ} 0 1 = cc in absurd (omega arith))
+      (λ h. let d : built.Refused (refusal 1 0) ≡ built.Refused r = sym (pick-false _ _ _ h) ∙ q in cc)

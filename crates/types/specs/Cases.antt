@@ -7,7 +7,7 @@ use lib.Dec.{eqb, ltb}
 use Rattle.base.specs.Pick.{pick, both}
 use Rattle.types.specs.IndexType.{maxSize}
 use Rattle.types.specs.Limits.{validLimits, validMaximum}
-use Rattle.types.specs.MemoryType.{pageBound, validMemory, validated, buildMemory, byteSize, minimumBytes}
+use Rattle.types.specs.MemoryType.{pageBound, validMemory, buildMemory, byteSize, minimumBytes}
 use Rattle.base.specs.Price.{capped, price}
 use Rattle.types.specs.declared.index_ty.IndexType.the-variants.{I32}
 use Rattle.types.specs.declared.limits.Limits.{Limits}
@@ -66,5 +66,5 @@ cases =
     ∷ []
 
 pub casesHold : allHold cases ≡ true
-unfolding allHold cases builtNumber minimumOver price capped buildMemory validated validMemory validLimits validMaximum pageBound minimumBytes byteSize pick both
+unfolding allHold cases builtNumber minimumOver price capped buildMemory validMemory validLimits validMaximum pageBound minimumBytes byteSize pick both
 casesHold = refl

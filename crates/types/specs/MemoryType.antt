@@ -41,6 +41,13 @@ validMemory t = validLimits (t .limits) (pageBound t)
 abbrev pub memoryType : Bool → PageSize → Limits → MemoryType
 memoryType wide p l = record { index = indexOf wide; page = p; limits = l }
 
+-- the exponents there are, and the page of each
+abbrev pub validExponent : ℕ → Bool
+validExponent e = pick (eqb e 0) true (eqb e 16)
+
+abbrev pub pageOf : ℕ → PageSize
+pageOf e = pick (eqb e 0) One Wasm
+
 -- a valid type, or 1
 unfoldable pub validated : MemoryType → BuiltMemory
 validated t = pick (validMemory t) (Built t) (Refused (refusal 1 0))
@@ -48,9 +55,9 @@ validated t = pick (validMemory t) (Built t) (Refused (refusal 1 0))
 -- the type of five fields: 64-bit or not, minimum, maximum if there is one, page exponent; or 1
 unfoldable pub buildMemory : Bool → Limits → ℕ → BuiltMemory
 buildMemory wide l e =
-    pick (eqb e 0)
-    (validated (memoryType wide One l))
-    (pick (eqb e 16) (validated (memoryType wide Wasm l)) (Refused (refusal 1 0)))
+    pick (both (validExponent e) (validMemory (memoryType wide (pageOf e) l)))
+    (Built (memoryType wide (pageOf e) l))
+    (Refused (refusal 1 0))
 
 -- a size in bytes, where it is below 2^64
 unfoldable pub byteSize : ℕ → ByteSize

@@ -1,6 +1,6 @@
 -- `memory::grow::by_reach` meets its contract. Assumes nothing.
 use Rattle.memory.proofs.Stages.{grown-as}
-use Rattle.memory.specs.Grow.{byReach}
+use Rattle.memory.specs.GrowStages.{byReach}
 use borrow.Author.Needs.{needs}
 use Rattle.memory.proofs.grow.by_reach.Statement.{statement}
 use Rattle.memory.proofs.grow.by_reach.Tie as tie

@@ -1,6 +1,6 @@
 -- `memory::grow::enlarge_by` meets its contract. Assumes nothing.
 use Rattle.memory.proofs.Stages.{grown-as}
-use Rattle.memory.specs.Grow.{enlargedBy}
+use Rattle.memory.specs.GrowStages.{enlargedBy}
 use borrow.Author.Needs.{needs}
 use Rattle.memory.proofs.grow.enlarge_by.Statement.{statement}
 use Rattle.memory.proofs.grow.enlarge_by.Tie as tie

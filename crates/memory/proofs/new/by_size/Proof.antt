@@ -1,6 +1,6 @@
 -- `memory::new::by_size` meets its contract. Assumes nothing.
 use Rattle.memory.proofs.Stages.{created-as}
-use Rattle.memory.specs.New.{bySize}
+use Rattle.memory.specs.NewStages.{bySize}
 use borrow.Author.Needs.{needs}
 use Rattle.memory.proofs.new.by_size.Statement.{statement}
 use Rattle.memory.proofs.new.by_size.Tie as tie

@@ -1,6 +1,6 @@
 -- `memory::new::by_type` meets its contract. Assumes nothing.
 use Rattle.memory.proofs.Stages.{created-as}
-use Rattle.memory.specs.New.{byType}
+use Rattle.memory.specs.NewStages.{byType}
 use borrow.Author.Needs.{needs}
 use Rattle.memory.proofs.new.by_type.Statement.{statement}
 use Rattle.memory.proofs.new.by_type.Tie as tie

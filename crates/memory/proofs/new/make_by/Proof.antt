@@ -1,6 +1,6 @@
 -- `memory::new::make_by` meets its contract. Assumes nothing.
 use Rattle.memory.proofs.Stages.{created-as}
-use Rattle.memory.specs.New.{madeBy}
+use Rattle.memory.specs.NewStages.{madeBy}
 use borrow.Author.Needs.{needs}
 use Rattle.memory.proofs.new.make_by.Statement.{statement}
 use Rattle.memory.proofs.new.make_by.Tie as tie

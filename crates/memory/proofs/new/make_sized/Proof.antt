@@ -1,6 +1,6 @@
 -- `memory::new::make_sized` meets its contract. Assumes nothing.
 use Rattle.memory.proofs.Growths.{created-room}
-use Rattle.memory.specs.New.{madeOf}
+use Rattle.memory.specs.NewStages.{madeOf}
 use borrow.Author.Needs.{needs}
 use Rattle.memory.proofs.new.make_sized.Statement.{statement}
 use Rattle.memory.proofs.new.make_sized.Tie as tie

@@ -1,6 +1,6 @@
 -- `memory::new::new_memory` meets its contract. Assumes nothing.
-use Rattle.memory.proofs.Stages.{stage}
-use Rattle.memory.specs.New.{newMemory}
+use Rattle.memory.proofs.Stages.{created-as}
+use Rattle.memory.proofs.Readings.{new-goes, new-stops}
 use Rattle.base.proofs.Picks.{known-test}
 use Rattle.base.proofs.Spans.{within-is}
 use Rattle.base.specs.Span.{inside}
@@ -18,15 +18,15 @@ same-length : tie.Need-same-length
 same-length c = search needs
 
 returns : tie.Need-returns
-unfolding newMemory inside
-returns c = search stage
+unfolding inside
+returns c = search (new-goes, known-test)
 
 no-memory-requires : tie.Need-no-memory-requires
 no-memory-requires c κs = search needs
 
 returns-2 : tie.Need-returns-2
-unfolding newMemory inside
-returns-2 c = search stage
+unfolding inside
+returns-2 c = search (new-stops, known-test, created-as)
 
 pub new-memory-spec : {M : Type 1} → statement M
 new-memory-spec =

@@ -1,6 +1,6 @@
 -- `memory::memory::Memory::grow` meets its contract. Assumes nothing.
-use Rattle.memory.proofs.Stages.{stage}
-use Rattle.memory.specs.Grow.{growMemory}
+use Rattle.memory.proofs.Stages.{grown-as}
+use Rattle.memory.proofs.Readings.{grow-goes, grow-stops}
 use Rattle.base.proofs.Picks.{known-test}
 use borrow.Author.Needs.{needs}
 use Rattle.memory.proofs.memory.Memory.grow.Statement.{statement}
@@ -16,15 +16,13 @@ same-length : tie.Need-same-length
 same-length c = search needs
 
 returns : tie.Need-returns
-unfolding growMemory
-returns c = search stage
+returns c = search (grow-goes, known-test)
 
 refused-requires : tie.Need-refused-requires
 refused-requires c κs = search needs
 
 returns-2 : tie.Need-returns-2
-unfolding growMemory
-returns-2 c = search stage
+returns-2 c = search (grow-stops, known-test, grown-as)
 
 pub grow-spec : {M : Type 1} → statement M
 grow-spec =

@@ -1,0 +1,40 @@
+-- The stages of a creation as the code has them; crates/memory/proofs/Readings.antt shows that together they are `newMemory`.
+use Prim.Native.Nat.{ℕ}
+use mathlib.Core.List.{List}
+use lib.Dec.{leb}
+use lib.ListN.{replicate}
+use Rattle.base.specs.Span.{over}
+use Rattle.base.specs.Answer.{refusal}
+use Rattle.base.specs.Grant.{grantCreation}
+use Rattle.base.specs.declared.limiter.Limiter.{Limiter}
+use Rattle.base.specs.declared.limiter.Permit.{Permit}
+use Rattle.base.specs.declared.limiter.Permit.the-variants.{Granted, Denied}
+use Rattle.types.specs.MemoryType.{minimumBytes}
+use Rattle.types.specs.declared.memory_ty.MemoryType.{MemoryType}
+use Rattle.types.specs.declared.memory_ty.BuiltMemory.{BuiltMemory}
+use Rattle.types.specs.declared.memory_ty.BuiltMemory.the-variants as built
+use Rattle.types.specs.declared.memory_ty.ByteSize.{ByteSize}
+use Rattle.types.specs.declared.memory_ty.ByteSize.the-variants.{Bytes, Overflow}
+use Rattle.memory.specs.New.{Created, done, refused, memoryOf}
+use Rattle.memory.specs.declared.new.MadeMemory.the-variants.{Made}
+
+-- the minimum's bytes become 0, whatever stood there
+unfoldable pub madeBy : Permit → Limiter → MemoryType → ℕ → ℕ → ℕ → List ℕ → Created
+madeBy (Denied r) l t start room size bs = done (refused l r) bs
+madeBy Granted l t start room size bs =
+    done (record { made = Made (memoryOf t start room size); limiter = l }) (over bs start (replicate size 0))
+
+-- limiter 3/4, room 5 with notice
+unfoldable pub madeOf : Limiter → MemoryType → ℕ → ℕ → ℕ → List ℕ → Created
+madeOf l t start room size bs =
+    madeBy (grantCreation l (leb size room) .permit) (grantCreation l (leb size room) .limiter) t start room size bs
+
+-- 2 where the minimum in bytes is 2^64
+unfoldable pub bySize : ByteSize → Limiter → MemoryType → ℕ → ℕ → List ℕ → Created
+bySize Overflow l t start room bs = done (refused l (refusal 2 0)) bs
+bySize (Bytes size) l t start room bs = madeOf l t start room size bs
+
+-- 1 where the type is invalid
+unfoldable pub byType : BuiltMemory → Limiter → ℕ → ℕ → List ℕ → Created
+byType (built.Refused r) l start room bs = done (refused l r) bs
+byType (built.Built t) l start room bs = bySize (minimumBytes t) l t start room bs
