@@ -37,14 +37,20 @@ use Rattle.base.proofs.Picks.{pick-true, pick-false, both-true, both-1, both-2}
 use Rattle.base.proofs.Spans.{within-is, length-over, over-low, over-after}
 use Rattle.base.proofs.Moves.{length-cut}
 use Rattle.base.proofs.Stepping.{fill-closed, init-closed, copy-closed}
+use Rattle.table.proofs.Readings.{grow-reads, new-reads, fill-reads, copy-reads, within-reads, init-reads}
 use Rattle.base.proofs.Grants.{granted-span, granted-creation, granted-admits}
 use Rattle.table.specs.Table.{Written, resized, soundBuffer, soundSize, soundTable, setSound, setTable}
 use Rattle.table.specs.Element.{MadeWith, dropped, soundSegment, newSegment}
-use Rattle.table.specs.New.{Created, refused, tableOf, madeBy, madeOf, byKind, byType, newTable}
-use Rattle.table.specs.Grow.{Grown, done, answered, enlargedBy, grantOf, growTo, growSome, growSound, growTable}
-use Rattle.table.specs.Fill.{fillKind, fillSound, fillTable}
-use Rattle.table.specs.Copy.{roomsApart, soundTwo, copySpan, copyKinds, copyTable, copyWithin}
-use Rattle.table.specs.Init.{initSome, initSpan, initKinds, initTable}
+use Rattle.table.specs.New.{Created, refused, tableOf, newTable}
+use Rattle.table.specs.Stages.{madeBy, madeOf, byKind, byType, copyStaged, fillStaged, growStaged, initStaged, newStaged, withinStaged}
+use Rattle.table.specs.Grow.{Grown, done, answered, growTable}
+use Rattle.table.specs.Stages.{enlargedBy, grantOf, growTo, growSome, growSound}
+use Rattle.table.specs.Fill.{fillTable}
+use Rattle.table.specs.Stages.{fillKind, fillSound}
+use Rattle.table.specs.Copy.{roomsApart, soundTwo, copyTable, copyWithin}
+use Rattle.table.specs.Stages.{copySpan, copyKinds}
+use Rattle.table.specs.Init.{initTable}
+use Rattle.table.specs.Stages.{initSome, initSpan, initKinds}
 use Rattle.table.specs.declared.table.Table.{Table}
 use Rattle.table.specs.declared.element.ElementSegment.{ElementSegment}
 use Rattle.table.specs.declared.element.MadeSegment.the-variants as segment
@@ -121,8 +127,8 @@ module _ (r : ℕ) (t : Table) (cs : List ℕ) (i n : ℕ) (f : Fuel) where
       (sym (fill-closed n cs (t .start) i bits (omega arith)), fill-kept _ _ n bits _ cs (omega arith) (omega arith) room))
 
   pub fill-frame : (v : TypedRawRef) → SpanFrame f cs (fillSteps n cs (t .start) i (v .raw .bits)) (t .start) (t .start + t .room) (fillTable r t cs i v n f)
-  unfolding fillTable fillSound
-  fill-frame v = span-pick f cs _ _ _ _ _ _ (λ h. span-pick f cs _ _ _ _ _ _ (λ k. fill-span (v .raw .bits) h))
+  unfolding fillStaged fillSound
+  fill-frame v = rw fill-reads (span-pick f cs _ _ _ _ _ _ (λ h. span-pick f cs _ _ _ _ _ _ (λ k. fill-span (v .raw .bits) h)))
 
 -- copy: the spans of two tables whose rooms follow each other lie apart
 apart-rooms : (d s : Table) (i j n : ℕ) → roomsApart d s ≡ true → i + n ≤ d .room → j + n ≤ s .room → Apart n (d .start) i (s .start) j
@@ -153,20 +159,21 @@ module _ (r : ℕ) (d s : Table) (cs : List ℕ) (i j n : ℕ) (f : Fuel) where
       (sym (copy-closed n cs (d .start) i (s .start) j (omega arith) (omega arith) (a p q)), over-kept _ _ _ cs _ (omega arith) (omega arith) room))
 
   pub copy-frame : SpanFrame f cs (copySteps n cs (d .start) i (s .start) j) (d .start) (d .start + d .room) (copyTable r d s cs i j n f)
-  unfolding copyTable copyKinds soundTwo
+  unfolding copyStaged copyKinds soundTwo
   copy-frame =
-      span-pick f cs _ _ _ _ _ _
+      rw copy-reads
+      (span-pick f cs _ _ _ _ _ _
       (λ h.
       let p = both-1 _ _ h in
       let q = both-1 _ _ (both-2 _ _ h) in
       let a = both-2 _ _ (both-2 _ _ h) in
       span-pick f cs _ _ _ _ _ _
-      (λ k. copy-span p q (λ b c. apart-rooms d s i j n a (omega (arith, sound-size d _ p)) (omega (arith, sound-size s _ q)))))
+      (λ k. copy-span p q (λ b c. apart-rooms d s i j n a (omega (arith, sound-size d _ p)) (omega (arith, sound-size s _ q))))))
 
 pub within-frame : (r : ℕ) (t : Table) (cs : List ℕ) (i j n : ℕ) (f : Fuel)
     → SpanFrame f cs (copySteps n cs (t .start) i (t .start) j) (t .start) (t .start + t .room) (copyWithin r t cs i j n f)
-unfolding copyWithin
-within-frame r t cs i j n f = span-pick f cs _ _ _ _ _ _ (λ h. copy-span r t t cs i j n f h h (λ b c. inl refl))
+unfolding withinStaged
+within-frame r t cs i j n f = rw within-reads (span-pick f cs _ _ _ _ _ _ (λ h. copy-span r t t cs i j n f h h (λ b c. inl refl)))
 
 -- init
 module _ (r : ℕ) (t : Table) (s : ElementSegment) (cs items : List ℕ) (i j n : ℕ) (f : Fuel) where
@@ -196,10 +203,11 @@ module _ (r : ℕ) (t : Table) (s : ElementSegment) (cs items : List ℕ) (i j n
       (init-some h k (within-is i n (t .size) (both-1 _ _ b)) (within-is j n (s .size) (both-2 _ _ b))))
 
   pub init-frame : SpanFrame f cs (initSteps n cs (t .start) i items (s .start + j)) (t .start) (t .start + t .room) (initTable r t s cs items i j n f)
-  unfolding initTable initKinds
+  unfolding initStaged initKinds
   init-frame =
-      span-pick f cs _ _ _ _ _ _
-      (λ h. span-pick f cs _ _ _ _ _ _ (λ k. init-span (both-1 _ _ h) (both-2 _ _ h)))
+      rw init-reads
+      (span-pick f cs _ _ _ _ _ _
+      (λ h. span-pick f cs _ _ _ _ _ _ (λ k. init-span (both-1 _ _ h) (both-2 _ _ h))))
 
 -- set: one cell becomes the reference
 pub record SetFrame (t : Table) (cs : List ℕ) (i bits : ℕ) (o : Written) : Type 0 where
@@ -296,8 +304,8 @@ module _ (r : ℕ) (t : Table) (cs : List ℕ) (f : Fuel) (l : Limiter) (h : sou
       (stays t cs _ f l)
 
 pub grow-frame : (r : ℕ) (t : Table) (cs : List ℕ) (n : ℕ) (v : TypedRawRef) (f : Fuel) (l : Limiter) → GrowFrame t cs (growTable r t cs n v f l)
-unfolding growTable
-grow-frame r t cs n v f l = pick-case (GrowFrame t cs) _ _ _ (λ h. grow-sound r t cs f l h n v) (stays t cs _ f l)
+unfolding growStaged
+grow-frame r t cs n v f l = rw grow-reads (pick-case (GrowFrame t cs) _ _ _ (λ h. grow-sound r t cs f l h n v) (stays t cs _ f l))
 
 -- new: a refused creation leaves the cells; the table that is made stands at the place given and is sound
 pub record NewFrame (start room : ℕ) (cs : List ℕ) (o : Created) : Type 0 where
@@ -382,9 +390,10 @@ built-valid k wide l t = go (validTable (tableType k wide l)) refl
 
 pub new-frame : (k : RefType) (wide : Bool) (limits : Limits) (init : TypedRawRef) (start room : ℕ) (cs : List ℕ) (l : Limiter)
     → NewFrame start room cs (newTable k wide limits init start room cs l)
-unfolding newTable
+unfolding newStaged
 new-frame k wide limits init start room cs l =
-    pick-case (NewFrame start room cs) _ _ _ (λ h. made-typed start room cs h _ l init (λ t e. built-valid k wide limits t e)) (none-made start room cs l _)
+    rw new-reads
+    (pick-case (NewFrame start room cs) _ _ _ (λ h. made-typed start room cs h _ l init (λ t e. built-valid k wide limits t e)) (none-made start room cs l _))
 
 -- segments: a refused one leaves the items; a new one stands at the place given; a new one and a dropped one are sound
 pub record SegmentFrame (start places : ℕ) (items : List ℕ) (o : MadeWith) : Type 0 where

@@ -17,7 +17,7 @@ use Rattle.base.specs.declared.limiter.Permit.the-variants.{Granted}
 use Rattle.base.proofs.Picks.{pick-false}
 use Rattle.base.proofs.Grants.{granted-creation, granted-growth}
 use Rattle.table.specs.Facts.{Roomed, Roomy}
-use Rattle.table.specs.Grow.{grantOf}
+use Rattle.table.specs.Stages.{grantOf}
 use Rattle.table.specs.declared.table.Table.{Table}
 
 -- the cells of a creation that is granted lie in the buffer

@@ -1,23 +1,21 @@
--- Document 01, "First check wins", grow table; WebAssembly Core Specification 3.0, Execution, Modules, growing tables. R is the bytes that a reference counts.
-use Prim.Native.Nat.{ℕ, _+_, _-_, _*_}
+-- Document 01, "First check wins", grow table: 14; by 0 accepted; 6 at the index type's largest size; limiter 6/4; 6 with notice above the maximum; 7 and 8 with notice.
+-- WebAssembly Core Specification 3.0, Execution, Modules, growing tables: the new cells hold the reference given. R is the bytes that a reference counts.
+use Prim.Native.Nat.{ℕ, _+_, _*_}
 use mathlib.Core.List.{List}
 use lib.Dec.{eqb, leb, ltb}
 use lib.ListN.{length, replicate}
-use Rattle.base.specs.Pick.{pick}
+use Rattle.base.specs.Pick.{pick, unless}
 use Rattle.base.specs.Span.{over}
 use Rattle.base.specs.Answer.{refuse, accept}
+use Rattle.base.specs.Price.{price}
+use Rattle.base.specs.Fuel.{short, paid}
+use Rattle.base.specs.Limiter.{saysOf, moved, noticed}
+use Rattle.base.specs.declared.answer.Answer.{Answer}
+use Rattle.base.specs.declared.fuel.Fuel.{Fuel}
+use Rattle.base.specs.declared.limiter.Limiter.{Limiter}
 use Rattle.types.specs.IndexType.{maxSize}
 use Rattle.types.specs.Limits.{admitsOf}
 use Rattle.types.specs.TableType.{elementMatches}
-use Rattle.base.specs.Price.{price}
-use Rattle.base.specs.Grant.{grantGrowth}
-use Rattle.base.specs.declared.answer.Answer.{Answer}
-use Rattle.base.specs.declared.answer.Answer.the-variants as answer
-use Rattle.base.specs.declared.fuel.Fuel.{Fuel}
-use Rattle.base.specs.declared.grant.Growth.{Growth}
-use Rattle.base.specs.declared.limiter.Limiter.{Limiter}
-use Rattle.base.specs.declared.limiter.Permit.{Permit}
-use Rattle.base.specs.declared.limiter.Permit.the-variants.{Granted, Denied}
 use Rattle.types.specs.declared.raw.TypedRawRef.{TypedRawRef}
 use Rattle.table.specs.Table.{resized, soundTable}
 use Rattle.table.specs.declared.table.Table.{Table}
@@ -34,36 +32,21 @@ done r cs = record { out = r; cells = cs }
 abbrev pub answered : Answer → Table → Fuel → Limiter → GrownTable
 answered a t f l = record { answer = a; table = t; fuel = f; limiter = l }
 
--- the new cells hold the reference given, and the answer is the size before
-unfoldable pub enlargedBy : Permit → Fuel → Limiter → Table → List ℕ → ℕ → ℕ → Grown
-enlargedBy (Denied r) f l t cs size bits = done (answered (answer.Refusal r) t f l) cs
-enlargedBy Granted f l t cs size bits =
-    done (answered (accept (t .size)) (resized t size) f l) (over cs (t .start + t .size) (replicate (size - t .size) bits))
+-- the price of n cells
+abbrev pub cellsPrice : ℕ → ℕ → Fuel → ℕ
+cellsPrice r n f = price (f .costs .copied) (n * r)
 
--- limiter 6/4; 6 with notice above the type's maximum; 7 with notice; 8 with notice
-unfoldable pub grantOf : ℕ → Table → ℕ → Fuel → Limiter → Growth
-grantOf r t size f l =
-    grantGrowth l f (admitsOf (t .ty .limits) size) (price (f .costs .copied) ((size - t .size) * r)) (leb size (t .room))
-
-unfoldable pub growTo : ℕ → Table → List ℕ → ℕ → ℕ → Fuel → Limiter → Grown
-growTo r t cs size bits f l =
-    enlargedBy (grantOf r t size f l .permit) (grantOf r t size f l .fuel) (grantOf r t size f l .limiter) t cs size bits
-
--- 6 where the new size reaches the index type's largest size
-unfoldable pub growSome : ℕ → Table → List ℕ → ℕ → ℕ → Fuel → Limiter → Grown
-growSome r t cs n bits f l =
-    pick (ltb (t .size + n) (maxSize (t .ty .index)))
-    (growTo r t cs (t .size + n) bits f l)
-    (done (answered (refuse 6 0) t f l) cs)
-
--- 14; by 0 accepted
-unfoldable pub growSound : ℕ → Table → List ℕ → ℕ → TypedRawRef → Fuel → Limiter → Grown
-growSound r t cs n v f l =
-    pick (elementMatches (t .ty) (v .ty))
-    (pick (eqb n 0) (done (answered (accept (t .size)) t f l) cs) (growSome r t cs n (v .raw .bits) f l))
-    (done (answered (refuse 14 0) t f l) cs)
-
--- growth by n cells, or 19
+-- growth by n cells
 unfoldable pub growTable : ℕ → Table → List ℕ → ℕ → TypedRawRef → Fuel → Limiter → Grown
 growTable r t cs n v f l =
-    pick (soundTable t (length cs)) (growSound r t cs n v f l) (done (answered (refuse 19 0) t f l) cs)
+    unless (soundTable t (length cs)) (done (answered (refuse 19 0) t f l) cs)
+    (unless (elementMatches (t .ty) (v .ty)) (done (answered (refuse 14 0) t f l) cs)
+    (pick (eqb n 0) (done (answered (accept (t .size)) t f l) cs)
+    (unless (ltb (t .size + n) (maxSize (t .ty .index))) (done (answered (refuse 6 0) t f l) cs)
+    (pick (eqb (saysOf l) 1) (done (answered (refuse 6 0) t f (moved l)) cs)
+    (pick (eqb (saysOf l) 2) (done (answered (refuse 4 0) t f (moved l)) cs)
+    (unless (admitsOf (t .ty .limits) (t .size + n)) (done (answered (noticed (moved l) 6 0) t f (moved (moved l))) cs)
+    (pick (short f (cellsPrice r n f)) (done (answered (noticed (moved l) 7 (cellsPrice r n f)) t f (moved (moved l))) cs)
+    (unless (leb (t .size + n) (t .room)) (done (answered (noticed (moved l) 8 0) t (paid f (cellsPrice r n f)) (moved (moved l))) cs)
+    (done (answered (accept (t .size)) (resized t (t .size + n)) (paid f (cellsPrice r n f)) (moved l))
+    (over cs (t .start + t .size) (replicate n (v .raw .bits))))))))))))

@@ -6,3 +6,4 @@ pub mod Grow
 pub mod Fill
 pub mod Copy
 pub mod Init
+pub mod Stages

@@ -2,25 +2,22 @@
 use Prim.Native.Nat.{ℕ}
 use mathlib.Core.Bool.{Bool}
 use mathlib.Core.List.{List}
-use lib.Dec.{leb}
+use lib.Dec.{eqb, leb}
 use lib.ListN.{length, replicate}
-use Rattle.base.specs.Pick.{pick}
+use Rattle.base.specs.Pick.{pick, unless}
 use Rattle.base.specs.Span.{over}
 use Rattle.base.specs.Answer.{refusal}
-use Rattle.types.specs.TableType.{buildTable, elementMatches}
-use Rattle.base.specs.Grant.{grantCreation}
+use Rattle.base.specs.Limiter.{saysOf, moved, heardOf}
 use Rattle.base.specs.declared.answer.Refusal.{Refusal}
 use Rattle.base.specs.declared.limiter.Limiter.{Limiter}
-use Rattle.base.specs.declared.limiter.Permit.{Permit}
-use Rattle.base.specs.declared.limiter.Permit.the-variants.{Granted, Denied}
+use Rattle.types.specs.TableType.{tableType, validTable, elementMatches}
 use Rattle.types.specs.declared.limits.Limits.{Limits}
 use Rattle.types.specs.declared.raw.RefType.{RefType}
 use Rattle.types.specs.declared.raw.TypedRawRef.{TypedRawRef}
 use Rattle.types.specs.declared.table_ty.TableType.{TableType}
-use Rattle.types.specs.declared.table_ty.BuiltTable.{BuiltTable}
-use Rattle.types.specs.declared.table_ty.BuiltTable.the-variants as built
 use Rattle.table.specs.Table.{soundBuffer}
 use Rattle.table.specs.declared.table.Table.{Table}
+use Rattle.table.specs.declared.new.MadeTable.{MadeTable}
 use Rattle.table.specs.declared.new.MadeTable.the-variants.{Made, Refused}
 use Rattle.table.specs.declared.new.CreatedTable.{CreatedTable}
 
@@ -39,37 +36,14 @@ refused l r = record { made = Refused r; limiter = l }
 abbrev pub tableOf : TableType → ℕ → ℕ → ℕ → Table
 tableOf t start room size = record { ty = t; start = start; room = room; size = size }
 
--- the minimum's cells become the initial reference, whatever stood there
-unfoldable pub madeBy : Permit → Limiter → TableType → ℕ → ℕ → ℕ → List ℕ → Created
-madeBy (Denied r) l t start room bits cs = done (refused l r) cs
-madeBy Granted l t start room bits cs =
-    done (record { made = Made (tableOf t start room (t .limits .minimum)); limiter = l })
-    (over cs start (replicate (t .limits .minimum) bits))
-
--- limiter 3/4, room 5 with notice
-unfoldable pub madeOf : Limiter → TableType → ℕ → ℕ → ℕ → List ℕ → Created
-madeOf l t start room bits cs =
-    madeBy (grantCreation l (leb (t .limits .minimum) room) .permit)
-    (grantCreation l (leb (t .limits .minimum) room) .limiter)
-    t
-    start
-    room
-    bits
-    cs
-
--- 14 where the initial reference is of another kind
-unfoldable pub byKind : Limiter → TableType → ℕ → ℕ → TypedRawRef → List ℕ → Created
-byKind l t start room init cs =
-    pick (elementMatches t (init .ty)) (madeOf l t start room (init .raw .bits) cs) (done (refused l (refusal 14 0)) cs)
-
--- 1 where the type is invalid
-unfoldable pub byType : BuiltTable → Limiter → ℕ → ℕ → TypedRawRef → List ℕ → Created
-byType (built.Refused r) l start room init cs = done (refused l r) cs
-byType (built.Built t) l start room init cs = byKind l t start room init cs
-
--- a new table in a room of the buffer, or 19 where the room is not inside it
+-- a new table in the room cells from start on
 unfoldable pub newTable : RefType → Bool → Limits → TypedRawRef → ℕ → ℕ → List ℕ → Limiter → Created
 newTable k wide limits init start room cs l =
-    pick (soundBuffer start room (length cs))
-    (byType (buildTable k wide limits) l start room init cs)
-    (done (refused l (refusal 19 0)) cs)
+    unless (soundBuffer start room (length cs)) (done (refused l (refusal 19 0)) cs)
+    (unless (validTable (tableType k wide limits)) (done (refused l (refusal 1 0)) cs)
+    (unless (elementMatches (tableType k wide limits) (init .ty)) (done (refused l (refusal 14 0)) cs)
+    (pick (eqb (saysOf l) 1) (done (refused (moved l) (refusal 3 0)) cs)
+    (pick (eqb (saysOf l) 2) (done (refused (moved l) (refusal 4 0)) cs)
+    (unless (leb (limits .minimum) room) (done (refused (moved (moved l)) (heardOf (saysOf (moved l)) (refusal 5 0))) cs)
+    (done (record { made = Made (tableOf (tableType k wide limits) start room (limits .minimum)); limiter = moved l })
+    (over cs start (replicate (limits .minimum) (init .raw .bits)))))))))

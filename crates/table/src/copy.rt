@@ -15,7 +15,8 @@ ghost use Rattle.base.specs.Span.{over, cut};
 ghost use Rattle.base.specs.Grant.{spanDone, spanned};
 ghost use Rattle.types.specs.Raw.{rawBytes};
 ghost use Rattle.table.specs.Facts.{Goes, Within};
-ghost use Rattle.table.specs.Copy.{copySpan, roomsApart, soundTwo, copyKinds, copyTable, copyWithin};
+ghost use Rattle.table.specs.Copy.{roomsApart, soundTwo, copyTable, copyWithin};
+ghost use Rattle.table.specs.Stages.{copySpan, copyKinds};
 
 // By what bounds and fuel say.
 fn copy_by(

@@ -16,7 +16,8 @@ ghost use Rattle.base.specs.Span.{over};
 ghost use Rattle.base.specs.Grant.{spanDone, spanned};
 ghost use Rattle.types.specs.Raw.{rawBytes};
 ghost use Rattle.table.specs.Facts.{Goes, Within};
-ghost use Rattle.table.specs.Fill.{fillKind, fillSound, fillTable};
+ghost use Rattle.table.specs.Fill.{fillTable};
+ghost use Rattle.table.specs.Stages.{fillKind, fillSound};
 
 // By what bounds and fuel say.
 fn fill_by(

@@ -20,7 +20,8 @@ ghost use Rattle.base.specs.Answer.{refuse};
 ghost use Rattle.types.specs.IndexType.{maxSize};
 ghost use Rattle.types.specs.Raw.{rawBytes};
 ghost use Rattle.table.specs.Facts.{Roomy, Roomed};
-ghost use Rattle.table.specs.Grow.{done, answered, enlargedBy, grantOf, growTo, growSome, growSound, growTable};
+ghost use Rattle.table.specs.Grow.{done, answered, growTable};
+ghost use Rattle.table.specs.Stages.{enlargedBy, grantOf, growTo, growSome, growSound};
 
 pub struct GrownTable {
     pub answer: Answer,

@@ -19,7 +19,8 @@ ghost use Rattle.types.specs.Raw.{rawBytes};
 ghost use Rattle.table.specs.Facts.{Within, Places};
 ghost use Rattle.table.specs.Table.{soundTable};
 ghost use Rattle.table.specs.Element.{soundSegment};
-ghost use Rattle.table.specs.Init.{initSome, initSpan, initKinds, initTable};
+ghost use Rattle.table.specs.Init.{initTable};
+ghost use Rattle.table.specs.Stages.{initSome, initSpan, initKinds};
 
 // By what the fuel step says.
 fn init_by(

@@ -15,7 +15,8 @@ ghost use Prim.Native.Nat.{_+_, _≤_};
 ghost use lib.ListN.{length};
 ghost use Rattle.base.specs.declared.limiter.Permit.the-variants.{Granted};
 ghost use Rattle.types.specs.TableType.{buildTable};
-ghost use Rattle.table.specs.New.{done, refused, madeBy, madeOf, byKind, byType, newTable};
+ghost use Rattle.table.specs.New.{done, refused, newTable};
+ghost use Rattle.table.specs.Stages.{madeBy, madeOf, byKind, byType};
 
 pub enum MadeTable {
     Made(Table),

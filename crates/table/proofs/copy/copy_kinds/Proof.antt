@@ -1,6 +1,6 @@
 -- `table::copy::copy_kinds` meets its contract. Assumes nothing.
 use Rattle.table.proofs.Exits.{exits}
-use Rattle.table.specs.Copy.{copyKinds}
+use Rattle.table.specs.Stages.{copyKinds}
 use borrow.Author.Needs.{needs}
 use Rattle.table.proofs.copy.copy_kinds.Statement.{statement}
 use Rattle.table.proofs.copy.copy_kinds.Tie as tie

@@ -1,6 +1,6 @@
 -- `table::copy::copy_span` meets its contract. Assumes nothing.
 use Rattle.table.proofs.Outcomes.{goes-both}
-use Rattle.table.specs.Copy.{copySpan}
+use Rattle.table.specs.Stages.{copySpan}
 use borrow.Author.Needs.{needs}
 use Rattle.table.proofs.copy.copy_span.Statement.{statement}
 use Rattle.table.proofs.copy.copy_span.Tie as tie

@@ -1,6 +1,6 @@
 -- `table::grow::enlarge_by` meets its contract. Assumes nothing.
 use Rattle.table.proofs.Exits.{grown-as}
-use Rattle.table.specs.Grow.{enlargedBy}
+use Rattle.table.specs.Stages.{enlargedBy}
 use borrow.Author.Needs.{needs}
 use mathlib.Core.Path.{refl}
 use Rattle.table.proofs.grow.enlarge_by.Statement.{statement}

@@ -1,7 +1,7 @@
 -- `table::grow::grow_some` meets its contract. Assumes nothing.
 use Rattle.table.proofs.Exits.{exits, grown-as}
 use Rattle.table.proofs.Growths.{grows-past}
-use Rattle.table.specs.Grow.{growSome}
+use Rattle.table.specs.Stages.{growSome}
 use borrow.Author.Needs.{needs}
 use mathlib.Core.Path.{refl}
 use Rattle.table.proofs.grow.grow_some.Statement.{statement}

@@ -1,6 +1,6 @@
 -- `table::init::init_kinds` meets its contract. Assumes nothing.
 use Rattle.table.proofs.Exits.{exits}
-use Rattle.table.specs.Init.{initKinds}
+use Rattle.table.specs.Stages.{initKinds}
 use borrow.Author.Needs.{needs}
 use Rattle.table.proofs.init.init_kinds.Statement.{statement}
 use Rattle.table.proofs.init.init_kinds.Tie as tie

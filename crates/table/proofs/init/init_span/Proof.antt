@@ -1,7 +1,7 @@
 -- `table::init::init_span` meets its contract. Assumes nothing.
 use Rattle.table.proofs.Exits.{exits}
 use Rattle.table.proofs.Outcomes.{ends-within}
-use Rattle.table.specs.Init.{initSpan}
+use Rattle.table.specs.Stages.{initSpan}
 use borrow.Author.Needs.{needs}
 use Rattle.table.proofs.init.init_span.Statement.{statement}
 use Rattle.table.proofs.init.init_span.Tie as tie

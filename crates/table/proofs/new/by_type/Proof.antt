@@ -1,6 +1,6 @@
 -- `table::new::by_type` meets its contract. Assumes nothing.
 use Rattle.table.proofs.Exits.{created-as}
-use Rattle.table.specs.New.{byType}
+use Rattle.table.specs.Stages.{byType}
 use borrow.Author.Needs.{needs}
 use mathlib.Core.Path.{refl}
 use Rattle.table.proofs.new.by_type.Statement.{statement}

@@ -1,6 +1,6 @@
 -- `table::new::make_by` meets its contract. Assumes nothing.
 use Rattle.table.proofs.Exits.{created-as}
-use Rattle.table.specs.New.{madeBy}
+use Rattle.table.specs.Stages.{madeBy}
 use borrow.Author.Needs.{needs}
 use mathlib.Core.Path.{refl}
 use Rattle.table.proofs.new.make_by.Statement.{statement}

@@ -1,7 +1,8 @@
 -- `table::new::new_table` meets its contract. Assumes nothing.
 use Rattle.table.proofs.Exits.{exits}
 use Rattle.table.proofs.Sounds.{tested-buffer}
-use Rattle.table.specs.New.{newTable}
+use Rattle.table.specs.Stages.{newStaged}
+use Rattle.table.proofs.Readings.{new-reads}
 use borrow.Author.Needs.{needs}
 use Rattle.table.proofs.new.new_table.Statement.{statement}
 use Rattle.table.proofs.new.new_table.Tie as tie
@@ -16,15 +17,15 @@ same-length : tie.Need-same-length
 same-length c = search needs
 
 returns : tie.Need-returns
-unfolding newTable
-returns c = search exits
+unfolding newStaged
+returns c = rw new-reads (search exits)
 
 no-table-requires : tie.Need-no-table-requires
 no-table-requires c κs = search needs
 
 returns-2 : tie.Need-returns-2
-unfolding newTable
-returns-2 c = search exits
+unfolding newStaged
+returns-2 c = rw new-reads (search exits)
 
 pub new-table-spec : {M : Type 1} → statement M
 new-table-spec =

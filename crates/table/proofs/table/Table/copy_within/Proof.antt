@@ -1,7 +1,8 @@
 -- `table::table::Table::copy_within` meets its contract. Assumes nothing.
 use Rattle.table.proofs.Exits.{exits}
 use Rattle.table.proofs.Sounds.{tested-within}
-use Rattle.table.specs.Copy.{copyWithin}
+use Rattle.table.specs.Stages.{withinStaged}
+use Rattle.table.proofs.Readings.{within-reads}
 use borrow.Author.Needs.{needs}
 use Rattle.table.proofs.table.Table.copy_within.Statement.{statement}
 use Rattle.table.proofs.table.Table.copy_within.Tie as tie
@@ -16,15 +17,15 @@ same-length : tie.Need-same-length
 same-length c = search needs
 
 returns : tie.Need-returns
-unfolding copyWithin
-returns c = search exits
+unfolding withinStaged
+returns c = rw within-reads (search exits)
 
 not-spanned-requires : tie.Need-not-spanned-requires
 not-spanned-requires c κs = search needs
 
 returns-2 : tie.Need-returns-2
-unfolding copyWithin
-returns-2 c = search exits
+unfolding withinStaged
+returns-2 c = rw within-reads (search exits)
 
 pub copy-within-spec : {M : Type 1} → statement M
 copy-within-spec =
