@@ -1,0 +1,56 @@
+-- The records that the benches build from numbers, and what an operation on them leaves.
+use Prim.Native.Nat.{ℕ}
+use mathlib.Core.Bool.{Bool, true, false}
+use mathlib.Core.Path.{_≡_}
+use mathlib.Core.List.{List}
+use Rattle.base.specs.Answer.{numberOf}
+use Rattle.base.specs.declared.fuel.Fuel.{Fuel}
+use Rattle.base.specs.declared.fuel.FuelStep.{FuelStep}
+use Rattle.base.specs.declared.fuel.FuelStep.the-variants.{Done, Refused}
+use Rattle.types.specs.IndexType.{indexOf}
+use Rattle.types.specs.declared.memory_ty.PageSize.{PageSize}
+use Rattle.types.specs.declared.memory_ty.PageSize.the-variants.{One, Wasm}
+use Rattle.memory.specs.Access.{Stored}
+use Rattle.memory.specs.Grow.{Grown}
+use Rattle.memory.specs.declared.memory.Memory.{Memory}
+
+-- pages of 64 KiB, or of one byte
+unfoldable pub pageOf : Bool → PageSize
+pageOf true = Wasm
+pageOf false = One
+
+-- a memory at the start of its buffer, with minimum 0 and no maximum
+unfoldable pub memoryOf : Bool → Bool → ℕ → ℕ → Memory
+memoryOf wide wasm room size =
+    record { ty = record { index = indexOf wide; page = pageOf wasm; limits = record { minimum = 0; bounded = false; maximum = 0 } }; start = 0; room = room; size = size }
+
+unfoldable pub fuelOf : Bool → ℕ → ℕ → Fuel
+fuelOf metered remaining per =
+    record { remaining = remaining; enabled = metered; costs = record { copied = per; translated = 7; validated = 2 } }
+
+-- of a growth: the number, the bytes, the size and the fuel left
+pub record Grew (g : Grown) (result : ℕ) (bytes : List ℕ) (size left : ℕ) : Type 0 where
+  pub number : result ≡ numberOf (g .out .answer)
+  pub cells : bytes ≡ g .cells
+  pub sized : size ≡ g .out .memory .size
+  pub fuel : left ≡ g .out .fuel .remaining
+
+-- of a host read or write: the number, and the buffer that was written
+pub record Took (s : Stored) (result : ℕ) (bytes : List ℕ) : Type 0 where
+  pub number : result ≡ numberOf (s .answer)
+  pub cells : bytes ≡ s .cells
+
+-- a fuel step's number
+unfoldable pub stepNumber : FuelStep → ℕ
+stepNumber (Done f) = 0
+stepNumber (Refused r) = r .number
+
+-- what it leaves, or what there was
+unfoldable pub stepLeft : FuelStep → ℕ → ℕ
+stepLeft (Done f) old = f .remaining
+stepLeft (Refused r) old = old
+
+-- of a charge: the number, and the fuel left
+pub record Charged (s : FuelStep) (old result new : ℕ) : Type 0 where
+  pub number : result ≡ stepNumber s
+  pub left : new ≡ stepLeft s old
