@@ -21,12 +21,13 @@ unsafe extern "C" {
         left: *mut u64,
         per_unit: u32,
     ) -> u8;
-    /// From the table that has the buffer's cells from `split` on to the table that has those before.
+    /// From the table of `size` cells after the first `split` cells to the table of those.
     fn timing_copy(
         cells: *mut u64,
         len: usize,
         wide: bool,
-        split: u64,
+        split: usize,
+        size: u64,
         to: u64,
         from: u64,
         count: u64,
@@ -46,12 +47,13 @@ unsafe extern "C" {
         left: *mut u64,
         per_unit: u32,
     ) -> u8;
-    /// From a segment that has all the items.
+    /// From a segment of the first `places` items.
     fn timing_init(
         cells: *mut u64,
         len: usize,
         items: *const u64,
         item_count: usize,
+        places: u64,
         wide: bool,
         size: u64,
         to: u64,
@@ -188,7 +190,7 @@ fn ops(n: usize) -> Vec<Op> {
         ("table copy", "memmove"),
         (table(0, len), p, len),
         move |table, fuel| crate_copy(table, 0, &source, 0, count, fuel),
-        move |left| unsafe { timing_copy(p, 2 * len, wide, size, 0, 0, count, metered, left, per_unit) },
+        move |left| unsafe { timing_copy(p, 2 * len, wide, len, size, 0, 0, count, metered, left, per_unit) },
         move || {
             unsafe { shift(p.cast(), p.add(len).cast(), bytes) };
         },
@@ -214,7 +216,7 @@ fn ops(n: usize) -> Vec<Op> {
         ("table init", "memmove"),
         (table(0, len), p, len),
         move |table, fuel| crate_init(table, 0, &segment, 0, n as u32, fuel),
-        move |left| unsafe { timing_init(p, len, items, n, wide, size, 0, 0, count, metered, left, per_unit) },
+        move |left| unsafe { timing_init(p, len, items, n, count, wide, size, 0, 0, count, metered, left, per_unit) },
         move || {
             unsafe { shift(p.cast(), items.cast(), bytes) };
         },

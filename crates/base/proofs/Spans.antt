@@ -12,19 +12,19 @@ use borrow.Author.Tests.{le-leb, lt-leb, leb-true, leb-false}
 use Rattle.base.specs.Span.{inside, over, cut}
 
 -- the bounds, for all starts and lengths
-pub past-end : (start len size : ℕ) → size < len → false ≡ inside start len size
+pub past-end : (start len size : ℕ) → size < start → false ≡ inside start len size
 unfolding inside
 past-end start len size h =
     let g : size < start + len = omega arith in
     sym (lt-leb _ _ g)
 
-pub shift-leb : (start len size : ℕ) → len ≤ size → leb start (size - len) ≡ inside start len size
+pub shift-leb : (start len size : ℕ) → start ≤ size → leb len (size - start) ≡ inside start len size
 unfolding inside
-shift-leb start len size h = shift-by (leb start (size - len)) refl
+shift-leb start len size h = shift-by (leb len (size - start)) refl
   where
-    shift-by : (t : Bool) → leb start (size - len) ≡ t → t ≡ leb (start + len) size
-    shift-by true e = sym (le-leb (start + len) size (omega (arith, leb-true start (size - len) e)))
-    shift-by false e = sym (lt-leb (start + len) size (omega (arith, leb-false start (size - len) e)))
+    shift-by : (t : Bool) → leb len (size - start) ≡ t → t ≡ leb (start + len) size
+    shift-by true e = sym (le-leb (start + len) size (omega (arith, leb-true len (size - start) e)))
+    shift-by false e = sym (lt-leb (start + len) size (omega (arith, leb-false len (size - start) e)))
 
 -- what the test shows
 pub within-is : (start len size : ℕ) → inside start len size ≡ true → start + len ≤ size

@@ -2,12 +2,12 @@
 ghost use mathlib.Core.Path.{_≡_};
 ghost use Rattle.base.specs.Span.{inside};
 
-// Whether `len` cells from `start` on lie within `size` cells.
+// Whether `len` cells from `start` on lie within `size` cells; in this order a literal `len` costs the least.
 pub fn within(start: u64, len: u64, size: u64) -> bool
     ensures { λ r. ⌜ r ≡ inside start len size ⌝ }
 {
-    if size < len {
+    if size < start {
         return false;
     }
-    start <= size - len
+    len <= size - start
 }

@@ -41,8 +41,8 @@ fn put(part: &mut [u8], source: &[u8])
     }
 }
 
-fn blank() -> [u8; 4096] {
-    [0u8; 4096]
+fn blank() -> [u8; 65536] {
+    [0u8; 65536]
 }
 
 // The same through a row of its own: two copies whose ends cannot meet are block moves in the machine code.
@@ -54,9 +54,9 @@ fn put_through(part: &mut [u8], row: &mut [u8], source: &[u8])
     put(part, row);
 }
 
-// The same for up to 4096 bytes.
+// The same for up to 65536 bytes.
 fn put_some(part: &mut [u8], source: &[u8])
-    requires { ⌜ (length (now part) ≡ length (now source)) × (length (now source) ≤ 4096) ⌝ }
+    requires { ⌜ (length (now part) ≡ length (now source)) × (length (now source) ≤ 65536) ⌝ }
     ensures { λ _. ⌜ now (part .exit) ≡ now (source .entry) ⌝ }
 {
     let mut row = blank();
@@ -71,8 +71,8 @@ fn put_all(part: &mut [u8], source: &[u8])
 {
     let n = source.len();
     let mut i = 0;
-    while 4096 < n - i {
-        let e = i + 4096;
+    while 65536 < n - i {
+        let e = i + 65536;
         put_some(&mut part[i..e], &source[i..e]);
         i = e;
     }

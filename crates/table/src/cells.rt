@@ -35,8 +35,8 @@ fn put(part: &mut [u64], source: &[u64])
     }
 }
 
-fn blank() -> [u64; 512] {
-    [0u64; 512]
+fn blank() -> [u64; 8192] {
+    [0u64; 8192]
 }
 
 // The same through a row of its own: two copies whose ends cannot meet are block moves in the machine code.
@@ -48,9 +48,9 @@ fn put_through(part: &mut [u64], row: &mut [u64], source: &[u64])
     put(part, row);
 }
 
-// The same for up to 512 cells.
+// The same for up to 8192 cells.
 fn put_some(part: &mut [u64], source: &[u64])
-    requires { ⌜ (length (now part) ≡ length (now source)) × (length (now source) ≤ 512) ⌝ }
+    requires { ⌜ (length (now part) ≡ length (now source)) × (length (now source) ≤ 8192) ⌝ }
     ensures { λ _. ⌜ now (part .exit) ≡ now (source .entry) ⌝ }
 {
     let mut row = blank();
@@ -65,8 +65,8 @@ fn put_all(part: &mut [u64], source: &[u64])
 {
     let n = source.len();
     let mut i = 0;
-    while 512 < n - i {
-        let e = i + 512;
+    while 8192 < n - i {
+        let e = i + 8192;
         put_some(&mut part[i..e], &source[i..e]);
         i = e;
     }
@@ -91,9 +91,9 @@ fn move_through(cells: &mut [u64], row: &mut [u64], to: usize, from: usize)
     put(&mut cells[to..to + n], row);
 }
 
-// Up to 512 cells move at once, however their spans overlap.
+// Up to 8192 cells move at once, however their spans overlap.
 fn move_some(cells: &mut [u64], to: usize, from: usize, n: usize)
-    requires { ⌜ Two to from n (length (now cells)) × (n ≤ 512) ⌝ }
+    requires { ⌜ Two to from n (length (now cells)) × (n ≤ 8192) ⌝ }
     ensures { λ _. ⌜ now (cells .exit) ≡ over (now (cells .entry)) to (cut (now (cells .entry)) from n) ⌝ }
 {
     let mut row = blank();
@@ -106,9 +106,9 @@ fn move_forth(cells: &mut [u64], to: usize, from: usize, n: usize)
     ensures { λ _. ⌜ now (cells .exit) ≡ over (now (cells .entry)) to (cut (now (cells .entry)) from n) ⌝ }
 {
     let mut i: usize = 0;
-    while 512 < n - i {
-        move_some(cells, to + i, from + i, 512);
-        i += 512;
+    while 8192 < n - i {
+        move_some(cells, to + i, from + i, 8192);
+        i += 8192;
     }
     move_some(cells, to + i, from + i, n - i);
 }
@@ -119,9 +119,9 @@ fn move_back(cells: &mut [u64], to: usize, from: usize, n: usize)
     ensures { λ _. ⌜ now (cells .exit) ≡ over (now (cells .entry)) to (cut (now (cells .entry)) from n) ⌝ }
 {
     let mut i: usize = n;
-    while 512 < i {
-        i -= 512;
-        move_some(cells, to + i, from + i, 512);
+    while 8192 < i {
+        i -= 8192;
+        move_some(cells, to + i, from + i, 8192);
     }
     move_some(cells, to, from, i);
 }

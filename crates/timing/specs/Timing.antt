@@ -7,12 +7,17 @@ use Rattle.base.specs.Answer.{numberOf}
 use Rattle.base.specs.declared.fuel.Fuel.{Fuel}
 use Rattle.base.specs.declared.fuel.FuelStep.{FuelStep}
 use Rattle.base.specs.declared.fuel.FuelStep.the-variants.{Done, Refused}
+use Rattle.base.specs.Grant.{SpanDone}
 use Rattle.types.specs.IndexType.{indexOf}
 use Rattle.types.specs.declared.memory_ty.PageSize.{PageSize}
 use Rattle.types.specs.declared.memory_ty.PageSize.the-variants.{One, Wasm}
+use Rattle.types.specs.declared.raw.RefType.the-variants.{Func}
+use Rattle.types.specs.declared.raw.TypedRawRef.{TypedRawRef}
 use Rattle.memory.specs.Access.{Stored}
 use Rattle.memory.specs.Grow.{Grown}
 use Rattle.memory.specs.declared.memory.Memory.{Memory}
+use Rattle.table.specs.declared.table.Table.{Table}
+use Rattle.table.specs.declared.element.ElementSegment.{ElementSegment}
 
 -- pages of 64 KiB, or of one byte
 unfoldable pub pageOf : Bool → PageSize
@@ -54,3 +59,21 @@ stepLeft (Refused r) old = old
 pub record Charged (s : FuelStep) (old result new : ℕ) : Type 0 where
   pub number : result ≡ stepNumber s
   pub left : new ≡ stepLeft s old
+
+-- a table of function references whose room is its size, with minimum 0 and no maximum
+unfoldable pub tableOf : Bool → ℕ → ℕ → Table
+tableOf wide start size =
+    record { ty = record { element = Func; index = indexOf wide; limits = record { minimum = 0; bounded = false; maximum = 0 } }; start = start; room = size; size = size }
+
+unfoldable pub refOf : ℕ → TypedRawRef
+refOf bits = record { raw = record { bits = bits }; ty = Func }
+
+-- a segment of the first items
+unfoldable pub segmentOf : ℕ → ElementSegment
+segmentOf size = record { ty = Func; start = 0; places = size; size = size }
+
+-- of a fill, copy or init: the number, the cells and the fuel left
+pub record Spans (s : SpanDone) (result : ℕ) (cells : List ℕ) (left : ℕ) : Type 0 where
+  pub number : result ≡ numberOf (s .out .answer)
+  pub written : cells ≡ s .cells
+  pub fuel : left ≡ s .out .fuel .remaining

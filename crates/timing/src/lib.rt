@@ -4,17 +4,27 @@ use base::fuel::FuelCosts;
 use base::fuel::FuelStep;
 use base::limiter::Limiter;
 use memory::memory::Memory;
+use table::element::ElementSegment;
+use table::table::Table;
 use types::index_ty::IndexType;
 use types::limits::Limits;
 use types::memory_ty::MemoryType;
 use types::memory_ty::PageSize;
+use types::raw::RawRef;
+use types::raw::RefType;
+use types::raw::TypedRawRef;
+use types::table_ty::TableType;
 ghost use mathlib.Core.Path.{_≡_};
 ghost use lib.ListN.{length};
 ghost use Rattle.base.specs.Fuel.{consume};
 ghost use Rattle.base.specs.Limiter.{noLimiter};
+ghost use Rattle.types.specs.Raw.{rawBytes};
 ghost use Rattle.memory.specs.Grow.{growMemory};
 ghost use Rattle.memory.specs.Host.{readMemory, writeMemory};
-ghost use Rattle.timing.specs.Timing.{pageOf, memoryOf, fuelOf, Grew, Took, Charged};
+ghost use Rattle.table.specs.Fill.{fillTable};
+ghost use Rattle.table.specs.Copy.{copyTable, copyWithin};
+ghost use Rattle.table.specs.Init.{initTable};
+ghost use Rattle.timing.specs.Timing.{pageOf, memoryOf, fuelOf, tableOf, refOf, segmentOf, Grew, Took, Charged, Spans};
 
 fn page_of(wasm: bool) -> PageSize
     ensures { λ r. ⌜ r ≡ pageOf wasm ⌝ }
@@ -173,5 +183,224 @@ pub extern "C" fn timing_charge(metered: bool, left: &mut u64, price: u64) -> u8
     settle(step, left)
 }
 
-// Tables: `timing_fill`, `timing_copy`, `timing_copy_within` and `timing_init` stand here once crate `table` is a dependency;
-// bench/tables.rs has their shapes, and bench/run then shows their rows.
+// A table of function references whose room is its size, with no maximum.
+fn table_of(wide: bool, start: usize, size: u64) -> Table
+    ensures { λ r. ⌜ r ≡ tableOf wide start size ⌝ }
+{
+    let index = IndexType::of(wide);
+    let limits = Limits {
+        minimum: 0,
+        bounded: false,
+        maximum: 0,
+    };
+    let ty = TableType {
+        element: RefType::Func,
+        index,
+        limits,
+    };
+    Table {
+        ty,
+        start,
+        room: size,
+        size,
+    }
+}
+
+fn ref_of(bits: u64) -> TypedRawRef
+    ensures { λ r. ⌜ r ≡ refOf bits ⌝ }
+{
+    let raw = RawRef { bits };
+    TypedRawRef {
+        raw,
+        ty: RefType::Func,
+    }
+}
+
+// A segment of the first items.
+fn segment_of(size: u64) -> ElementSegment
+    ensures { λ r. ⌜ r ≡ segmentOf size ⌝ }
+{
+    ElementSegment {
+        ty: RefType::Func,
+        start: 0,
+        places: size,
+        size,
+    }
+}
+
+fn fill_from(
+    table: Table,
+    cells: &mut [u64],
+    to: u64,
+    value: TypedRawRef,
+    count: u64,
+    fuel: Fuel,
+    left: &mut u64,
+) -> u8
+    ensures { λ r. ⌜ Spans (fillTable rawBytes table (now (cells .entry)) to value count fuel) r (now (cells .exit)) (now (left .exit)) ⌝ }
+{
+    let filled = table.fill(cells, to, value, count, fuel);
+    let paid = filled.fuel;
+    let answer = filled.answer;
+    *left = paid.remaining;
+    answer.number()
+}
+
+// A fill of the table that has all the buffer's first cells.
+#[no_mangle]
+pub extern "C" fn timing_fill(
+    cells: &mut [u64],
+    wide: bool,
+    size: u64,
+    to: u64,
+    bits: u64,
+    count: u64,
+    metered: bool,
+    left: &mut u64,
+    per_unit: u32,
+) -> u8
+    ensures { λ r. ⌜ Spans (fillTable rawBytes (tableOf wide 0 size) (now (cells .entry)) to (refOf bits) count (fuelOf metered (now (left .entry)) «per_unit»)) r (now (cells .exit)) (now (left .exit)) ⌝ }
+{
+    let table = table_of(wide, 0, size);
+    let value = ref_of(bits);
+    let fuel = fuel_of(metered, *left, per_unit);
+    fill_from(table, cells, to, value, count, fuel, left)
+}
+
+fn copy_from(
+    table: Table,
+    source: Table,
+    cells: &mut [u64],
+    to: u64,
+    from: u64,
+    count: u64,
+    fuel: Fuel,
+    left: &mut u64,
+) -> u8
+    ensures { λ r. ⌜ Spans (copyTable rawBytes table source (now (cells .entry)) to from count fuel) r (now (cells .exit)) (now (left .exit)) ⌝ }
+{
+    let copied = table.copy(source, cells, to, from, count, fuel);
+    let paid = copied.fuel;
+    let answer = copied.answer;
+    *left = paid.remaining;
+    answer.number()
+}
+
+// A copy from the table of `size` cells after the first `split` to the table of those.
+#[no_mangle]
+pub extern "C" fn timing_copy(
+    cells: &mut [u64],
+    wide: bool,
+    split: usize,
+    size: u64,
+    to: u64,
+    from: u64,
+    count: u64,
+    metered: bool,
+    left: &mut u64,
+    per_unit: u32,
+) -> u8
+    ensures { λ r. ⌜ Spans (copyTable rawBytes (tableOf wide 0 split) (tableOf wide split size) (now (cells .entry)) to from count (fuelOf metered (now (left .entry)) «per_unit»)) r (now (cells .exit)) (now (left .exit)) ⌝ }
+{
+    let table = table_of(wide, 0, split as u64);
+    let source = table_of(wide, split, size);
+    let fuel = fuel_of(metered, *left, per_unit);
+    copy_from(table, source, cells, to, from, count, fuel, left)
+}
+
+fn copy_within_from(
+    table: Table,
+    cells: &mut [u64],
+    to: u64,
+    from: u64,
+    count: u64,
+    fuel: Fuel,
+    left: &mut u64,
+) -> u8
+    ensures { λ r. ⌜ Spans (copyWithin rawBytes table (now (cells .entry)) to from count fuel) r (now (cells .exit)) (now (left .exit)) ⌝ }
+{
+    let copied = table.copy_within(cells, to, from, count, fuel);
+    let paid = copied.fuel;
+    let answer = copied.answer;
+    *left = paid.remaining;
+    answer.number()
+}
+
+// A copy within one table.
+#[no_mangle]
+pub extern "C" fn timing_copy_within(
+    cells: &mut [u64],
+    wide: bool,
+    size: u64,
+    to: u64,
+    from: u64,
+    count: u64,
+    metered: bool,
+    left: &mut u64,
+    per_unit: u32,
+) -> u8
+    ensures { λ r. ⌜ Spans (copyWithin rawBytes (tableOf wide 0 size) (now (cells .entry)) to from count (fuelOf metered (now (left .entry)) «per_unit»)) r (now (cells .exit)) (now (left .exit)) ⌝ }
+{
+    let table = table_of(wide, 0, size);
+    let fuel = fuel_of(metered, *left, per_unit);
+    copy_within_from(table, cells, to, from, count, fuel, left)
+}
+
+fn init_from(
+    table: Table,
+    segment: ElementSegment,
+    cells: &mut [u64],
+    items: &[u64],
+    to: u64,
+    from: u64,
+    count: u64,
+    fuel: Fuel,
+    left: &mut u64,
+) -> u8
+    ensures { λ r. ⌜ Spans (initTable rawBytes table segment (now (cells .entry)) (now (items .entry)) to from count fuel) r (now (cells .exit)) (now (left .exit)) ⌝ }
+{
+    let written = table.init(segment, cells, items, to, from, count, fuel);
+    let paid = written.fuel;
+    let answer = written.answer;
+    *left = paid.remaining;
+    answer.number()
+}
+
+fn init_first(
+    table: Table,
+    cells: &mut [u64],
+    items: &[u64],
+    places: u64,
+    to: u64,
+    from: u64,
+    count: u64,
+    fuel: Fuel,
+    left: &mut u64,
+) -> u8
+    ensures { λ r. ⌜ Spans (initTable rawBytes table (segmentOf places) (now (cells .entry)) (now (items .entry)) to from count fuel) r (now (cells .exit)) (now (left .exit)) ⌝ }
+{
+    let segment = segment_of(places);
+    init_from(table, segment, cells, items, to, from, count, fuel, left)
+}
+
+// An init from a segment of the first `places` items.
+#[no_mangle]
+pub extern "C" fn timing_init(
+    cells: &mut [u64],
+    items: &[u64],
+    places: u64,
+    wide: bool,
+    size: u64,
+    to: u64,
+    from: u64,
+    count: u64,
+    metered: bool,
+    left: &mut u64,
+    per_unit: u32,
+) -> u8
+    ensures { λ r. ⌜ Spans (initTable rawBytes (tableOf wide 0 size) (segmentOf places) (now (cells .entry)) (now (items .entry)) to from count (fuelOf metered (now (left .entry)) «per_unit»)) r (now (cells .exit)) (now (left .exit)) ⌝ }
+{
+    let table = table_of(wide, 0, size);
+    let fuel = fuel_of(metered, *left, per_unit);
+    init_first(table, cells, items, places, to, from, count, fuel, left)
+}

@@ -47,7 +47,7 @@ put-some-requires : tie.Need-put-some-requires Inv-loop μ-loop
 put-some-requires c κs =
     let l = c .before .before .before .loop in
     let a = c .before .before .before .before .before .before .args in
-    (parts-same (l .i) (l .i + 4096) (l .part) (a .source .now) (omega arith), part-most (l .i) 4096 (l .i + 4096) (a .source .now) (omega arith))
+    (parts-same (l .i) (l .i + 65536) (l .part) (a .source .now) (omega arith), part-most (l .i) 65536 (l .i + 65536) (a .source .now) (omega arith))
 
 loop-less : tie.Need-loop-less Inv-loop μ-loop
 loop-less c = search needs
@@ -56,7 +56,7 @@ loop-again : tie.Need-loop-again Inv-loop μ-loop
 loop-again c =
     let l = c .before .before .before .before .before .before .loop in
     let a = c .before .before .before .before .before .before .before .before .before .args in
-    (block-more (a .part .now) (l .part) (a .source .now) _ (l .i) (l .i + 4096) (omega arith) (omega arith) (omega arith) (l .inv .2) (l .inv .0) (c .before .before .put-some .ensures), omega arith, search needs)
+    (block-more (a .part .now) (l .part) (a .source .now) _ (l .i) (l .i + 65536) (omega arith) (omega arith) (omega arith) (l .inv .2) (l .inv .0) (c .before .before .put-some .ensures), omega arith, search needs)
 
 sub-put-some-3 : tie.Need-sub-put-some-3 Inv-loop μ-loop
 sub-put-some-3 c = search needs
@@ -80,7 +80,7 @@ put-some-requires-2 : tie.Need-put-some-requires-2 Inv-loop μ-loop
 put-some-requires-2 c κs =
     let l = c .before .before .before .loop in
     let a = c .before .before .before .before .before .before .args in
-    (parts-same (l .i) (length (a .source .now)) (l .part) (a .source .now) (omega arith), part-most (l .i) 4096 (length (a .source .now)) (a .source .now) (omega arith))
+    (parts-same (l .i) (length (a .source .now)) (l .part) (a .source .now) (omega arith), part-most (l .i) 65536 (length (a .source .now)) (a .source .now) (omega arith))
 
 same-length : tie.Need-same-length Inv-loop μ-loop
 same-length c = search needs

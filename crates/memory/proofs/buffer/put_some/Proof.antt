@@ -12,10 +12,10 @@ array-borrow-prefix-row : tie.Need-array-borrow-prefix-row
 array-borrow-prefix-row c = search needs
 
 slice-aggregate-put-through : tie.Need-slice-aggregate-put-through
-slice-aggregate-put-through c = sym (long _ 4096 _ (search needs) (search needs))
+slice-aggregate-put-through c = sym (long _ 65536 _ (search needs) (search needs))
 
 put-through-requires : tie.Need-put-through-requires
-put-through-requires c κs = (search needs, long _ 4096 _ (search needs) (search needs))
+put-through-requires c κs = (search needs, long _ 65536 _ (search needs) (search needs))
 
 same-length : tie.Need-same-length
 same-length c = search needs

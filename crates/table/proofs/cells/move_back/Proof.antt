@@ -38,7 +38,7 @@ loop-again c =
     let l = c .before .before .before .before .before .loop in
     let a = c .before .before .before .before .before .before .before .args in
     let p = c .before .before .before .before .before .before .before .pre in
-    (back-on _ (l .cells) _ (a .to) (a .from) (a .n) (l .i - 512) 512 (l .i) (omega arith) (omega arith) (p .0) (p .1) (l .inv .0) (c .before .before .move-some .ensures), omega arith, search needs)
+    (back-on _ (l .cells) _ (a .to) (a .from) (a .n) (l .i - 8192) 8192 (l .i) (omega arith) (omega arith) (p .0) (p .1) (l .inv .0) (c .before .before .move-some .ensures), omega arith, search needs)
 
 move-some-requires-2 : tie.Need-move-some-requires-2 Inv-loop μ-loop
 move-some-requires-2 c κs = search needs

@@ -41,7 +41,7 @@ loop-again c =
     let l = c .before .before .before .before .before .loop in
     let a = c .before .before .before .before .before .before .before .args in
     let p = c .before .before .before .before .before .before .before .pre in
-    (forth-on _ (l .cells) _ (a .to) (a .from) (l .i) 512 _ refl (record { there = omega arith; here = omega arith }) (p .1) (l .inv .0) (c .before .before .move-some .ensures), omega arith, search needs)
+    (forth-on _ (l .cells) _ (a .to) (a .from) (l .i) 8192 _ refl (record { there = omega arith; here = omega arith }) (p .1) (l .inv .0) (c .before .before .move-some .ensures), omega arith, search needs)
 
 add-move-some-3 : tie.Need-add-move-some-3 Inv-loop μ-loop
 add-move-some-3 c = search needs

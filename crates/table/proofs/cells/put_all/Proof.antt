@@ -59,7 +59,7 @@ loop-again : tie.Need-loop-again Inv-loop μ-loop
 loop-again c =
     let l = c .before .before .before .before .before .before .loop in
     let a = c .before .before .before .before .before .before .before .before .before .args in
-    (put-on _ (l .part) (a .source .now) _ (l .i) (l .i + 512) (omega arith) (omega arith) (c .before .before .before .before .before .before .before .before .before .pre) (l .inv .2) (l .inv .0) (c .before .before .put-some .ensures), omega arith, search needs)
+    (put-on _ (l .part) (a .source .now) _ (l .i) (l .i + 8192) (omega arith) (omega arith) (c .before .before .before .before .before .before .before .before .before .pre) (l .inv .2) (l .inv .0) (c .before .before .put-some .ensures), omega arith, search needs)
 
 mul-put-some-3 : tie.Need-mul-put-some-3 Inv-loop μ-loop
 mul-put-some-3 c = search needs
