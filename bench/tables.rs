@@ -165,24 +165,29 @@ fn ops(n: usize) -> Vec<Op> {
     let (count, len) = (n as u64, n + 1);
     let size = len as u64;
     let (wide, metered, per_unit) = (black_box(false), black_box(true), black_box(64u32));
-    let bits = black_box(0x0123_4567u32);
     let set: SetFn = black_box(memset);
     let shift: CopyFn = black_box(memmove);
     let bytes = 8 * n;
 
-    let p = cells(0, len);
-    let fill = op(
-        ("table fill", "memset"),
-        (table(0, len), p, len),
-        move |table, fuel| crate_fill(table, 0, bits, count, fuel),
-        move |left| {
-            let bits = u64::from(bits);
-            unsafe { timing_fill(p, len, wide, size, 0, bits, count, metered, left, per_unit) }
-        },
-        move || {
-            unsafe { set(p.cast(), 1, bytes) };
-        },
-    );
+    // a fill with a reference, and with the null reference
+    let fill_with = |name, bits: u32| {
+        let bits = black_box(bits);
+        let p = cells(0, len);
+        op(
+            (name, "memset"),
+            (table(0, len), p, len),
+            move |table, fuel| crate_fill(table, 0, bits, count, fuel),
+            move |left| {
+                let bits = u64::from(bits);
+                unsafe { timing_fill(p, len, wide, size, 0, bits, count, metered, left, per_unit) }
+            },
+            move || {
+                unsafe { set(p.cast(), 1, bytes) };
+            },
+        )
+    };
+    let fill = fill_with("table fill", 0x0123_4567);
+    let null = fill_with("table fill, null", 0);
 
     let p = cells(0, 2 * len);
     let source = table(len, len);
@@ -222,7 +227,7 @@ fn ops(n: usize) -> Vec<Op> {
         },
     );
 
-    vec![fill, copy, within("table copy down 1", 0, 1), within("table copy up 1", 1, 0), init]
+    vec![fill, null, copy, within("table copy down 1", 0, 1), within("table copy up 1", 1, 0), init]
 }
 
 pub fn rows(rows: &mut Vec<Row>) {

@@ -35,7 +35,7 @@ fn put(part: &mut [u8], source: &[u8])
     ensures { λ _. ⌜ now (part .exit) ≡ now (source .entry) ⌝ }
 {
     let mut i = 0;
-    while i < part.len() {
+    while i < source.len() {
         part[i] = source[i];
         i += 1;
     }
@@ -64,19 +64,31 @@ fn put_some(part: &mut [u8], source: &[u8])
     put_through(part, &mut row[..n], source);
 }
 
+// The same for any length, by halves. It calls itself, so that it stays a function of its own, and short puts do not pay for it.
+fn put_long(part: &mut [u8], source: &[u8])
+    requires { ⌜ length (now part) ≡ length (now source) ⌝ }
+    ensures { λ _. ⌜ now (part .exit) ≡ now (source .entry) ⌝ }
+{
+    let n = source.len();
+    if n <= 65536 {
+        put_some(part, source);
+    } else {
+        let h = n / 2;
+        put_long(&mut part[0..h], &source[0..h]);
+        put_long(&mut part[h..n], &source[h..n]);
+    }
+}
+
 // The part becomes the bytes of a source of the same length, however long.
 fn put_all(part: &mut [u8], source: &[u8])
     requires { ⌜ length (now part) ≡ length (now source) ⌝ }
     ensures { λ _. ⌜ now (part .exit) ≡ now (source .entry) ⌝ }
 {
-    let n = source.len();
-    let mut i = 0;
-    while 65536 < n - i {
-        let e = i + 65536;
-        put_some(&mut part[i..e], &source[i..e]);
-        i = e;
+    if source.len() <= 65536 {
+        put_some(part, source);
+    } else {
+        put_long(part, source);
     }
-    put_some(&mut part[i..n], &source[i..n]);
 }
 
 // The part becomes the bytes from a place on.
