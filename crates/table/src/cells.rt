@@ -15,12 +15,15 @@ fn fill(part: &mut [u64], v: u64)
     }
 }
 
-// The span of the cells to be written is lent on.
-pub(crate) fn fill_cells(cells: &mut [u64], to: usize, v: u64, n: usize)
-    requires { ⌜ to + n ≤ length (now cells) ⌝ }
-    ensures { λ _. ⌜ now (cells .exit) ≡ over (now (cells .entry)) to (replicate n v) ⌝ }
+// Every cell of the part becomes null: a loop that stores zeros is memset in the machine code.
+fn clear(part: &mut [u64])
+    ensures { λ _. ⌜ now (part .exit) ≡ replicate (length (now (part .entry))) 0 ⌝ }
 {
-    fill(&mut cells[to..to + n], v);
+    let mut i = 0;
+    while i < part.len() {
+        part[i] = 0;
+        i += 1;
+    }
 }
 
 // The part becomes the cells of a source of the same length.
@@ -29,7 +32,7 @@ fn put(part: &mut [u64], source: &[u64])
     ensures { λ _. ⌜ now (part .exit) ≡ now (source .entry) ⌝ }
 {
     let mut i = 0;
-    while i < part.len() {
+    while i < source.len() {
         part[i] = source[i];
         i += 1;
     }
@@ -58,19 +61,31 @@ fn put_some(part: &mut [u64], source: &[u64])
     put_through(part, &mut row[..n], source);
 }
 
+// The same for any length, by halves. It calls itself, so that it stays a function of its own, and short puts do not pay for it.
+fn put_long(part: &mut [u64], source: &[u64])
+    requires { ⌜ length (now part) ≡ length (now source) ⌝ }
+    ensures { λ _. ⌜ now (part .exit) ≡ now (source .entry) ⌝ }
+{
+    let n = source.len();
+    if n <= 8192 {
+        put_some(part, source);
+    } else {
+        let h = n / 2;
+        put_long(&mut part[0..h], &source[0..h]);
+        put_long(&mut part[h..n], &source[h..n]);
+    }
+}
+
 // The part becomes the cells of a source of the same length, however long.
 fn put_all(part: &mut [u64], source: &[u64])
     requires { ⌜ length (now part) ≡ length (now source) ⌝ }
     ensures { λ _. ⌜ now (part .exit) ≡ now (source .entry) ⌝ }
 {
-    let n = source.len();
-    let mut i = 0;
-    while 8192 < n - i {
-        let e = i + 8192;
-        put_some(&mut part[i..e], &source[i..e]);
-        i = e;
+    if source.len() <= 8192 {
+        put_some(part, source);
+    } else {
+        put_long(part, source);
     }
-    put_some(&mut part[i..n], &source[i..n]);
 }
 
 // The cells from `to` on become `n` items of another buffer.
@@ -100,30 +115,23 @@ fn move_some(cells: &mut [u64], to: usize, from: usize, n: usize)
     move_through(cells, &mut row[..n], to, from);
 }
 
-// From the low end.
-fn move_forth(cells: &mut [u64], to: usize, from: usize, n: usize)
-    requires { ⌜ Two to from n (length (now cells)) × (to ≤ from) ⌝ }
+// Any number of cells, by halves: the half that the other's cells do not go to first. It stays a function of its own as `put_long` does.
+fn move_long(cells: &mut [u64], to: usize, from: usize, n: usize)
+    requires { ⌜ Two to from n (length (now cells)) ⌝ }
     ensures { λ _. ⌜ now (cells .exit) ≡ over (now (cells .entry)) to (cut (now (cells .entry)) from n) ⌝ }
 {
-    let mut i: usize = 0;
-    while 8192 < n - i {
-        move_some(cells, to + i, from + i, 8192);
-        i += 8192;
+    if n <= 8192 {
+        move_some(cells, to, from, n);
+    } else {
+        let h = n / 2;
+        if to <= from {
+            move_long(cells, to, from, h);
+            move_long(cells, to + h, from + h, n - h);
+        } else {
+            move_long(cells, to + h, from + h, n - h);
+            move_long(cells, to, from, h);
+        }
     }
-    move_some(cells, to + i, from + i, n - i);
-}
-
-// From the high end.
-fn move_back(cells: &mut [u64], to: usize, from: usize, n: usize)
-    requires { ⌜ Two to from n (length (now cells)) × (from ≤ to) ⌝ }
-    ensures { λ _. ⌜ now (cells .exit) ≡ over (now (cells .entry)) to (cut (now (cells .entry)) from n) ⌝ }
-{
-    let mut i: usize = n;
-    while 8192 < i {
-        i -= 8192;
-        move_some(cells, to + i, from + i, 8192);
-    }
-    move_some(cells, to, from, i);
 }
 
 // `n` cells move within the buffer: all are read as they were before, however the spans overlap.
@@ -131,9 +139,66 @@ pub(crate) fn move_cells(cells: &mut [u64], to: usize, from: usize, n: usize)
     requires { ⌜ Two to from n (length (now cells)) ⌝ }
     ensures { λ _. ⌜ now (cells .exit) ≡ over (now (cells .entry)) to (cut (now (cells .entry)) from n) ⌝ }
 {
-    if to <= from {
-        move_forth(cells, to, from, n);
+    if n <= 8192 {
+        move_some(cells, to, from, n);
     } else {
-        move_back(cells, to, from, n);
+        move_long(cells, to, from, n);
+    }
+}
+
+// The span of the cells to be written is lent on.
+fn fill_some(cells: &mut [u64], to: usize, v: u64, n: usize)
+    requires { ⌜ to + n ≤ length (now cells) ⌝ }
+    ensures { λ _. ⌜ now (cells .exit) ≡ over (now (cells .entry)) to (replicate n v) ⌝ }
+{
+    fill(&mut cells[to..to + n], v);
+}
+
+fn clear_cells(cells: &mut [u64], to: usize, n: usize)
+    requires { ⌜ to + n ≤ length (now cells) ⌝ }
+    ensures { λ _. ⌜ now (cells .exit) ≡ over (now (cells .entry)) to (replicate n 0) ⌝ }
+{
+    clear(&mut cells[to..to + n]);
+}
+
+// The first cells are filled and then copied on, as long as they are: block moves are faster than single stores.
+fn fill_row(cells: &mut [u64], to: usize, v: u64, n: usize)
+    requires { ⌜ (to + n ≤ length (now cells)) × (128 ≤ n) × (n ≤ 8192) ⌝ }
+    ensures { λ _. ⌜ now (cells .exit) ≡ over (now (cells .entry)) to (replicate n v) ⌝ }
+{
+    fill_some(cells, to, v, 128);
+    let mut k: usize = 128;
+    while k < n - k {
+        move_some(cells, to + k, to, k);
+        k += k;
+    }
+    move_some(cells, to + k, to, n - k);
+}
+
+// The same for any number of cells, by halves. It stays a function of its own as `put_long` does.
+fn fill_long(cells: &mut [u64], to: usize, v: u64, n: usize)
+    requires { ⌜ (to + n ≤ length (now cells)) × (128 ≤ n) ⌝ }
+    ensures { λ _. ⌜ now (cells .exit) ≡ over (now (cells .entry)) to (replicate n v) ⌝ }
+{
+    if n <= 8192 {
+        fill_row(cells, to, v, n);
+    } else {
+        let h = n / 2;
+        fill_long(cells, to, v, h);
+        fill_long(cells, to + h, v, n - h);
+    }
+}
+
+// `n` cells from `to` on become the reference.
+pub(crate) fn fill_cells(cells: &mut [u64], to: usize, v: u64, n: usize)
+    requires { ⌜ to + n ≤ length (now cells) ⌝ }
+    ensures { λ _. ⌜ now (cells .exit) ≡ over (now (cells .entry)) to (replicate n v) ⌝ }
+{
+    if v == 0 {
+        clear_cells(cells, to, n);
+    } else if n <= 128 {
+        fill_some(cells, to, v, n);
+    } else {
+        fill_long(cells, to, v, n);
     }
 }

@@ -1,44 +1,45 @@
 -- `table::cells::fill_cells` meets its contract. Assumes nothing.
-use Rattle.base.proofs.Moves.{put-fill}
 use borrow.Author.Needs.{needs}
 use Rattle.table.proofs.cells.fill_cells.Statement.{statement}
 use Rattle.table.proofs.cells.fill_cells.Tie as tie
 
-add-fill : tie.Need-add-fill
-add-fill c = search needs
+clear-cells-requires : tie.Need-clear-cells-requires
+clear-cells-requires c κs = search needs
 
-mul-fill : tie.Need-mul-fill
-mul-fill c = search needs
+fill-some-requires : tie.Need-fill-some-requires
+fill-some-requires c κs = search needs
 
-sub-fill : tie.Need-sub-fill
-sub-fill c = search needs
-
-part-fill-start : tie.Need-part-fill-start
-part-fill-start c = search needs
-
-part-fill-end : tie.Need-part-fill-end
-part-fill-end c = search needs
-
-fill-requires : tie.Need-fill-requires
-fill-requires c κs = search needs
+fill-long-requires : tie.Need-fill-long-requires
+fill-long-requires c κs = search needs
 
 same-length : tie.Need-same-length
 same-length c = search needs
 
 returns : tie.Need-returns
-returns c =
-    let a = c .before .before .before .before .before .args in
-    put-fill (a .to) (a .n) _ _ _ (c .before .before .before .before .before .pre) (c .before .before .fill .ensures)
+returns c = cc
+
+same-length-2 : tie.Need-same-length-2
+same-length-2 c = search needs
+
+returns-2 : tie.Need-returns-2
+returns-2 c = search needs
+
+same-length-3 : tie.Need-same-length-3
+same-length-3 c = search needs
+
+returns-3 : tie.Need-returns-3
+returns-3 c = search needs
 
 pub fill-cells-spec : {M : Type 1} → statement M
 fill-cells-spec =
     tie.close
     (tie.spec
-    add-fill
-    mul-fill
-    sub-fill
-    part-fill-start
-    part-fill-end
-    fill-requires
+    clear-cells-requires
+    fill-some-requires
+    fill-long-requires
     same-length
-    returns)
+    returns
+    same-length-2
+    returns-2
+    same-length-3
+    returns-3)
