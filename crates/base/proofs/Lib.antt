@@ -7,6 +7,7 @@ pub mod Signs
 pub mod Scripts
 pub mod Spans
 pub mod Moves
+pub mod Parts
 pub mod Stepping
 pub mod Grants
 pub mod Chains

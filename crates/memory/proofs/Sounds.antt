@@ -1,5 +1,5 @@
 -- Laws of soundness: what the test shows, and the exits of the functions that test it. Assumes nothing.
-use Prim.Native.Nat.{ℕ, _+_, _%_, _≤_, _<_}
+use Prim.Native.Nat.{ℕ, _+_, _/_, _%_, _^_, _≤_, _<_}
 use mathlib.Core.Path.{_≡_, sym, ap, _∙_}
 use mathlib.Core.Bool.{Bool, true, false}
 use native.Mathlib.Omega.{arith}
@@ -9,10 +9,12 @@ use Rattle.base.specs.Pick.{both}
 use Rattle.types.specs.Limits.{admitsOf}
 use Rattle.types.specs.MemoryType.{pageBytes, pageBound, validMemory}
 use Rattle.base.proofs.Picks.{both-true, both-left, both-right, both-then, both-1, both-2}
-use Rattle.types.specs.Wide.{whole, halves}
-use Rattle.types.specs.declared.wide.Wide.{Wide}
+use Rattle.types.specs.IndexType.{maxSize}
+use Rattle.types.specs.declared.index_ty.IndexType.{IndexType}
+use Rattle.types.specs.declared.index_ty.IndexType.the-variants.{I64}
+use Rattle.types.specs.declared.memory_ty.PageSize.{PageSize}
+use Rattle.types.specs.declared.memory_ty.PageSize.the-variants.{One}
 use Rattle.types.specs.declared.memory_ty.MemoryType.{MemoryType}
-use Rattle.types.proofs.Halves.{whole-halves}
 use Rattle.memory.specs.Memory.{pagesOf, soundRoom, soundSize, soundMemory}
 use Rattle.memory.specs.declared.memory.Memory.{Memory}
 
@@ -59,16 +61,16 @@ sound-used m len h =
     let s = sound-is m len h in
     omega (arith, s .inside, s .held)
 
--- so many pages, by the page bound in two halves
-module _ (t : MemoryType) (n : ℕ) (w : Wide) (r : Bool) (p : w ≡ halves (pageBound t)) (q : r ≡ leb n (whole w)) where
-  bound-test : r ≡ leb n (pageBound t)
-  bound-test = q ∙ ap (λ (x : Wide). leb n (whole x)) p ∙ ap (leb n) (whole-halves (pageBound t))
+-- the page bound of each case
+pub bound-of : (t : MemoryType) (i : IndexType) (p : PageSize) (n : ℕ) → t .index ≡ i → t .page ≡ p → leb n (maxSize i / pageBytes p) ≡ leb n (pageBound t)
+unfolding pageBound
+bound-of t i p n e d = ap (λ (x : IndexType). leb n (maxSize x / pageBytes p)) (sym e) ∙ ap (λ (x : PageSize). leb n (maxSize (t .index) / pageBytes x)) (sym d)
 
-  pub admits-by : (a : Bool) → r ≡ true → a ≡ admitsOf (t .limits) n → a ≡ both (leb n (pageBound t)) (admitsOf (t .limits) n)
-  admits-by a e d = d ∙ sym (both-then _ _ (sym bound-test ∙ e))
-
-  pub admits-none : r ≡ false → false ≡ both (leb n (pageBound t)) (admitsOf (t .limits) n)
-  admits-none e = sym (both-left _ _ (sym bound-test ∙ e))
+-- every size of 64 bits is within 2^64 pages of one byte
+pub bound-all : (t : MemoryType) (n : ℕ) → n < 2 ^ 64 → t .index ≡ I64 → t .page ≡ One → true ≡ leb n (pageBound t)
+bound-all t n h e d =
+    let g : n ≤ 2 ^ 64 = omega arith in
+    sym (le-leb n (2 ^ 64) g) ∙ bound-of t I64 One n e d
 
 -- the exits of the whole test
 pub sound-untyped : (m : Memory) (len : ℕ) → validMemory (m .ty) ≡ false → false ≡ soundMemory m len
@@ -84,19 +86,24 @@ pub room-by : (m : Memory) (len : ℕ) → m .start + m .room ≤ len → leb (m
 unfolding soundRoom
 room-by m len h = sym (both-then _ _ (le-leb _ _ h))
 
--- the exits of the size's test, by what the code asked
-module _ (m : Memory) (page : ℕ) (p : page ≡ pageBytes (m .ty .page)) where
-  pub size-broken : (m .size % page ≡ 0 → ⊥) → false ≡ soundSize m
+-- the exits of the size's test, by the pages of each case
+module _ (m : Memory) (p : PageSize) (e : m .ty .page ≡ p) where
+  pub size-broken : (m .size % pageBytes p ≡ 0 → ⊥) → false ≡ soundSize m
   unfolding soundSize
-  size-broken h = sym (both-left _ _ (ne-eqb _ _ (λ q. h (ap (λ (k : ℕ). m .size % k) p ∙ q))))
+  size-broken h = sym (both-left _ _ (ne-eqb _ _ (λ q. h (ap (λ (x : PageSize). m .size % pageBytes x) (sym e) ∙ q))))
 
-  module _ (h : m .size % page ≡ 0) (n : ℕ) (q : n ≡ pagesOf m) where
-    pub size-short : n < m .ty .limits .minimum → false ≡ soundSize m
-    unfolding soundSize
-    size-short g = sym (both-right _ _ (both-left _ _ (lt-leb _ _ (rw q at g))))
+  pub size-by : (r : Bool) → m .size % pageBytes p ≡ 0
+      → r ≡ both (leb (m .ty .limits .minimum) (m .size / pageBytes p)) (both (leb (m .size / pageBytes p) (pageBound (m .ty))) (admitsOf (m .ty .limits) (m .size / pageBytes p)))
+      → r ≡ soundSize m
+  unfolding soundSize pagesOf
+  size-by r h d =
+      d ∙ ap (λ (x : PageSize). both (leb (m .ty .limits .minimum) (m .size / pageBytes x)) (both (leb (m .size / pageBytes x) (pageBound (m .ty))) (admitsOf (m .ty .limits) (m .size / pageBytes x)))) (sym e)
+      ∙ sym (both-then _ _ (eq-eqb _ _ (ap (λ (x : PageSize). m .size % pageBytes x) e ∙ h)))
 
-    pub size-by : (r : Bool) → m .ty .limits .minimum ≤ n → r ≡ both (leb n (pageBound (m .ty))) (admitsOf (m .ty .limits) n) → r ≡ soundSize m
-    unfolding soundSize
-    size-by r g e =
-        e ∙ ap (λ (k : ℕ). both (leb k (pageBound (m .ty))) (admitsOf (m .ty .limits) k)) q
-        ∙ sym (both-then _ _ (eq-eqb _ _ (rw p at h)) ∙ both-then _ _ (le-leb _ _ (rw q at g)))
+pub size-bytes : (m : Memory) → m .ty .page ≡ One → (r : Bool)
+    → r ≡ both (leb (m .ty .limits .minimum) (m .size)) (both (leb (m .size) (pageBound (m .ty))) (admitsOf (m .ty .limits) (m .size))) → r ≡ soundSize m
+size-bytes m e r d =
+    let k : m .size ≡ m .size / 1 = omega arith in
+    let h : m .size % 1 ≡ 0 = omega arith in
+    size-by m One e r h
+    (d ∙ ap (λ (x : ℕ). both (leb (m .ty .limits .minimum) x) (both (leb x (pageBound (m .ty))) (admitsOf (m .ty .limits) x))) k)

@@ -79,15 +79,16 @@ fn put_long(part: &mut [u8], source: &[u8])
     }
 }
 
-// The part becomes the bytes of a source of the same length, however long.
+// The part becomes the bytes of a source of the same length, however long. A long source is lent anew, so that a short one is not stored.
 fn put_all(part: &mut [u8], source: &[u8])
     requires { ⌜ length (now part) ≡ length (now source) ⌝ }
     ensures { λ _. ⌜ now (part .exit) ≡ now (source .entry) ⌝ }
 {
-    if source.len() <= 65536 {
+    let n = source.len();
+    if n <= 65536 {
         put_some(part, source);
     } else {
-        put_long(part, source);
+        put_long(part, &source[0..n]);
     }
 }
 

@@ -6,7 +6,9 @@ use super::buffer;
 use base::answer::Answer;
 use base::answer::Refusal;
 use base::answer::Value;
+use types::index_ty::IndexType;
 use types::memory_ty::MemoryType;
+use types::memory_ty::PageSize;
 ghost use mathlib.Core.Path.{_≡_};
 ghost use Prim.Native.Nat.{_+_, _≤_};
 ghost use lib.ListN.{length};
@@ -33,16 +35,44 @@ pub(crate) fn refused(number: u8) -> Answer
     Answer::Refusal(Refusal { number, amount: 0 })
 }
 
+// Whether so many pages are within the page bound. By cases: the bound as a number of two halves costs short accesses more.
+fn within_bound(ty: MemoryType, pages: u64) -> bool
+    ensures { λ r. ⌜ r ≡ leb pages (pageBound ty) ⌝ }
+{
+    let index = ty.index;
+    let page = ty.page;
+    match index {
+        IndexType::I32 => match page {
+            PageSize::One => pages <= 4294967296,
+            PageSize::Wasm => pages <= 65536,
+        },
+        IndexType::I64 => match page {
+            PageSize::One => true,
+            PageSize::Wasm => pages <= 281474976710656,
+        },
+    }
+}
+
 // Whether so many pages are within the page bound and the maximum.
 pub(crate) fn admits_pages(ty: MemoryType, pages: u64) -> bool
     ensures { λ r. ⌜ r ≡ both (leb pages (pageBound ty)) (admitsOf (ty .limits) pages) ⌝ }
 {
     let limits = ty.limits;
-    let most = ty.absolute_max();
-    if most.covers(pages) {
+    if within_bound(ty, pages) {
         return limits.admits(pages);
     }
     false
+}
+
+// The same, and at least the minimum.
+fn sound_pages(ty: MemoryType, pages: u64) -> bool
+    ensures { λ r. ⌜ r ≡ both (leb (ty .limits .minimum) pages) (both (leb pages (pageBound ty)) (admitsOf (ty .limits) pages)) ⌝ }
+{
+    let limits = ty.limits;
+    if pages < limits.minimum {
+        return false;
+    }
+    admits_pages(ty, pages)
 }
 
 impl Memory {
@@ -75,15 +105,15 @@ impl Memory {
     {
         let ty = self.ty;
         let page = ty.page;
-        let limits = ty.limits;
-        let pages = self.pages();
-        if self.size % page.page_size() != 0 {
-            return false;
+        match page {
+            PageSize::One => sound_pages(ty, self.size),
+            PageSize::Wasm => {
+                if self.size % 65536 != 0 {
+                    return false;
+                }
+                sound_pages(ty, self.size / 65536)
+            }
         }
-        if pages < limits.minimum {
-            return false;
-        }
-        admits_pages(ty, pages)
     }
 
     // Whether the record is sound over a buffer of `len` bytes.

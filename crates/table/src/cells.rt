@@ -76,15 +76,16 @@ fn put_long(part: &mut [u64], source: &[u64])
     }
 }
 
-// The part becomes the cells of a source of the same length, however long.
+// The part becomes the cells of a source of the same length, however long. A long source is lent anew, so that a short one is not stored.
 fn put_all(part: &mut [u64], source: &[u64])
     requires { ⌜ length (now part) ≡ length (now source) ⌝ }
     ensures { λ _. ⌜ now (part .exit) ≡ now (source .entry) ⌝ }
 {
-    if source.len() <= 8192 {
+    let n = source.len();
+    if n <= 8192 {
         put_some(part, source);
     } else {
-        put_long(part, source);
+        put_long(part, &source[0..n]);
     }
 }
 

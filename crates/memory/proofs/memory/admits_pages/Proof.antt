@@ -1,24 +1,20 @@
 -- `memory::memory::admits_pages` meets its contract. Assumes nothing.
-use Rattle.memory.proofs.Sounds.{admits-by, admits-none}
+use Rattle.base.proofs.Picks.{cases}
 use borrow.Author.Needs.{needs}
 use Rattle.memory.proofs.memory.admits_pages.Statement.{statement}
 use Rattle.memory.proofs.memory.admits_pages.Tie as tie
 
-absolute-max-requires : tie.Need-absolute-max-requires
-absolute-max-requires c κs = search needs
-
-covers-requires : tie.Need-covers-requires
-covers-requires c κs = search needs
+within-bound-requires : tie.Need-within-bound-requires
+within-bound-requires c κs = search needs
 
 admits-requires : tie.Need-admits-requires
 admits-requires c κs = search needs
 
 returns : tie.Need-returns
-returns c = search admits-by
+returns c = search cases
 
 returns-2 : tie.Need-returns-2
-returns-2 c = search admits-none
+returns-2 c = search cases
 
 pub admits-pages-spec : {M : Type 1} → statement M
-admits-pages-spec =
-    tie.close (tie.spec absolute-max-requires covers-requires admits-requires returns returns-2)
+admits-pages-spec = tie.close (tie.spec within-bound-requires admits-requires returns returns-2)
