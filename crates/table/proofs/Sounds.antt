@@ -39,12 +39,15 @@ module _ (t : Table) (len : ℕ) (e : soundTable t len ≡ true) where
   sound-within = omega (arith, sound-room, sound-size)
 
 module _ (s : ElementSegment) (len : ℕ) (e : soundSegment s len ≡ true) where
+  pub segment-room : s .start + s .places ≤ len
+  unfolding soundSegment
+  segment-room = buffer-within _ _ _ (both-1 _ _ e)
+
   pub segment-places : Places s len
   unfolding soundSegment
   segment-places =
-      let p : s .start + s .places ≤ len = buffer-within _ _ _ (both-1 _ _ e) in
       let q : s .size ≤ s .places = leb-true _ _ (both-2 _ _ e) in
-      omega arith
+      omega (arith, segment-room)
 
 -- once the record was tested
 pub tested-room : (t : Table) (len : ℕ) {r : Bool} → r ≡ soundTable t len → r ≡ true → Roomed t len

@@ -4,4 +4,3 @@ pub mod Limits
 pub mod MemoryType
 pub mod Raw
 pub mod TableType
-pub mod Cases

@@ -1,0 +1,105 @@
+-- Laws of sound lists of records, over any kind of record: each record is sound; a record replaced, a record added. Assumes nothing.
+use Prim.Native.Nat.{ℕ, zero, suc, _+_, _-_, _≤_, _<_}
+use mathlib.Core.Path.{_≡_, refl, sym, ap, subst, _∙_}
+use mathlib.Core.Bool.{Bool, true, false}
+use mathlib.Core.List.{List, [], _∷_}
+use native.Mathlib.Omega.{arith}
+use native.Mathlib.Numerals.{add-one}
+use lib.Dec.{eqb, leb}
+use lib.ListN.{length, take, getD, set, length-set}
+use borrow.Author.Tests.{le-leb, leb-true, eq-eqb, eqb-true, eqb-false, ne-eqb}
+use Rattle.base.specs.Pick.{pick, both}
+use Rattle.base.proofs.Picks.{pick-true, pick-false, both-true, both-1, both-2, either}
+use Rattle.machine.specs.Sound.{follow, soundList}
+
+module _ {A : Type 0} (sound : A → Bool) (start end : A → ℕ) where
+  -- records that follow each other are sound
+  follow-each : (from n i : ℕ) (xs : List A) (d : A) → i < n → n ≤ length xs → follow sound start end from (take n xs) ≡ true → sound (getD xs i d) ≡ true
+  unfolding follow
+  follow-each from n i [] d h k e = absurd (omega arith)
+  follow-each from zero i (x ∷ xs) d h k e = absurd (omega arith)
+  follow-each from (suc n) zero (x ∷ xs) d h k e = both-1 _ _ (both-2 _ _ e)
+  follow-each from (suc n) (suc i) (x ∷ xs) d h k e = follow-each (end x) n i xs d (omega arith) (omega arith) (both-2 _ _ (both-2 _ _ e))
+
+  -- another record in the place of one, from the same start to the same end
+  follow-set : (from n i : ℕ) (xs : List A) (d r : A) → sound r ≡ true → start r ≡ start (getD xs i d) → end r ≡ end (getD xs i d)
+      → i < n → n ≤ length xs → follow sound start end from (take n xs) ≡ true → follow sound start end from (take n (set xs i r)) ≡ true
+  unfolding follow
+  follow-set from n i [] d r s p q h k e = absurd (omega arith)
+  follow-set from zero i (x ∷ xs) d r s p q h k e = absurd (omega arith)
+  follow-set from (suc n) zero (x ∷ xs) d r s p q h k e =
+      both-true _ _ (ap (λ (a : ℕ). eqb a from) p ∙ both-1 _ _ e)
+      (both-true _ _ s (ap (λ (a : ℕ). follow sound start end a (take n xs)) q ∙ both-2 _ _ (both-2 _ _ e)))
+  follow-set from (suc n) (suc i) (x ∷ xs) d r s p q h k e =
+      both-true _ _ (both-1 _ _ e)
+      (both-true _ _ (both-1 _ _ (both-2 _ _ e))
+      (follow-set (end x) n i xs d r s p q (omega arith) (omega arith) (both-2 _ _ (both-2 _ _ e))))
+
+  -- one more record, which starts where the last one ends
+  follow-add : (from n : ℕ) (xs : List A) (d r : A) → sound r ≡ true → (n ≡ 0 → start r ≡ from) → ((k : ℕ) → n ≡ suc k → start r ≡ end (getD xs k d))
+      → n < length xs → follow sound start end from (take n xs) ≡ true → follow sound start end from (take (suc n) (set xs n r)) ≡ true
+  unfolding follow
+  follow-add from n [] d r s p q h e = absurd (omega arith)
+  follow-add from zero (x ∷ xs) d r s p q h e = both-true _ _ (eq-eqb _ _ (p refl)) (both-true _ _ s refl)
+  follow-add from (suc n) (x ∷ xs) d r s p q h e =
+      both-true _ _ (both-1 _ _ e)
+      (both-true _ _ (both-1 _ _ (both-2 _ _ e))
+      (follow-add (end x) n xs d r s (λ z. q 0 (ap suc z)) (λ k z. q (suc k) (ap suc z)) (omega arith) (both-2 _ _ (both-2 _ _ e))))
+
+  -- where the next record starts
+  abbrev pub next : A → ℕ → List A → ℕ
+  next d n xs = pick (eqb n 0) 0 (end (getD xs (n - 1) d))
+
+  list-sound : (n : ℕ) (xs : List A) → 8 ≤ length xs → n ≤ 8 → follow sound start end 0 (take n xs) ≡ true → soundList sound start end n xs ≡ true
+  unfolding soundList
+  list-sound n xs h k e = both-true _ _ (le-leb _ _ h) (both-true _ _ (le-leb _ _ k) e)
+
+  -- no record is in use
+  pub none-sound : (xs : List A) → 8 ≤ length xs → soundList sound start end 0 xs ≡ true
+  unfolding follow
+  none-sound xs h = list-sound 0 xs h (omega arith) refl
+
+  module _ (d : A) (n : ℕ) (xs : List A) (e : soundList sound start end n xs ≡ true) where
+    long : 8 ≤ length xs
+    unfolding soundList
+    long = leb-true _ _ (both-1 _ _ e)
+
+    few : n ≤ 8
+    unfolding soundList
+    few = leb-true _ _ (both-1 _ _ (both-2 _ _ e))
+
+    followed : follow sound start end 0 (take n xs) ≡ true
+    unfolding soundList
+    followed = both-2 _ _ (both-2 _ _ e)
+
+    -- each record in use is sound
+    pub each-sound : (i : ℕ) → i < n → sound (getD xs i d) ≡ true
+    each-sound i h = follow-each 0 n i xs d h (omega (arith, long, few)) followed
+
+    -- a record in use is replaced by one from the same start to the same end
+    pub set-sound : (i : ℕ) (r : A) → i < n → sound r ≡ true → start r ≡ start (getD xs i d) → end r ≡ end (getD xs i d)
+        → soundList sound start end n (set xs i r) ≡ true
+    set-sound i r h s p q =
+        list-sound n (set xs i r) (omega (arith, length-set xs i r, long)) few
+        (follow-set 0 n i xs d r s p q h (omega (arith, long, few)) followed)
+
+    -- one more record, which starts where the last one ends
+    pub add-sound : (r : A) → n < 8 → sound r ≡ true → start r ≡ next d n xs → soundList sound start end (n + 1) (set xs n r) ≡ true
+    add-sound r h s p =
+        list-sound (n + 1) (set xs n r) (omega (arith, length-set xs n r, long)) (omega arith)
+        (rw add-one
+        (follow-add 0 n xs d r s
+        (λ z. p ∙ pick-true _ _ _ (eq-eqb n 0 z))
+        (λ k z.
+        let j : n - 1 ≡ k = omega arith in
+        p ∙ pick-false _ _ _ (ne-eqb n 0 (λ y. omega arith)) ∙ ap (λ (a : ℕ). end (getD xs a d)) j)
+        (omega (arith, long)) followed))
+
+    -- the next record starts inside what every sound record ends in
+    pub next-inside : (len : ℕ) → ((r : A) → sound r ≡ true → end r ≤ len) → next d n xs ≤ len
+    next-inside len f =
+        either (eqb n 0)
+        (λ t. subst (λ (a : ℕ). a ≤ len) (sym (pick-true _ _ _ t)) (omega arith))
+        (λ t.
+        let z : ¬ (n ≡ 0) = eqb-false n 0 t in
+        subst (λ (a : ℕ). a ≤ len) (sym (pick-false _ _ _ t)) (f _ (each-sound (n - 1) (omega arith))))

@@ -1,0 +1,82 @@
+use Rattle.table.specs.Element.{newSegment}
+use Rattle.machine.specs.Operation.{kindOf}
+use Rattle.machine.specs.Step.{done, segmentMadeOn, newSegmentOn}
+use Rattle.base.specs.Pick.{both}
+use lib.ListN.{length}
+use lib.Dec.{leb, ltb}
+use Prim.Native.Nat.{ℕ, _-_}
+use Rattle.machine.specs.declared.outcome.Outcome.{Outcome}
+use denote.Ref.{now}
+use Rattle.base.proofs.Picks.{pick-true, pick-false, both-true, both-left, both-right, both-then, cases}
+use mathlib.Core.Path.{_≡_, refl, sym, ap, _∙_}
+use borrow.Author.Needs.{needs}
+use Rattle.machine.proofs.records.Machine.add_items.Statement.{statement}
+use Rattle.machine.proofs.records.Machine.add_items.Tie as tie
+use Rattle.machine.proofs.records.Machine.add_items.Reads as reads
+use Rattle.machine.proofs.records.Machine.add_items.Lts as lts
+use Rattle.machine.proofs.records.Machine.make_segment.Reads as make-segment-reads
+use Rattle.machine.proofs.records.Machine.next_item.Reads as next-item-reads
+use Rattle.machine.proofs.records.Machine.refuses.Reads as refuses-reads
+use Rattle.machine.proofs.records.finds_room.Reads as finds-room-reads
+
+-- src/segments.rt:119:13
+next-item-requires : tie.Need-next-item-requires
+next-item-requires c κs = search needs
+
+-- src/segments.rt:120:81
+sub-finds-room : tie.Need-sub-finds-room
+sub-finds-room c = search needs
+
+-- src/segments.rt:120:12
+finds-room-requires : tie.Need-finds-room-requires
+finds-room-requires c κs = search needs
+
+-- src/segments.rt:121:13
+make-segment-requires : tie.Need-make-segment-requires
+make-segment-requires c κs = search needs
+
+-- src/segments.rt:121:13
+same-length : tie.Need-same-length
+same-length c = search needs
+
+-- src/segments.rt:121:13
+returns : tie.Need-returns
+unfolding newSegmentOn
+returns c =
+    let a = c .before .before .before .before .before .before .before .before .before .args in
+    c .before .before .make-segment .ensures
+    ∙ ap (λ (s : ℕ). segmentMadeOn (a .self) (newSegment (kindOf (a .kind)) s (now (a .items)) (now (a .given)))) (c .before .before .before .before .before .before .next-item .ensures)
+    ∙ sym
+    (pick-true _ _ _
+    (ap (λ (s : ℕ). both (ltb (a .self .counts .segments) 8) (leb (length (now (a .given))) (length (now (a .items)) - s))) (sym (c .before .before .before .before .before .before .next-item .ensures))
+    ∙ sym (c .before .before .before .before .before .finds-room .ensures)
+    ∙ c .before .before .before .before .if1 .taken))
+
+-- src/segments.rt:123:9
+refuses-requires : tie.Need-refuses-requires
+refuses-requires c κs = search needs
+
+-- src/segments.rt:115:5
+returns-2 : tie.Need-returns-2
+unfolding newSegmentOn
+returns-2 c =
+    let a = c .before .before .before .before .before .before .args in
+    ap (λ (o : Outcome). done o (now (a .items))) (c .refuses .ensures)
+    ∙ sym
+    (pick-false _ _ _
+    (ap (λ (s : ℕ). both (ltb (a .self .counts .segments) 8) (leb (length (now (a .given))) (length (now (a .items)) - s))) (sym (c .before .before .before .next-item .ensures))
+    ∙ sym (c .before .before .finds-room .ensures)
+    ∙ c .before .if1 .left))
+
+pub add-items-spec : {M : Type 1} → statement M
+add-items-spec =
+    tie.close
+    (tie.spec
+    next-item-requires
+    sub-finds-room
+    finds-room-requires
+    make-segment-requires
+    same-length
+    returns
+    refuses-requires
+    returns-2)

@@ -1,0 +1,82 @@
+use Rattle.memory.specs.New.{newMemory}
+use Rattle.machine.specs.Operation.{yes, limitsOf, exponentOf}
+use Rattle.machine.specs.Step.{done, madeOn, newMemoryOn}
+use Rattle.base.specs.Pick.{both}
+use lib.ListN.{length}
+use lib.Dec.{leb, ltb}
+use Prim.Native.Nat.{ℕ, _-_}
+use Rattle.machine.specs.declared.outcome.Outcome.{Outcome}
+use denote.Ref.{now}
+use Rattle.base.proofs.Picks.{pick-true, pick-false, both-true, both-left, both-right, both-then, cases}
+use mathlib.Core.Path.{_≡_, refl, sym, ap, _∙_}
+use borrow.Author.Needs.{needs}
+use Rattle.machine.proofs.records.Machine.new_memory.Statement.{statement}
+use Rattle.machine.proofs.records.Machine.new_memory.Tie as tie
+use Rattle.machine.proofs.records.Machine.new_memory.Reads as reads
+use Rattle.machine.proofs.records.Machine.new_memory.Lts as lts
+use Rattle.machine.proofs.records.Machine.make_memory.Reads as make-memory-reads
+use Rattle.machine.proofs.records.Machine.next_byte.Reads as next-byte-reads
+use Rattle.machine.proofs.records.Machine.refuses.Reads as refuses-reads
+use Rattle.machine.proofs.records.finds_room.Reads as finds-room-reads
+
+-- src/memories.rt:156:13
+next-byte-requires : tie.Need-next-byte-requires
+next-byte-requires c κs = search needs
+
+-- src/memories.rt:157:67
+sub-finds-room : tie.Need-sub-finds-room
+sub-finds-room c = search needs
+
+-- src/memories.rt:157:12
+finds-room-requires : tie.Need-finds-room-requires
+finds-room-requires c κs = search needs
+
+-- src/memories.rt:158:13
+make-memory-requires : tie.Need-make-memory-requires
+make-memory-requires c κs = search needs
+
+-- src/memories.rt:158:13
+same-length : tie.Need-same-length
+same-length c = search needs
+
+-- src/memories.rt:158:13
+returns : tie.Need-returns
+unfolding newMemoryOn
+returns c =
+    let a = c .before .before .before .before .before .before .before .before .args in
+    c .before .before .make-memory .ensures
+    ∙ ap (λ (s : ℕ). madeOn (a .self) (newMemory (yes (a .wide)) (limitsOf (a .bounded) (a .minimum) (a .maximum)) (exponentOf (a .exponent)) s (a .room) (now (a .bytes)) (a .self .limiter))) (c .before .before .before .before .before .before .next-byte .ensures)
+    ∙ sym
+    (pick-true _ _ _
+    (ap (λ (s : ℕ). both (ltb (a .self .counts .memories) 8) (leb (a .room) (length (now (a .bytes)) - s))) (sym (c .before .before .before .before .before .before .next-byte .ensures))
+    ∙ sym (c .before .before .before .before .before .finds-room .ensures)
+    ∙ c .before .before .before .before .if1 .taken))
+
+-- src/memories.rt:160:9
+refuses-requires : tie.Need-refuses-requires
+refuses-requires c κs = search needs
+
+-- src/memories.rt:143:5
+returns-2 : tie.Need-returns-2
+unfolding newMemoryOn
+returns-2 c =
+    let a = c .before .before .before .before .before .args in
+    ap (λ (o : Outcome). done o (now (a .bytes))) (c .refuses .ensures)
+    ∙ sym
+    (pick-false _ _ _
+    (ap (λ (s : ℕ). both (ltb (a .self .counts .memories) 8) (leb (a .room) (length (now (a .bytes)) - s))) (sym (c .before .before .before .next-byte .ensures))
+    ∙ sym (c .before .before .finds-room .ensures)
+    ∙ c .before .if1 .left))
+
+pub new-memory-spec : {M : Type 1} → statement M
+new-memory-spec =
+    tie.close
+    (tie.spec
+    next-byte-requires
+    sub-finds-room
+    finds-room-requires
+    make-memory-requires
+    same-length
+    returns
+    refuses-requires
+    returns-2)

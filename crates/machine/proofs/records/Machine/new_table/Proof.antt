@@ -1,0 +1,82 @@
+use Rattle.table.specs.New.{newTable}
+use Rattle.machine.specs.Operation.{yes, limitsOf, kindOf, referenceOf}
+use Rattle.machine.specs.Step.{done, tableMadeOn, newTableOn}
+use Rattle.base.specs.Pick.{both}
+use lib.ListN.{length}
+use lib.Dec.{leb, ltb}
+use Prim.Native.Nat.{ℕ, _-_}
+use Rattle.machine.specs.declared.outcome.Outcome.{Outcome}
+use denote.Ref.{now}
+use Rattle.base.proofs.Picks.{pick-true, pick-false, both-true, both-left, both-right, both-then, cases}
+use mathlib.Core.Path.{_≡_, refl, sym, ap, _∙_}
+use borrow.Author.Needs.{needs}
+use Rattle.machine.proofs.records.Machine.new_table.Statement.{statement}
+use Rattle.machine.proofs.records.Machine.new_table.Tie as tie
+use Rattle.machine.proofs.records.Machine.new_table.Reads as reads
+use Rattle.machine.proofs.records.Machine.new_table.Lts as lts
+use Rattle.machine.proofs.records.Machine.make_table.Reads as make-table-reads
+use Rattle.machine.proofs.records.Machine.next_cell.Reads as next-cell-reads
+use Rattle.machine.proofs.records.Machine.refuses.Reads as refuses-reads
+use Rattle.machine.proofs.records.finds_room.Reads as finds-room-reads
+
+-- src/tables.rt:187:13
+next-cell-requires : tie.Need-next-cell-requires
+next-cell-requires c κs = search needs
+
+-- src/tables.rt:188:65
+sub-finds-room : tie.Need-sub-finds-room
+sub-finds-room c = search needs
+
+-- src/tables.rt:188:12
+finds-room-requires : tie.Need-finds-room-requires
+finds-room-requires c κs = search needs
+
+-- src/tables.rt:189:13
+make-table-requires : tie.Need-make-table-requires
+make-table-requires c κs = search needs
+
+-- src/tables.rt:189:13
+same-length : tie.Need-same-length
+same-length c = search needs
+
+-- src/tables.rt:189:13
+returns : tie.Need-returns
+unfolding newTableOn
+returns c =
+    let a = c .before .before .before .before .before .before .before .before .args in
+    c .before .before .make-table .ensures
+    ∙ ap (λ (s : ℕ). tableMadeOn (a .self) (newTable (kindOf (a .kind)) (yes (a .wide)) (limitsOf (a .bounded) (a .minimum) (a .maximum)) (referenceOf (a .initial) (a .bits)) s (a .room) (now (a .cells)) (a .self .limiter))) (c .before .before .before .before .before .before .next-cell .ensures)
+    ∙ sym
+    (pick-true _ _ _
+    (ap (λ (s : ℕ). both (ltb (a .self .counts .tables) 8) (leb (a .room) (length (now (a .cells)) - s))) (sym (c .before .before .before .before .before .before .next-cell .ensures))
+    ∙ sym (c .before .before .before .before .before .finds-room .ensures)
+    ∙ c .before .before .before .before .if1 .taken))
+
+-- src/tables.rt:191:9
+refuses-requires : tie.Need-refuses-requires
+refuses-requires c κs = search needs
+
+-- src/tables.rt:172:5
+returns-2 : tie.Need-returns-2
+unfolding newTableOn
+returns-2 c =
+    let a = c .before .before .before .before .before .args in
+    ap (λ (o : Outcome). done o (now (a .cells))) (c .refuses .ensures)
+    ∙ sym
+    (pick-false _ _ _
+    (ap (λ (s : ℕ). both (ltb (a .self .counts .tables) 8) (leb (a .room) (length (now (a .cells)) - s))) (sym (c .before .before .before .next-cell .ensures))
+    ∙ sym (c .before .before .finds-room .ensures)
+    ∙ c .before .if1 .left))
+
+pub new-table-spec : {M : Type 1} → statement M
+new-table-spec =
+    tie.close
+    (tie.spec
+    next-cell-requires
+    sub-finds-room
+    finds-room-requires
+    make-table-requires
+    same-length
+    returns
+    refuses-requires
+    returns-2)

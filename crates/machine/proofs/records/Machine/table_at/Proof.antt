@@ -1,0 +1,37 @@
+use Rattle.machine.proofs.Lists.{past}
+use mathlib.Core.Path.{_≡_, sym, _∙_}
+use lib.ListN.{length, length-map}
+use Rattle.machine.specs.Machine.{noTable}
+use borrow.Author.Needs.{needs}
+use Rattle.machine.proofs.records.Machine.table_at.Statement.{statement}
+use Rattle.machine.proofs.records.Machine.table_at.Tie as tie
+use Rattle.machine.proofs.records.Machine.table_at.Reads as reads
+use Rattle.machine.proofs.records.Machine.table_at.Lts as lts
+use Rattle.machine.proofs.records.no_table.Reads as no-table-reads
+
+-- src/records.rt:125:20
+mul-result : tie.Need-mul-result
+mul-result c = search needs
+
+-- src/records.rt:125:20
+element-copy-out-result : tie.Need-element-copy-out-result
+element-copy-out-result c = search needs
+
+-- src/records.rt:125:13
+returns : tie.Need-returns
+returns c = search needs
+
+-- src/records.rt:127:9
+no-table-requires : tie.Need-no-table-requires
+no-table-requires c κs = search needs
+
+-- src/records.rt:121:5
+returns-2 : tie.Need-returns-2
+returns-2 c =
+    let args = c .before .before .args in
+    let long : length (args .t1 .tables) ≡ 8 = sym (length-map (args .t1 .tables) _) ∙ c .before .before .good .0 .1 .1 .1 .0 .1 .0 .1 in
+    c .no-table .ensures ∙ sym (past (args .t1 .tables) noTable (args .i) long (c .before .if1 .left))
+
+pub table-at-spec : {M : Type 1} → statement M
+table-at-spec =
+    tie.close (tie.spec mul-result element-copy-out-result returns no-table-requires returns-2)

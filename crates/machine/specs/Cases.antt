@@ -1,0 +1,116 @@
+-- Document 01, "Checked by proof", P1 to P11: the definitions, computed, as one list with one claim.
+use Prim.Native.Nat.{ℕ, zero, suc, _+_, _-_, _*_, _^_, _/_, _%_, min}
+use mathlib.Core.Bool.{Bool, true, false}
+use mathlib.Core.List.{List, [], _∷_, _++_}
+use mathlib.Core.Path.{_≡_, refl}
+use lib.Dec.{eqb, leb, ltb}
+use lib.ListN.{length, replicate}
+use Rattle.base.specs.Pick.{pick, both}
+use Rattle.base.specs.Price.{capped, price}
+use Rattle.base.specs.Span.{inside, cut, over}
+use Rattle.base.specs.Answer.{bitsOf, float32, float64, numberOf, shownOf}
+use Rattle.base.specs.Fuel.{setFuel}
+use Rattle.base.specs.Limiter.{padded, noLimiter, saysOf, moved, heardOf}
+use Rattle.base.specs.declared.answer.Answer.{Answer}
+use Rattle.types.specs.IndexType.{maxSize}
+use Rattle.types.specs.Limits.{validLimits, validMaximum, admitsOf}
+use Rattle.types.specs.MemoryType.{pageBound, validMemory, buildMemory, byteSize, minimumBytes}
+use Rattle.types.specs.TableType.{tableBound, validTable, elementMatches}
+use Rattle.types.specs.Raw.{rawBytes}
+use Rattle.types.specs.declared.index_ty.IndexType.the-variants.{I32}
+use Rattle.types.specs.declared.limits.Limits.{Limits}
+use Rattle.types.specs.declared.memory_ty.BuiltMemory.{BuiltMemory}
+use Rattle.types.specs.declared.memory_ty.BuiltMemory.the-variants.{Built, Refused}
+use Rattle.memory.specs.LittleEndian.{leBytes, leValue}
+use Rattle.memory.specs.Access.{addressOf, extend, loadedOf, loadFound, loadAt, storeFound, storeAt}
+use Rattle.memory.specs.Memory.{pagesOf, soundRoom, soundSize, soundMemory, loadMemory, storeMemory}
+use Rattle.memory.specs.New.{newMemory}
+use Rattle.table.specs.Table as table
+use Rattle.table.specs.Table.{soundBuffer, soundTable}
+use Rattle.table.specs.New.{newTable}
+use Rattle.table.specs.Element.{soundSegment, newSegment}
+use Rattle.table.specs.Copy.{copyWithin}
+use Rattle.table.specs.Init.{initTable}
+use Rattle.machine.specs.Machine.{Buffers, buffers, nextByte, nextCell, nextItem, freshMachine}
+use Rattle.machine.specs.Sound.{follow, soundList, soundMemories, soundTables, soundSegments, soundReferences, soundMachine}
+use Rattle.machine.specs.Operation.{binary, absentAsZero, limitFields, memoryFields, kindFields, tableFields, narrowStore, storeFields, itemField, itemFields, segmentFields, initFields, wellFormed, kindOf, narrowLoad, wideLoad, wholeLoad, loadKindOf, narrowStoreOf, wholeStore, storeKindOf}
+use Rattle.machine.specs.Outcome.{changed, settled}
+use Rattle.machine.specs.Step.{setting, madeMemory, newMemoryOn, loadOn, storeOn, madeTable, newTableOn, copyKnown, copyOn, initOn, madeSegment, newSegmentOn, perform, decide, step, run}
+use Rattle.machine.specs.declared.operation.Operation.{Operation}
+use Rattle.machine.specs.declared.operation.Operation.the-variants.{SetFuel, NewMemory, Load, Store, NewTable, TableCopy, TableInit, NewSegment}
+
+-- every test of a list holds
+unfoldable pub allHold : List Bool → Bool
+allHold [] = true
+allHold (b ∷ bs) = both b (allHold bs)
+
+-- the number that building a type gives
+unfoldable pub builtNumber : BuiltMemory → ℕ
+builtNumber (Built t) = 0
+builtNumber (Refused r) = r .number
+
+abbrev pub atLeast : ℕ → Limits
+atLeast n = record { minimum = n; bounded = false; maximum = 0 }
+
+abbrev pub upTo : ℕ → Limits
+upTo n = record { minimum = 0; bounded = true; maximum = n }
+
+-- number, and value or amount, of each answer
+unfoldable pub shown : List Answer → List ℕ
+shown [] = []
+shown (a ∷ more) = numberOf a ∷ shownOf a ∷ shown more
+
+-- what a fresh machine with B bytes a unit answers, over small buffers of zeros
+unfoldable pub answered : ℕ → List Operation → List ℕ
+answered b ops =
+    shown (run rawBytes (freshMachine true (record { copied = b; translated = 7; validated = 2 })) (buffers (replicate 8 0) (replicate 4 0) (replicate 4 0)) ops .answers)
+
+unfoldable pub same : List ℕ → List ℕ → Bool
+same [] [] = true
+same [] (y ∷ ys) = false
+same (x ∷ xs) [] = false
+same (x ∷ xs) (y ∷ ys) = both (eqb x y) (same xs ys)
+
+-- a table of two cells and a segment of two items
+abbrev pub tableAndSegment : List Operation
+tableAndSegment = NewTable 2 0 0 0 2 0 0 0 ∷ NewSegment 0 2 7 8 0 0 ∷ []
+
+-- a memory of one byte that holds ff
+abbrev pub byteFf : List Operation
+byteFf = NewMemory 1 0 0 1 0 0 ∷ Store 0 4 0 0 255 ∷ []
+
+unfoldable pub cases : List Bool
+cases =
+    -- P1: B 64: 63 bytes cost 0, 64 cost 1
+    eqb (price 64 63) 0
+    ∷ eqb (price 64 64) 1
+    -- P2: B 64, R 8: 7 references cost 0, 8 cost 1
+    ∷ eqb (price 64 (7 * 8)) 0
+    ∷ eqb (price 64 (8 * 8)) 1
+    -- P3: B 0: 0 bytes cost 2^64-1
+    ∷ eqb (price 0 0) (2 ^ 64 - 1)
+    -- P4: 32-bit, exponent 16: minimum 65,536 valid, 65,537 gives 1
+    ∷ eqb (builtNumber (buildMemory false (atLeast 65536) 16)) 0
+    ∷ eqb (builtNumber (buildMemory false (atLeast 65537) 16)) 1
+    -- P5: 32-bit, exponent 0: maximum 2^32 valid, 2^32+1 gives 1
+    ∷ eqb (builtNumber (buildMemory false (upTo (2 ^ 32)) 0)) 0
+    ∷ eqb (builtNumber (buildMemory false (upTo (2 ^ 32 + 1)) 0)) 1
+    -- P6: 64-bit, exponent 16, minimum 2^48: valid type, creation gives 2
+    ∷ eqb (builtNumber (buildMemory true (atLeast (2 ^ 48)) 16)) 0
+    ∷ same (answered 64 (NewMemory 0 1 0 (2 ^ 48) 0 16 ∷ [])) (2 ∷ 0 ∷ [])
+    -- P7: init of length 0 at the size passes, one further 13
+    ∷ same (answered 64 (tableAndSegment ++ (TableInit 0 0 2 0 0 ∷ TableInit 0 0 3 0 0 ∷ []))) (0 ∷ 0 ∷ 0 ∷ 0 ∷ 0 ∷ 0 ∷ 13 ∷ 0 ∷ [])
+    -- P8: B 0, fuel 5: copy of length 0 gives 7 with 2^64-1, init of length 0 passes
+    ∷ same (answered 0 (SetFuel 5 ∷ (tableAndSegment ++ (TableCopy 0 0 0 0 0 ∷ TableInit 0 0 0 0 0 ∷ [])))) (0 ∷ 0 ∷ 0 ∷ 0 ∷ 0 ∷ 0 ∷ 7 ∷ (2 ^ 64 - 1) ∷ 0 ∷ 0 ∷ [])
+    -- P9: byte ff: i32 from 8s is -1, i64 from 8u is 255
+    ∷ same (answered 64 (byteFf ++ (Load 0 4 0 0 ∷ Load 0 9 0 0 ∷ []))) (0 ∷ 0 ∷ 0 ∷ 0 ∷ 0 ∷ (2 ^ 32 - 1) ∷ 0 ∷ 255 ∷ [])
+    -- P10: pointer 2^64-1, offset 1: 9
+    ∷ same (answered 64 (byteFf ++ (Load 0 5 (2 ^ 64 - 1) 1 ∷ []))) (0 ∷ 0 ∷ 0 ∷ 0 ∷ 9 ∷ 0 ∷ [])
+    -- P11: 32-bit table bound: 2^32-2 plus 1 passes, plus 2 gives 6
+    ∷ eqb (pick (ltb (2 ^ 32 - 2 + 1) (maxSize I32)) 0 6) 0
+    ∷ eqb (pick (ltb (2 ^ 32 - 2 + 2) (maxSize I32)) 0 6) 6
+    ∷ []
+
+pub casesHold : allHold cases ≡ true
+unfolding allHold cases builtNumber shown answered same price capped buildMemory validMemory validLimits validMaximum admitsOf pageBound byteSize minimumBytes tableBound validTable elementMatches rawBytes inside cut over bitsOf float32 float64 numberOf shownOf setFuel padded noLimiter saysOf moved heardOf leBytes leValue addressOf extend loadedOf loadFound loadAt storeFound storeAt pagesOf soundRoom soundSize soundMemory loadMemory storeMemory newMemory table.soundSize soundBuffer soundTable newTable soundSegment newSegment copyWithin initTable nextByte nextCell nextItem freshMachine follow soundList soundMemories soundTables soundSegments soundReferences soundMachine binary absentAsZero limitFields memoryFields kindFields tableFields narrowStore storeFields itemField itemFields segmentFields initFields wellFormed kindOf narrowLoad wideLoad wholeLoad loadKindOf narrowStoreOf wholeStore storeKindOf changed settled setting madeMemory newMemoryOn loadOn storeOn madeTable newTableOn copyKnown copyOn initOn madeSegment newSegmentOn perform decide step run pick both
+casesHold = refl

@@ -1,0 +1,7 @@
+pub mod Machine
+pub mod Sound
+pub mod Operation
+pub mod Outcome
+pub mod Step
+pub mod Frame
+pub mod Cases

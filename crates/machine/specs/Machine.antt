@@ -1,0 +1,85 @@
+-- Document 01, "The machine": its records by number, and where the next room starts.
+use Prim.Native.Nat.{ℕ, _+_, _-_}
+use mathlib.Core.Bool.{Bool, false}
+use mathlib.Core.List.{List}
+use lib.Dec.{eqb}
+use lib.ListN.{length, getD, replicate}
+use Rattle.base.specs.Pick.{pick}
+use Rattle.base.specs.Fuel.{newFuel}
+use Rattle.base.specs.Limiter.{noLimiter}
+use Rattle.base.specs.declared.fuel.FuelCosts.{FuelCosts}
+use Rattle.types.specs.declared.index_ty.IndexType.the-variants as index
+use Rattle.types.specs.declared.memory_ty.PageSize.the-variants as page
+use Rattle.types.specs.declared.raw.RefType.the-variants as ref
+use Rattle.types.specs.declared.limits.Limits.{Limits}
+use Rattle.memory.specs.declared.memory.Memory.{Memory}
+use Rattle.table.specs.declared.table.Table.{Table}
+use Rattle.table.specs.declared.element.ElementSegment.{ElementSegment}
+use Rattle.machine.specs.declared.records.Machine.{Machine}
+use Rattle.machine.specs.declared.records.Counts.{Counts}
+
+-- what stands where no instance does
+abbrev pub noLimits : Limits
+noLimits = record { minimum = 0; bounded = false; maximum = 0 }
+
+abbrev pub noMemory : Memory
+noMemory =
+    record { ty = record { index = index.I32; page = page.One; limits = noLimits }; start = 0; room = 0; size = 0 }
+
+abbrev pub noTable : Table
+noTable =
+    record { ty = record { element = ref.Func; index = index.I32; limits = noLimits }; start = 0; room = 0; size = 0 }
+
+abbrev pub noSegment : ElementSegment
+noSegment = record { ty = ref.Func; start = 0; places = 0; size = 0 }
+
+-- instances are numbered from 0 in order of creation
+abbrev pub memoryAt : Machine → ℕ → Memory
+memoryAt m i = getD (m .memories) i noMemory
+
+abbrev pub tableAt : Machine → ℕ → Table
+tableAt m i = getD (m .tables) i noTable
+
+abbrev pub segmentAt : Machine → ℕ → ElementSegment
+segmentAt m i = getD (m .segments) i noSegment
+
+-- where a room ends, and where a segment's places do
+abbrev pub memoryEnd : Memory → ℕ
+memoryEnd r = r .start + r .room
+
+abbrev pub tableEnd : Table → ℕ
+tableEnd r = r .start + r .room
+
+abbrev pub segmentEnd : ElementSegment → ℕ
+segmentEnd r = r .start + r .places
+
+-- a room starts directly after the previous one
+unfoldable pub nextByte : Machine → ℕ
+nextByte m = pick (eqb (m .counts .memories) 0) 0 (memoryEnd (memoryAt m (m .counts .memories - 1)))
+
+unfoldable pub nextCell : Machine → ℕ
+nextCell m = pick (eqb (m .counts .tables) 0) 0 (tableEnd (tableAt m (m .counts .tables - 1)))
+
+unfoldable pub nextItem : Machine → ℕ
+nextItem m = pick (eqb (m .counts .segments) 0) 0 (segmentEnd (segmentAt m (m .counts .segments - 1)))
+
+-- the contents of what is lent: bytes of memories, cells of tables, items of segments
+pub record Buffers : Type 0 where
+  pub bytes : List ℕ
+  pub cells : List ℕ
+  pub items : List ℕ
+
+abbrev pub buffers : List ℕ → List ℕ → List ℕ → Buffers
+buffers bytes cells items = record { bytes = bytes; cells = cells; items = items }
+
+-- making a machine: fuel 0, no limiter, no instances
+unfoldable pub freshMachine : Bool → FuelCosts → Machine
+freshMachine metering costs =
+    record {
+      memories = replicate 8 noMemory;
+      tables = replicate 8 noTable;
+      segments = replicate 8 noSegment;
+      counts = record { memories = 0; tables = 0; segments = 0 };
+      fuel = newFuel metering costs;
+      limiter = noLimiter
+    }

@@ -1,0 +1,51 @@
+-- Document 01, "The machine" and "Numbers given back" (19): when records and buffers are sound.
+use Prim.Native.Nat.{ℕ, _^_}
+use mathlib.Core.Bool.{Bool, true}
+use mathlib.Core.List.{List, [], _∷_}
+use lib.Dec.{eqb, leb}
+use lib.ListN.{length, take}
+use Rattle.base.specs.Pick.{both}
+use Rattle.memory.specs.Memory.{soundMemory}
+use Rattle.table.specs.Table.{soundTable}
+use Rattle.table.specs.Element.{soundSegment}
+use Rattle.memory.specs.declared.memory.Memory.{Memory}
+use Rattle.table.specs.declared.table.Table.{Table}
+use Rattle.table.specs.declared.element.ElementSegment.{ElementSegment}
+use Rattle.machine.specs.Machine.{Buffers, memoryEnd, tableEnd, segmentEnd}
+use Rattle.machine.specs.declared.records.Machine.{Machine}
+
+-- records follow each other from a place on: each is sound, and starts where the one before it ends
+unfoldable pub follow : {A : Type 0} → (A → Bool) → (A → ℕ) → (A → ℕ) → ℕ → List A → Bool
+follow sound start end from [] = true
+follow sound start end from (x ∷ xs) =
+    both (eqb (start x) from) (both (sound x) (follow sound start end (end x) xs))
+
+-- a list with the 8 places, of which the first n are in use
+unfoldable pub soundList : {A : Type 0} → (A → Bool) → (A → ℕ) → (A → ℕ) → ℕ → List A → Bool
+soundList sound start end n xs =
+    both (leb 8 (length xs)) (both (leb n 8) (follow sound start end 0 (take n xs)))
+
+unfoldable pub soundMemories : Machine → ℕ → Bool
+soundMemories m len =
+    soundList (λ (r : Memory). soundMemory r len) (λ (r : Memory). r .start) memoryEnd (m .counts .memories) (m .memories)
+
+unfoldable pub soundTables : Machine → ℕ → Bool
+soundTables m len =
+    soundList (λ (r : Table). soundTable r len) (λ (r : Table). r .start) tableEnd (m .counts .tables) (m .tables)
+
+unfoldable pub soundSegments : Machine → ℕ → Bool
+soundSegments m len =
+    soundList (λ (r : ElementSegment). soundSegment r len) (λ (r : ElementSegment). r .start) segmentEnd (m .counts .segments) (m .segments)
+
+-- buffers of references have at most 2^32 cells
+unfoldable pub soundReferences : ℕ → ℕ → Bool
+soundReferences cells items = both (leb cells (2 ^ 32)) (leb items (2 ^ 32))
+
+unfoldable pub soundMachine : Machine → ℕ → ℕ → ℕ → Bool
+soundMachine m bytes cells items =
+    both (soundReferences cells items)
+    (both (soundMemories m bytes) (both (soundTables m cells) (soundSegments m items)))
+
+-- a machine over what it is lent
+abbrev pub soundOver : Machine → Buffers → Bool
+soundOver m b = soundMachine m (length (b .bytes)) (length (b .cells)) (length (b .items))

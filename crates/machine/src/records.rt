@@ -1,0 +1,191 @@
+// The machine's records by number, and where the next room starts.
+use base::fuel::Fuel;
+use base::fuel::FuelCosts;
+use base::limiter::Limiter;
+use memory::memory::Memory;
+use table::element::ElementSegment;
+use table::table::Table;
+use types::index_ty::IndexType;
+use types::limits::Limits;
+use types::memory_ty::MemoryType;
+use types::memory_ty::PageSize;
+use types::raw::RefType;
+use types::table_ty::TableType;
+ghost use mathlib.Core.Path.{_≡_};
+ghost use Prim.Native.Nat.{_<_, _^_};
+ghost use lib.Dec.{leb, ltb};
+ghost use Rattle.base.specs.Pick.{both};
+ghost use Rattle.machine.specs.Machine.{nextByte, nextCell, nextItem, noLimits, noMemory, noTable, noSegment, memoryAt, tableAt, segmentAt, freshMachine};
+
+// How many instances there are.
+pub struct Counts {
+    pub memories: usize,
+    pub tables: usize,
+    pub segments: usize,
+}
+
+pub struct Machine {
+    pub memories: [Memory; 8],
+    pub tables: [Table; 8],
+    pub segments: [ElementSegment; 8],
+    pub counts: Counts,
+    pub fuel: Fuel,
+    pub limiter: Limiter,
+}
+
+fn no_limits() -> Limits
+    ensures { λ r. ⌜ r ≡ noLimits ⌝ }
+{
+    Limits {
+        minimum: 0,
+        bounded: false,
+        maximum: 0,
+    }
+}
+
+fn no_memory() -> Memory
+    ensures { λ r. ⌜ r ≡ noMemory ⌝ }
+{
+    let limits = no_limits();
+    Memory {
+        ty: MemoryType {
+            index: IndexType::I32,
+            page: PageSize::One,
+            limits,
+        },
+        start: 0,
+        room: 0,
+        size: 0,
+    }
+}
+
+fn no_table() -> Table
+    ensures { λ r. ⌜ r ≡ noTable ⌝ }
+{
+    let limits = no_limits();
+    Table {
+        ty: TableType {
+            element: RefType::Func,
+            index: IndexType::I32,
+            limits,
+        },
+        start: 0,
+        room: 0,
+        size: 0,
+    }
+}
+
+fn no_segment() -> ElementSegment
+    ensures { λ r. ⌜ r ≡ noSegment ⌝ }
+{
+    ElementSegment {
+        ty: RefType::Func,
+        start: 0,
+        places: 0,
+        size: 0,
+    }
+}
+
+// Whether one more instance finds a number and its room; else 17.
+pub(crate) fn finds_room(count: usize, room: u64, left: usize) -> bool
+    ensures { λ r. ⌜ r ≡ both (ltb count 8) (leb room left) ⌝ }
+{
+    if count < 8 {
+        return room <= (left as u64);
+    }
+    false
+}
+
+impl Machine {
+    // A machine with fuel 0, no limiter and no instances.
+    pub fn new(metering: bool, costs: FuelCosts) -> Machine
+        ensures { λ r. ⌜ r ≡ freshMachine metering costs ⌝ }
+    {
+        let fuel = Fuel::new(metering, costs);
+        let limiter = Limiter::none();
+        let memory = no_memory();
+        let table = no_table();
+        let segment = no_segment();
+        Machine {
+            memories: [memory; 8],
+            tables: [table; 8],
+            segments: [segment; 8],
+            counts: Counts {
+                memories: 0,
+                tables: 0,
+                segments: 0,
+            },
+            fuel,
+            limiter,
+        }
+    }
+
+    // Where the next memory's room starts.
+    pub(crate) fn next_byte(self) -> usize
+        requires { ⌜ nextByte self < 2 ^ 64 ⌝ }
+        ensures { λ r. ⌜ r ≡ nextByte self ⌝ }
+    {
+        let count = self.counts.memories;
+        if count == 0 {
+            return 0;
+        }
+        let last = self.memory_at(count - 1);
+        last.start + (last.room as usize)
+    }
+
+    // Where the next table's room starts.
+    pub(crate) fn next_cell(self) -> usize
+        requires { ⌜ nextCell self < 2 ^ 64 ⌝ }
+        ensures { λ r. ⌜ r ≡ nextCell self ⌝ }
+    {
+        let count = self.counts.tables;
+        if count == 0 {
+            return 0;
+        }
+        let last = self.table_at(count - 1);
+        last.start + (last.room as usize)
+    }
+
+    // Where the next segment's places start.
+    pub(crate) fn next_item(self) -> usize
+        requires { ⌜ nextItem self < 2 ^ 64 ⌝ }
+        ensures { λ r. ⌜ r ≡ nextItem self ⌝ }
+    {
+        let count = self.counts.segments;
+        if count == 0 {
+            return 0;
+        }
+        let last = self.segment_at(count - 1);
+        last.start + (last.places as usize)
+    }
+
+    // The record of a memory.
+    pub(crate) fn memory_at(self, i: usize) -> Memory
+        ensures { λ r. ⌜ r ≡ memoryAt self i ⌝ }
+    {
+        if i < 8 {
+            return self.memories[i];
+        }
+        no_memory()
+    }
+
+    // The record of a table.
+    pub(crate) fn table_at(self, i: usize) -> Table
+        ensures { λ r. ⌜ r ≡ tableAt self i ⌝ }
+    {
+        if i < 8 {
+            return self.tables[i];
+        }
+        no_table()
+    }
+
+    // The record of a segment.
+    pub(crate) fn segment_at(self, i: usize) -> ElementSegment
+        ensures { λ r. ⌜ r ≡ segmentAt self i ⌝ }
+    {
+        if i < 8 {
+            return self.segments[i];
+        }
+        no_segment()
+    }
+}
