@@ -3,4 +3,7 @@ pub mod Laws
 pub mod Digits
 pub mod ListLaws
 pub mod Rooms
+pub mod Touched
+pub mod Kept
+pub mod Apart
 pub mod Unique

@@ -46,6 +46,27 @@ module _ {A : Type 0} (sound : A → Bool) (start end : A → ℕ) where
       (both-true _ _ (both-1 _ _ (both-2 _ _ e))
       (follow-add (end x) n xs d r s (λ z. q 0 (ap suc z)) (λ k z. q (suc k) (ap suc z)) (omega arith) (both-2 _ _ (both-2 _ _ e))))
 
+  -- records that follow each other start at or after the place where the first one does
+  follow-from : (from n i : ℕ) (xs : List A) (d : A) → ((r : A) → start r ≤ end r) → i < n → n ≤ length xs → follow sound start end from (take n xs) ≡ true
+      → from ≤ start (getD xs i d)
+  unfolding follow
+  follow-from from n i [] d o h k e = absurd (omega arith)
+  follow-from from zero i (x ∷ xs) d o h k e = absurd (omega arith)
+  follow-from from (suc n) zero (x ∷ xs) d o h k e = let q : start x ≡ from = eqb-true _ _ (both-1 _ _ e) in omega arith
+  follow-from from (suc n) (suc i) (x ∷ xs) d o h k e =
+      let q : start x ≡ from = eqb-true _ _ (both-1 _ _ e) in
+      omega (arith, o x, follow-from (end x) n i xs d o (omega arith) (omega arith) (both-2 _ _ (both-2 _ _ e)))
+
+  -- a record ends before any later one starts
+  follow-apart : (from n i j : ℕ) (xs : List A) (d : A) → ((r : A) → start r ≤ end r) → i < j → j < n → n ≤ length xs → follow sound start end from (take n xs) ≡ true
+      → end (getD xs i d) ≤ start (getD xs j d)
+  unfolding follow
+  follow-apart from n i j [] d o g h k e = absurd (omega arith)
+  follow-apart from zero i j (x ∷ xs) d o g h k e = absurd (omega arith)
+  follow-apart from (suc n) i zero (x ∷ xs) d o g h k e = absurd (omega arith)
+  follow-apart from (suc n) zero (suc j) (x ∷ xs) d o g h k e = follow-from (end x) n j xs d o (omega arith) (omega arith) (both-2 _ _ (both-2 _ _ e))
+  follow-apart from (suc n) (suc i) (suc j) (x ∷ xs) d o g h k e = follow-apart (end x) n i j xs d o (omega arith) (omega arith) (omega arith) (both-2 _ _ (both-2 _ _ e))
+
   -- where the next record starts
   abbrev pub next : A → ℕ → List A → ℕ
   next d n xs = pick (eqb n 0) 0 (end (getD xs (n - 1) d))
@@ -71,6 +92,13 @@ module _ {A : Type 0} (sound : A → Bool) (start end : A → ℕ) where
     followed : follow sound start end 0 (take n xs) ≡ true
     unfolding soundList
     followed = both-2 _ _ (both-2 _ _ e)
+
+    -- the records in use are within the list, and at most 8
+    pub in-use-long : n ≤ length xs
+    in-use-long = omega (arith, long, few)
+
+    pub in-use-few : n ≤ 8
+    in-use-few = few
 
     -- each record in use is sound
     pub each-sound : (i : ℕ) → i < n → sound (getD xs i d) ≡ true
@@ -103,3 +131,18 @@ module _ {A : Type 0} (sound : A → Bool) (start end : A → ℕ) where
         (λ t.
         let z : ¬ (n ≡ 0) = eqb-false n 0 t in
         subst (λ (a : ℕ). a ≤ len) (sym (pick-false _ _ _ t)) (f _ (each-sound (n - 1) (omega arith))))
+
+    -- rooms lie apart, in the order of their numbers
+    pub rooms-apart : ((r : A) → start r ≤ end r) → (i j : ℕ) → i < j → j < n → end (getD xs i d) ≤ start (getD xs j d)
+    rooms-apart o i j h g = follow-apart 0 n i j xs d o h g (omega (arith, long, few)) followed
+
+    -- every room ends before the next one
+    pub ends-before-next : ((r : A) → start r ≤ end r) → (i : ℕ) → i < n → end (getD xs i d) ≤ next d n xs
+    ends-before-next o i h =
+        let z : eqb n 0 ≡ false = ne-eqb n 0 (λ y. omega arith) in
+        subst (λ (a : ℕ). end (getD xs i d) ≤ a) (sym (pick-false _ _ _ z))
+        (either (eqb i (n - 1))
+        (λ t. subst (λ (a : ℕ). end (getD xs i d) ≤ end (getD xs a d)) (eqb-true i (n - 1) t) (omega arith))
+        (λ t.
+        let y : ¬ (i ≡ n - 1) = eqb-false i (n - 1) t in
+        omega (arith, o (getD xs (n - 1) d), rooms-apart o i (n - 1) (omega arith) (omega arith))))

@@ -1,0 +1,574 @@
+-- What an operation does to records in use and to the cells of their rooms, over any kind of record; each operation touches its target alone. Assumes nothing.
+use Prim.Native.Nat.{ℕ, zero, suc, _+_, _-_, _≤_, _<_}
+use mathlib.Core.Path.{_≡_, refl, sym, ap, subst, _∙_}
+use mathlib.Core.Bool.{Bool, true, false}
+use mathlib.Core.List.{List, [], _∷_}
+use mathlib.Core.Logic.{_⊎_, inl, inr}
+use native.Mathlib.Omega.{arith}
+use lib.Dec.{eqb, ltb}
+use lib.ListN.{length, take, drop, getD, set}
+use lib.Seq.{take-nil, take-take, drop-drop, getD-set-same, getD-set-other}
+use borrow.Author.Tests.{lt-ltb, eqb-true, eqb-false, ltb-true, ltb-false}
+use Rattle.base.specs.Pick.{pick}
+use Rattle.base.specs.Span.{cut}
+use Rattle.base.specs.declared.fuel.FuelStep.{FuelStep}
+use Rattle.base.specs.declared.fuel.FuelStep.the-variants as fuel-step
+use Rattle.types.specs.declared.limits.Limits.{Limits}
+use Rattle.types.specs.declared.memory_ty.MemoryType.{MemoryType}
+use Rattle.base.proofs.Picks.{pick-true, both-1, either}
+use Rattle.base.proofs.Spans.{length-over, over-low, over-after}
+use Rattle.memory.specs.Memory as of-memory
+use Rattle.memory.specs.Memory.{soundMemory}
+use Rattle.memory.specs.declared.memory.Memory.{Memory}
+use Rattle.memory.specs.New as new-memory-of
+use Rattle.memory.specs.New.{newMemory}
+use Rattle.memory.specs.Grow.{growMemory}
+use Rattle.memory.specs.declared.new.MadeMemory.{MadeMemory}
+use Rattle.memory.specs.declared.new.MadeMemory.the-variants as made-memory
+use Rattle.memory.proofs.Sounds.{sound-is}
+use Rattle.memory.proofs.Frames as memory-frames
+use Rattle.table.specs.Table as of-table
+use Rattle.table.specs.Table.{soundTable}
+use Rattle.table.specs.New as new-table-of
+use Rattle.table.specs.New.{newTable}
+use Rattle.table.specs.Grow.{growTable}
+use Rattle.table.specs.Element.{MadeWith, dropped, newSegment, soundSegment}
+use Rattle.table.specs.declared.new.MadeTable.{MadeTable}
+use Rattle.table.specs.declared.new.MadeTable.the-variants as made-table
+use Rattle.table.specs.declared.element.MadeSegment.{MadeSegment}
+use Rattle.table.specs.declared.element.MadeSegment.the-variants as made-segment
+use Rattle.table.specs.declared.table.Table.{Table}
+use Rattle.table.specs.declared.element.ElementSegment.{ElementSegment}
+use Rattle.table.proofs.Frames.{Kept, dropped-sound}
+use Rattle.table.proofs.Frames as table-frames
+use Rattle.machine.specs.Machine.{Buffers, buffers, noMemory, noTable, noSegment, memoryAt, tableAt, segmentAt, nextByte, nextCell, nextItem}
+use Rattle.machine.specs.Sound.{soundList, soundMemories, soundTables, soundSegments, soundOver}
+use Rattle.machine.specs.Frame.{InMemory, InTable, InSegment, NewItems, targetOf}
+use Rattle.machine.specs.Outcome.{withMemories, withTables, withSegments, changed, settled}
+use Rattle.machine.specs.Operation.{wellFormed, yes, limitsOf, exponentOf, kindOf, referenceOf, storeKindOf, itemsOf}
+use Rattle.machine.specs.Step.{Done, Performed, onNone, onBytes, onCells, onItems, setting, charging, madeMemory, newMemoryOn, growMemoryOn, storeOn, madeTable, newTableOn, growTableOn, setOn, fillOn, copyKnown, copyOn, initOn, dropOn, madeSegment, newSegmentOn, perform, decide, step}
+use Rattle.machine.specs.declared.records.Machine.{Machine}
+use Rattle.machine.specs.declared.outcome.Outcome.{Outcome}
+use Rattle.machine.specs.declared.outcome.Change.{Change}
+use Rattle.machine.specs.declared.outcome.Change.the-variants as change
+use Rattle.machine.specs.declared.operation.Operation.{Operation}
+use Rattle.machine.specs.declared.operation.Operation.the-variants.{Make, SetFuel, GetFuel, Charge, SetLimiter, NewMemory, GrowMemory, MemorySize, Load, Store, NewTable, GrowTable, TableSize, TableGet, TableSet, TableFill, TableCopy, TableInit, DropSegment, NewSegment, LinkCheck}
+use Rattle.machine.proofs.Rooms.{Parts, parts, memory-sound, table-sound, segment-sound}
+use Rattle.machine.proofs.ListLaws as lists
+
+-- the cells of a span, by those up to its end
+cut-of : (l : List ℕ) (b k : ℕ) → take k (drop b l) ≡ drop b (take (b + k) l)
+cut-of l zero k = let e : 0 + k ≡ k = omega arith in sym (ap (λ (j : ℕ). take j l) e)
+cut-of [] (suc b) k = take-nil k ∙ sym (ap (drop (suc b)) (take-nil (suc b + k)))
+cut-of (x ∷ xs) (suc b) k = let e : suc b + k ≡ suc (b + k) = omega arith in cut-of xs b k ∙ sym (ap (λ (j : ℕ). drop (suc b) (take j (x ∷ xs))) e)
+
+-- spans that lie apart from the cells that may differ are as they were
+module _ (x e : ℕ) (cs ds : List ℕ) (w : Kept x e cs ds) where
+  cut-before : (b k : ℕ) → b + k ≤ x → cut ds b k ≡ cut cs b k
+  unfolding cut
+  cut-before b k h =
+      let up : (l : List ℕ) → take (b + k) (take x l) ≡ take (b + k) l = λ l. take-take (b + k) x l h in
+      cut-of ds b k ∙ ap (drop b) (sym (up ds) ∙ ap (take (b + k)) (w .before) ∙ up cs) ∙ sym (cut-of cs b k)
+
+  cut-after : (b k : ℕ) → e ≤ b → cut ds b k ≡ cut cs b k
+  unfolding cut
+  cut-after b k h =
+      let q : e + (b - e) ≡ b = omega arith in
+      let on : (l : List ℕ) → drop (b - e) (drop e l) ≡ drop b l = λ l. drop-drop (b - e) e l ∙ ap (λ (j : ℕ). drop j l) q in
+      ap (take k) (sym (on ds) ∙ ap (drop (b - e)) (w .after) ∙ on cs)
+
+module _ {A : Type 0} (start room : A → ℕ) (d : A) (n : ℕ) (rs : List A) where
+  -- the cells after an operation: as many as before, and those of each room in use the same but where P holds
+  pub record Celled (P : ℕ → Type 0) (cs ds : List ℕ) : Type 0 where
+    pub long : length ds ≡ length cs
+    pub others : (i : ℕ) → i < n → (P i → ⊥) → cut ds (start (getD rs i d)) (room (getD rs i d)) ≡ cut cs (start (getD rs i d)) (room (getD rs i d))
+
+  pub cells-stay : (P : ℕ → Type 0) (cs : List ℕ) → Celled P cs cs
+  cells-stay P cs = record { long = refl; others = λ i h p. refl }
+
+  -- the records after an operation, n′ in use: sound, each in use before like what it was, and the same but where P holds
+  pub record Listed (sound : A → Bool) (Like : A → A → Type 0) (P : ℕ → Type 0) (n′ : ℕ) (rs′ : List A) : Type 0 where
+    pub sounds : soundList sound start (λ (r : A). start r + room r) n′ rs′ ≡ true
+    pub others : (i : ℕ) → i < n → (P i → ⊥) → getD rs′ i d ≡ getD rs i d
+    pub like : (i : ℕ) → i < n → Like (getD rs i d) (getD rs′ i d)
+
+  module _ (sound : A → Bool) (P : ℕ → Type 0) (e : soundList sound start (λ (r : A). start r + room r) n rs ≡ true) where
+    -- where a room ends
+    abbrev end : A → ℕ
+    end r = start r + room r
+
+    ordered : (r : A) → start r ≤ end r
+    ordered r = omega arith
+
+    -- of two places, at one of which P holds and at the other not
+    differ : (i j : ℕ) → P i → (P j → ⊥) → ¬ (j ≡ i)
+    differ i j p q h = q (subst P (sym h) p)
+
+    -- only cells of one room differ
+    pub cells-change : (i : ℕ) (cs ds : List ℕ) → P i → i < n → Kept (start (getD rs i d)) (start (getD rs i d) + room (getD rs i d)) cs ds → Celled P cs ds
+    cells-change i cs ds p h w =
+        record {
+          long = w .long;
+          others = λ j g q.
+              let z : ¬ (j ≡ i) = differ i j p q in
+              either (ltb j i)
+              (λ t. cut-before _ _ cs ds w _ _ (lists.rooms-apart sound start end d n rs e ordered j i (ltb-true j i t) h))
+              (λ t.
+              let y : i ≤ j = ltb-false j i t in
+              cut-after _ _ cs ds w _ _ (lists.rooms-apart sound start end d n rs e ordered i j (omega arith) g));
+        }
+
+    -- only cells past every room differ
+    pub cells-add : (hi : ℕ) (cs ds : List ℕ) → Kept (lists.next sound start (λ (r : A). start r + room r) d n rs) hi cs ds → Celled P cs ds
+    cells-add hi cs ds w = record { long = w .long; others = λ j g q. cut-before _ _ cs ds w _ _ (lists.ends-before-next sound start end d n rs e ordered j g) }
+
+    module _ (Like : A → A → Type 0) (same : (r : A) → Like r r) where
+      pub list-stays : Listed sound Like P n rs
+      list-stays = record { sounds = e; others = λ i h p. refl; like = λ i h. same _ }
+
+      -- a record is replaced by one like it, of the same room
+      pub list-changes : (i : ℕ) (r : A) → P i → i < n → sound r ≡ true → start r ≡ start (getD rs i d) → room r ≡ room (getD rs i d) → Like (getD rs i d) r
+          → Listed sound Like P n (set rs i r)
+      list-changes i r p h s a z l =
+          record {
+            sounds = lists.set-sound sound start end d n rs e i r h s a (omega arith);
+            others = λ j g q. getD-set-other rs i j r d (differ i j p q);
+            like = λ j g.
+                either (eqb j i)
+                (λ t.
+                let y : j ≡ i = eqb-true j i t in
+                subst (λ (k : ℕ). Like (getD rs k d) (getD (set rs i r) k d)) (sym y)
+                (subst (Like (getD rs i d)) (sym (getD-set-same rs i r d (omega (arith, lists.in-use-long sound start end d n rs e)))) l))
+                (λ t. subst (Like (getD rs j d)) (sym (getD-set-other rs i j r d (eqb-false j i t))) (same _));
+          }
+
+      -- one more record, which starts where the last one ends
+      pub list-adds : (r : A) → n < 8 → sound r ≡ true → start r ≡ lists.next sound start (λ (r : A). start r + room r) d n rs → Listed sound Like P (n + 1) (set rs n r)
+      list-adds r h s a =
+          record {
+            sounds = lists.add-sound sound start end d n rs e r h s a;
+            others = λ j g q. kept j g;
+            like = λ j g. subst (Like (getD rs j d)) (sym (kept j g)) (same _);
+          }
+        where
+          kept : (j : ℕ) → j < n → getD (set rs n r) j d ≡ getD rs j d
+          kept j g = getD-set-other rs n j r d (λ y. omega arith)
+
+-- each kind's records and cells, after an operation on a machine whose buffer has so many cells
+abbrev pub LikeMemory : Memory → Memory → Type 0
+LikeMemory old new = new ≡ of-memory.resized old (new .size)
+
+abbrev pub LikeTable : Table → Table → Type 0
+LikeTable old new = new ≡ of-table.resized old (new .size)
+
+abbrev pub LikeSegment : ElementSegment → ElementSegment → Type 0
+LikeSegment old new = (new ≡ old) ⊎ (new ≡ dropped old)
+
+abbrev pub Memories : Machine → ℕ → (ℕ → Type 0) → Machine → Type 0
+Memories m len P m′ =
+    Listed (λ (r : Memory). r .start) (λ (r : Memory). r .room) noMemory (m .counts .memories) (m .memories)
+    (λ (r : Memory). soundMemory r len) LikeMemory P (m′ .counts .memories) (m′ .memories)
+
+abbrev pub Tables : Machine → ℕ → (ℕ → Type 0) → Machine → Type 0
+Tables m len P m′ =
+    Listed (λ (r : Table). r .start) (λ (r : Table). r .room) noTable (m .counts .tables) (m .tables)
+    (λ (r : Table). soundTable r len) LikeTable P (m′ .counts .tables) (m′ .tables)
+
+abbrev pub Segments : Machine → ℕ → (ℕ → Type 0) → Machine → Type 0
+Segments m len P m′ =
+    Listed (λ (r : ElementSegment). r .start) (λ (r : ElementSegment). r .places) noSegment (m .counts .segments) (m .segments)
+    (λ (r : ElementSegment). soundSegment r len) LikeSegment P (m′ .counts .segments) (m′ .segments)
+
+abbrev pub Bytes : Machine → (ℕ → Type 0) → List ℕ → List ℕ → Type 0
+Bytes m P = Celled (λ (r : Memory). r .start) (λ (r : Memory). r .room) noMemory (m .counts .memories) (m .memories) P
+
+abbrev pub Cells : Machine → (ℕ → Type 0) → List ℕ → List ℕ → Type 0
+Cells m P = Celled (λ (r : Table). r .start) (λ (r : Table). r .room) noTable (m .counts .tables) (m .tables) P
+
+abbrev pub Items : Machine → (ℕ → Type 0) → List ℕ → List ℕ → Type 0
+Items m P = Celled (λ (r : ElementSegment). r .start) (λ (r : ElementSegment). r .places) noSegment (m .counts .segments) (m .segments) P
+
+-- what an operation leaves of a machine and its buffers
+pub record Touched (m : Machine) (b : Buffers) (op : Operation) (m′ : Machine) (b′ : Buffers) : Type 0 where
+  pub memories : Memories m (length (b .bytes)) (λ (i : ℕ). targetOf m op ≡ InMemory i) m′
+  pub bytes : Bytes m (λ (i : ℕ). targetOf m op ≡ InMemory i) (b .bytes) (b′ .bytes)
+  pub tables : Tables m (length (b .cells)) (λ (i : ℕ). targetOf m op ≡ InTable i) m′
+  pub cells : Cells m (λ (i : ℕ). targetOf m op ≡ InTable i) (b .cells) (b′ .cells)
+  pub segments : Segments m (length (b .items)) (λ (i : ℕ). targetOf m op ≡ InSegment i) m′
+  pub items : Items m (λ (i : ℕ). ⊥) (b .items) (b′ .items)
+  pub kept : (targetOf m op ≡ NewItems → ⊥) → b′ .items ≡ b .items
+
+-- a test and what follows from it
+tested : {A : Type 0} (P : A → Type 0) (t : Bool) (x y : A) → (t ≡ true → P x) → P y → P (pick t x y)
+unfolding pick
+tested P true x y f g = f refl
+tested P false x y f g = g
+
+-- only cells from lo up to hi differ
+within-kept : (bs : List ℕ) (lo hi : ℕ) (cs : List ℕ) → memory-frames.Within bs lo hi cs → hi ≤ length bs → Kept lo hi bs cs
+within-kept bs lo hi cs w h =
+    subst (Kept lo hi bs) (sym (w .cells))
+    (record {
+      long = length-over bs (w .at) (w .vs) (omega (arith, w .high));
+      before = over-low bs (w .at) (w .vs) lo (w .low) (omega (arith, w .high));
+      after = over-after bs (w .at) (w .vs) hi (omega (arith, w .high)) (w .high);
+    })
+
+-- a memory of the same type and room is the same but for its size
+like-same : (r old : Memory) → memory-frames.Same r old → LikeMemory old r
+like-same r old s =
+    let of : MemoryType → ℕ → ℕ → Memory = λ t a z. record { ty = t; start = a; room = z; size = r .size } in
+    ap (λ (t : MemoryType). of t (r .start) (r .room)) (s .ty) ∙ ap (λ (a : ℕ). of (old .ty) a (r .room)) (s .start) ∙ ap (of (old .ty) (old .start)) (s .room)
+
+module _ (m : Machine) (b : Buffers) (op : Operation) (e : soundOver m b ≡ true) where
+  -- what the operation may leave, and what is sound before it
+  abbrev To : Machine → Buffers → Type 0
+  To m′ b′ = Touched m b op m′ b′
+
+  abbrev sounds : Parts m (length (b .bytes)) (length (b .cells)) (length (b .items))
+  sounds = parts m (length (b .bytes)) (length (b .cells)) (length (b .items)) e
+
+  -- each kind, where its list stays
+  memories-stay : Memories m (length (b .bytes)) (λ (i : ℕ). targetOf m op ≡ InMemory i) m
+  unfolding soundMemories
+  memories-stay = list-stays _ _ _ _ _ _ _ (sounds .memories) _ (λ r. refl)
+
+  tables-stay : Tables m (length (b .cells)) (λ (i : ℕ). targetOf m op ≡ InTable i) m
+  unfolding soundTables
+  tables-stay = list-stays _ _ _ _ _ _ _ (sounds .tables) _ (λ r. refl)
+
+  segments-stay : Segments m (length (b .items)) (λ (i : ℕ). targetOf m op ≡ InSegment i) m
+  unfolding soundSegments
+  segments-stay = list-stays _ _ _ _ _ _ _ (sounds .segments) _ (λ r. inl refl)
+
+  -- nothing changes
+  stays : To m b
+  stays =
+      record {
+        memories = memories-stay;
+        bytes = cells-stay _ _ _ _ _ _ _;
+        tables = tables-stay;
+        cells = cells-stay _ _ _ _ _ _ _;
+        segments = segments-stay;
+        items = cells-stay _ _ _ _ _ _ _;
+        kept = λ h. refl;
+      }
+
+  -- memories and bytes alone change
+  on-bytes : (rs : List Memory) (n : ℕ) (bs : List ℕ) → Memories m (length (b .bytes)) (λ (i : ℕ). targetOf m op ≡ InMemory i) (withMemories m rs n)
+      → Bytes m (λ (i : ℕ). targetOf m op ≡ InMemory i) (b .bytes) bs → To (withMemories m rs n) (buffers bs (b .cells) (b .items))
+  on-bytes rs n bs l c =
+      record { memories = l; bytes = c; tables = tables-stay; cells = cells-stay _ _ _ _ _ _ _; segments = segments-stay; items = cells-stay _ _ _ _ _ _ _; kept = λ h. refl }
+
+  -- tables and cells alone change
+  on-cells : (rs : List Table) (n : ℕ) (cs : List ℕ) → Tables m (length (b .cells)) (λ (i : ℕ). targetOf m op ≡ InTable i) (withTables m rs n)
+      → Cells m (λ (i : ℕ). targetOf m op ≡ InTable i) (b .cells) cs → To (withTables m rs n) (buffers (b .bytes) cs (b .items))
+  on-cells rs n cs l c =
+      record { memories = memories-stay; bytes = cells-stay _ _ _ _ _ _ _; tables = l; cells = c; segments = segments-stay; items = cells-stay _ _ _ _ _ _ _; kept = λ h. refl }
+
+  -- segments and items alone change
+  on-items : (rs : List ElementSegment) (n : ℕ) (is : List ℕ) → Segments m (length (b .items)) (λ (i : ℕ). targetOf m op ≡ InSegment i) (withSegments m rs n)
+      → Items m (λ (i : ℕ). ⊥) (b .items) is → ((targetOf m op ≡ NewItems → ⊥) → is ≡ b .items) → To (withSegments m rs n) (buffers (b .bytes) (b .cells) is)
+  on-items rs n is l c k =
+      record { memories = memories-stay; bytes = cells-stay _ _ _ _ _ _ _; tables = tables-stay; cells = cells-stay _ _ _ _ _ _ _; segments = l; items = c; kept = k }
+
+  module _ (i : ℕ) (h : i < m .counts .memories) (p : targetOf m op ≡ InMemory i) (bs : List ℕ)
+      (w : Kept (memoryAt m i .start) (memoryAt m i .start + memoryAt m i .room) (b .bytes) bs) where
+    bytes-change : Bytes m (λ (i : ℕ). targetOf m op ≡ InMemory i) (b .bytes) bs
+    unfolding soundMemories
+    bytes-change = cells-change _ _ _ _ _ _ _ (sounds .memories) i (b .bytes) bs p h w
+
+    -- bytes of one memory
+    memory-written : To m (buffers bs (b .cells) (b .items))
+    memory-written = on-bytes (m .memories) (m .counts .memories) bs memories-stay bytes-change
+
+    -- and its size
+    memory-changed : (r : Memory) → soundMemory r (length (b .bytes)) ≡ true → LikeMemory (memoryAt m i) r
+        → To (changed (change.Memory i r) m) (buffers bs (b .cells) (b .items))
+    unfolding soundMemories changed
+    memory-changed r s l =
+        subst (λ (m′ : Machine). To m′ (buffers bs (b .cells) (b .items)))
+        (sym (pick-true _ _ _ (lt-ltb i 8 (omega (arith, h, lists.in-use-few _ _ _ noMemory _ _ (sounds .memories))))))
+        (on-bytes _ _ bs
+        (list-changes _ _ _ _ _ _ _ (sounds .memories) _ (λ r. refl) i r p h s (ap (λ (x : Memory). x .start) l) (ap (λ (x : Memory). x .room) l) l)
+        bytes-change)
+
+  -- one more memory
+  memory-added : (r : Memory) (hi : ℕ) (bs : List ℕ) → m .counts .memories < 8 → soundMemory r (length (b .bytes)) ≡ true → r .start ≡ nextByte m
+      → Kept (nextByte m) hi (b .bytes) bs
+      → To (changed (change.AddMemory r) m) (buffers bs (b .cells) (b .items))
+  unfolding soundMemories changed nextByte
+  memory-added r hi bs h s q w =
+      subst (λ (m′ : Machine). To m′ (buffers bs (b .cells) (b .items))) (sym (pick-true _ _ _ (lt-ltb (m .counts .memories) 8 h)))
+      (on-bytes _ _ bs
+      (list-adds _ _ _ _ _ _ _ (sounds .memories) _ (λ r. refl) r h s q)
+      (cells-add _ _ _ _ _ _ _ (sounds .memories) hi (b .bytes) bs w))
+
+  module _ (i : ℕ) (h : i < m .counts .tables) (p : targetOf m op ≡ InTable i) (cs : List ℕ)
+      (w : Kept (tableAt m i .start) (tableAt m i .start + tableAt m i .room) (b .cells) cs) where
+    cells-changed : Cells m (λ (i : ℕ). targetOf m op ≡ InTable i) (b .cells) cs
+    unfolding soundTables
+    cells-changed = cells-change _ _ _ _ _ _ _ (sounds .tables) i (b .cells) cs p h w
+
+    -- cells of one table
+    table-written : To m (buffers (b .bytes) cs (b .items))
+    table-written = on-cells (m .tables) (m .counts .tables) cs tables-stay cells-changed
+
+    -- and its size
+    table-changed : (r : Table) → soundTable r (length (b .cells)) ≡ true → LikeTable (tableAt m i) r
+        → To (changed (change.Table i r) m) (buffers (b .bytes) cs (b .items))
+    unfolding soundTables changed
+    table-changed r s l =
+        subst (λ (m′ : Machine). To m′ (buffers (b .bytes) cs (b .items)))
+        (sym (pick-true _ _ _ (lt-ltb i 8 (omega (arith, h, lists.in-use-few _ _ _ noTable _ _ (sounds .tables))))))
+        (on-cells _ _ cs
+        (list-changes _ _ _ _ _ _ _ (sounds .tables) _ (λ r. refl) i r p h s (ap (λ (x : Table). x .start) l) (ap (λ (x : Table). x .room) l) l)
+        cells-changed)
+
+  -- one more table
+  table-added : (r : Table) (hi : ℕ) (cs : List ℕ) → m .counts .tables < 8 → soundTable r (length (b .cells)) ≡ true → r .start ≡ nextCell m
+      → Kept (nextCell m) hi (b .cells) cs
+      → To (changed (change.AddTable r) m) (buffers (b .bytes) cs (b .items))
+  unfolding soundTables changed nextCell
+  table-added r hi cs h s q w =
+      subst (λ (m′ : Machine). To m′ (buffers (b .bytes) cs (b .items))) (sym (pick-true _ _ _ (lt-ltb (m .counts .tables) 8 h)))
+      (on-cells _ _ cs
+      (list-adds _ _ _ _ _ _ _ (sounds .tables) _ (λ r. refl) r h s q)
+      (cells-add _ _ _ _ _ _ _ (sounds .tables) hi (b .cells) cs w))
+
+  -- one segment is dropped
+  segment-dropped : (i : ℕ) → i < m .counts .segments → targetOf m op ≡ InSegment i → To (changed (change.Segment i (dropped (segmentAt m i))) m) b
+  unfolding soundSegments changed
+  segment-dropped i h p =
+      subst (λ (m′ : Machine). To m′ b)
+      (sym (pick-true _ _ _ (lt-ltb i 8 (omega (arith, h, lists.in-use-few _ _ _ noSegment _ _ (sounds .segments))))))
+      (on-items _ _ (b .items)
+      (list-changes _ _ _ _ _ _ _ (sounds .segments) _ (λ r. inl refl) i (dropped (segmentAt m i)) p h
+      (dropped-sound _ _ (segment-sound m (length (b .bytes)) (length (b .cells)) (length (b .items)) e i h)) refl refl (inr refl))
+      (cells-stay _ _ _ _ _ _ _) (λ k. refl))
+
+  -- one more segment
+  segment-added : (r : ElementSegment) (hi : ℕ) (is : List ℕ) → m .counts .segments < 8 → soundSegment r (length (b .items)) ≡ true → r .start ≡ nextItem m
+      → Kept (nextItem m) hi (b .items) is
+      → targetOf m op ≡ NewItems → To (changed (change.AddSegment r) m) (buffers (b .bytes) (b .cells) is)
+  unfolding soundSegments changed nextItem
+  segment-added r hi is h s q w t =
+      subst (λ (m′ : Machine). To m′ (buffers (b .bytes) (b .cells) is)) (sym (pick-true _ _ _ (lt-ltb (m .counts .segments) 8 h)))
+      (on-items _ _ is
+      (list-adds _ _ _ _ _ _ _ (sounds .segments) _ (λ r. inl refl) r h s q)
+      (cells-add _ _ _ _ _ _ _ (sounds .segments) hi (b .items) is w) (λ k. absurd (k t)))
+
+  -- an operation that changes neither record nor cell
+  still : (c : Change) (b′ : Buffers) → c ≡ change.Nothing → b′ ≡ b → To (changed c m) b′
+  unfolding changed
+  still c b′ p q = subst (λ (x : Change). To (changed x m) b′) (sym p) (subst (To m) (sym q) stays)
+
+  -- what is left where an operation was performed
+  abbrev Leaves : Performed → Type 0
+  Leaves p = To (changed (p .out .change) m) (p .buffers)
+
+  -- an instance in use is sound
+  abbrev memory-at : (i : ℕ) → i < m .counts .memories → soundMemory (memoryAt m i) (length (b .bytes)) ≡ true
+  memory-at = memory-sound m (length (b .bytes)) (length (b .cells)) (length (b .items)) e
+
+  abbrev table-at : (i : ℕ) → i < m .counts .tables → soundTable (tableAt m i) (length (b .cells)) ≡ true
+  table-at = table-sound m (length (b .bytes)) (length (b .cells)) (length (b .items)) e
+
+  -- 10
+  new-memory : (room wide bounded minimum maximum exponent : ℕ) → Leaves (onBytes (newMemoryOn m (b .bytes) room wide bounded minimum maximum exponent) b)
+  unfolding newMemoryOn madeMemory changed
+  new-memory room wide bounded minimum maximum exponent =
+      tested (λ (d : Done). Leaves (onBytes d b)) _ _ _ (λ t. made (ltb-true (m .counts .memories) 8 (both-1 _ _ t)) _ refl) stays
+    where
+      w : Bool
+      w = yes wide
+
+      k : Limits
+      k = limitsOf bounded minimum maximum
+
+      x : ℕ
+      x = exponentOf exponent
+
+      c : new-memory-of.Created
+      c = newMemory w k x (nextByte m) room (b .bytes) (m .limiter)
+
+      made : m .counts .memories < 8 → (y : MadeMemory) → c .out .made ≡ y
+          → To (changed (madeMemory m y (c .out .limiter) .change) m) (buffers (c .cells) (b .cells) (b .items))
+      made h (made-memory.Refused r) q =
+          still change.Nothing _ refl (ap (λ (bs : List ℕ). buffers bs (b .cells) (b .items))
+          (memory-frames.new-kept w k x (nextByte m) room (b .bytes) (m .limiter) r q .0))
+      made h (made-memory.Made r) q =
+          let v = memory-frames.new-done w k x (nextByte m) room (b .bytes) (m .limiter) r q in
+          let d : made-memory.Made (v .memory) ≡ made-memory.Made r = sym (v .made) ∙ q in
+          let z : v .memory ≡ r = cc in
+          memory-added r _ _ h
+          (sym (ap (soundMemory r) (memory-frames.new-length w k x (nextByte m) room (b .bytes) (m .limiter)))
+          ∙ memory-frames.new-sound w k x (nextByte m) room (b .bytes) (m .limiter) r q)
+          (ap (λ (y : Memory). y .start) (sym z) ∙ v .start-is)
+          (within-kept _ _ _ _ (memory-frames.new-within w k x (nextByte m) room (b .bytes) (m .limiter)) (omega (arith, v .sound .inside, v .start-is, v .room-is)))
+
+  -- 11
+  grow-memory : (i n : ℕ) → targetOf m op ≡ InMemory i → Leaves (onBytes (growMemoryOn m (b .bytes) i n) b)
+  unfolding growMemoryOn changed
+  grow-memory i n p =
+      tested (λ (d : Done). Leaves (onBytes d b)) _ _ _
+      (λ t.
+      let h : i < m .counts .memories = ltb-true i (m .counts .memories) t in
+      let r = memoryAt m i in
+      let s = memory-at i h in
+      memory-changed i h p _
+      (within-kept _ _ _ _ (memory-frames.grow-within r (b .bytes) n (m .fuel) (m .limiter)) (sound-is r (length (b .bytes)) s .inside))
+      _
+      (sym (ap (soundMemory (growMemory r (b .bytes) n (m .fuel) (m .limiter) .out .memory)) (memory-frames.grow-length r (b .bytes) n (m .fuel) (m .limiter)))
+      ∙ memory-frames.grow-sound r (b .bytes) n (m .fuel) (m .limiter) s)
+      (like-same _ _ (memory-frames.grow-same r (b .bytes) n (m .fuel) (m .limiter))))
+      stays
+
+  -- 14
+  store-memory : (i kind pointer offset bits : ℕ) → targetOf m op ≡ InMemory i → Leaves (onBytes (storeOn m (b .bytes) i kind pointer offset bits) b)
+  unfolding storeOn changed
+  store-memory i kind pointer offset bits p =
+      tested (λ (d : Done). Leaves (onBytes d b)) _ _ _
+      (λ t.
+      let h : i < m .counts .memories = ltb-true i (m .counts .memories) t in
+      memory-written i h p _
+      (within-kept _ _ _ _ (memory-frames.store-within (storeKindOf kind) (memoryAt m i) (b .bytes) pointer offset bits)
+      (sound-is (memoryAt m i) (length (b .bytes)) (memory-at i h) .inside)))
+      stays
+
+  -- 20
+  new-table : (room kind wide bounded minimum maximum initial bits : ℕ) → Leaves (onCells (newTableOn m (b .cells) room kind wide bounded minimum maximum initial bits) b)
+  unfolding newTableOn madeTable changed
+  new-table room kind wide bounded minimum maximum initial bits =
+      tested (λ (d : Done). Leaves (onCells d b)) _ _ _ (λ t. made (ltb-true (m .counts .tables) 8 (both-1 _ _ t)) _ refl) stays
+    where
+      c : new-table-of.Created
+      c = newTable (kindOf kind) (yes wide) (limitsOf bounded minimum maximum) (referenceOf initial bits) (nextCell m) room (b .cells) (m .limiter)
+
+      f : table-frames.NewFrame (nextCell m) room (b .cells) c
+      f = table-frames.new-frame (kindOf kind) (yes wide) (limitsOf bounded minimum maximum) (referenceOf initial bits) (nextCell m) room (b .cells) (m .limiter)
+
+      made : m .counts .tables < 8 → (y : MadeTable) → c .out .made ≡ y
+          → To (changed (madeTable m y (c .out .limiter) .change) m) (buffers (b .bytes) (c .cells) (b .items))
+      made h (made-table.Refused r) q = still change.Nothing _ refl (ap (λ (cs : List ℕ). buffers (b .bytes) cs (b .items)) (f .refused r q))
+      made h (made-table.Made r) q = table-added r _ _ h (sym (ap (soundTable r) (f .kept .long)) ∙ f .sound r q) (f .placed r q .0) (f .kept)
+
+  -- 21
+  grow-table : (r i n kind bits : ℕ) → targetOf m op ≡ InTable i → Leaves (onCells (growTableOn r m (b .cells) i n kind bits) b)
+  unfolding growTableOn changed
+  grow-table r i n kind bits p =
+      tested (λ (d : Done). Leaves (onCells d b)) _ _ _
+      (λ t.
+      let h : i < m .counts .tables = ltb-true i (m .counts .tables) t in
+      let f = table-frames.grow-frame r (tableAt m i) (b .cells) n (referenceOf kind bits) (m .fuel) (m .limiter) in
+      table-changed i h p _ (f .kept) _
+      (sym (ap (soundTable (growTable r (tableAt m i) (b .cells) n (referenceOf kind bits) (m .fuel) (m .limiter) .out .table)) (f .kept .long)) ∙ f .sound (table-at i h)) (f .same))
+      stays
+
+  -- 24
+  set-table : (i index kind bits : ℕ) → targetOf m op ≡ InTable i → Leaves (onCells (setOn m (b .cells) i index kind bits) b)
+  unfolding setOn changed
+  set-table i index kind bits p =
+      tested (λ (d : Done). Leaves (onCells d b)) _ _ _
+      (λ t. table-written i (ltb-true i (m .counts .tables) t) p _ (table-frames.set-frame (tableAt m i) (b .cells) index (referenceOf kind bits) .kept))
+      stays
+
+  -- 25
+  fill-table : (r i start kind bits len : ℕ) → targetOf m op ≡ InTable i → Leaves (onCells (fillOn r m (b .cells) i start kind bits len) b)
+  unfolding fillOn changed
+  fill-table r i start kind bits len p =
+      tested (λ (d : Done). Leaves (onCells d b)) _ _ _
+      (λ t. table-written i (ltb-true i (m .counts .tables) t) p _ (table-frames.fill-frame r (tableAt m i) (b .cells) start len (m .fuel) (referenceOf kind bits) .kept))
+      stays
+
+  -- 26
+  copy-table : (r into to source from len : ℕ) → targetOf m op ≡ InTable into → Leaves (onCells (copyOn r m (b .cells) into to source from len) b)
+  unfolding copyOn copyKnown changed
+  copy-table r into to source from len p =
+      tested (λ (d : Done). Leaves (onCells d b)) _ _ _
+      (λ t.
+      let h : into < m .counts .tables = ltb-true into (m .counts .tables) (both-1 _ _ t) in
+      tested (λ (d : Done). Leaves (onCells d b)) _ _ _
+      (λ y. table-written into h p _ (table-frames.within-frame r (tableAt m into) (b .cells) to from len (m .fuel) .kept))
+      (table-written into h p _ (table-frames.copy-frame r (tableAt m into) (tableAt m source) (b .cells) to from len (m .fuel) .kept)))
+      stays
+
+  -- 27
+  init-table : (r i segment to from len : ℕ) → targetOf m op ≡ InTable i → Leaves (onCells (initOn r m (b .cells) (b .items) i segment to from len) b)
+  unfolding initOn changed
+  init-table r i segment to from len p =
+      tested (λ (d : Done). Leaves (onCells d b)) _ _ _
+      (λ t. table-written i (ltb-true i (m .counts .tables) (both-1 _ _ t)) p _
+      (table-frames.init-frame r (tableAt m i) (segmentAt m segment) (b .cells) (b .items) to from len (m .fuel) .kept))
+      stays
+
+  -- 28
+  drop-segment : (i : ℕ) → targetOf m op ≡ InSegment i → Leaves (onNone (dropOn m i) b)
+  unfolding dropOn
+  drop-segment i p = tested (λ (o : Outcome). Leaves (onNone o b)) _ _ _ (λ t. segment-dropped i (ltb-true i (m .counts .segments) t) p) (still change.Nothing b refl refl)
+
+  -- 29
+  new-segment : (kind : ℕ) (given : List ℕ) → targetOf m op ≡ NewItems → Leaves (onItems (newSegmentOn m (b .items) kind given) b)
+  unfolding newSegmentOn madeSegment changed
+  new-segment kind given p =
+      tested (λ (d : Done). Leaves (onItems d b)) _ _ _ (λ t. made (ltb-true (m .counts .segments) 8 (both-1 _ _ t)) _ refl) stays
+    where
+      c : MadeWith
+      c = newSegment (kindOf kind) (nextItem m) (b .items) given
+
+      f : table-frames.SegmentFrame (nextItem m) (length given) (b .items) c
+      f = table-frames.segment-frame (kindOf kind) (nextItem m) (b .items) given
+
+      made : m .counts .segments < 8 → (y : MadeSegment) → c .made ≡ y → To (changed (madeSegment m y .change) m) (buffers (b .bytes) (b .cells) (c .items))
+      made h (made-segment.Refused r) q = still change.Nothing _ refl (ap (buffers (b .bytes) (b .cells)) (f .refused r q))
+      made h (made-segment.Made r) q = segment-added r _ _ h (sym (ap (soundSegment r) (f .kept .long)) ∙ f .sound r q) (f .placed r q .0) (f .kept) p
+
+  -- 01, 03: no record changes
+  set-fuel : (s : FuelStep) → Leaves (onNone (setting m s) b)
+  unfolding setting changed
+  set-fuel (fuel-step.Refused r) = stays
+  set-fuel (fuel-step.Done f) = stays
+
+  charge : (s : FuelStep) → Leaves (onNone (charging m s) b)
+  unfolding charging changed
+  charge (fuel-step.Refused r) = stays
+  charge (fuel-step.Done f) = stays
+
+-- every operation touches its target alone
+perform-touched : (r : ℕ) (m : Machine) (b : Buffers) (op : Operation) → soundOver m b ≡ true
+    → Touched m b op (changed (perform r m b op .out .change) m) (perform r m b op .buffers)
+unfolding perform targetOf changed
+perform-touched r m b (Make metering copied) e = stays m b _ e
+perform-touched r m b (SetFuel amount) e = set-fuel m b _ e _
+perform-touched r m b GetFuel e = stays m b _ e
+perform-touched r m b (Charge units) e = charge m b _ e _
+perform-touched r m b (SetLimiter count digits) e = stays m b _ e
+perform-touched r m b (NewMemory room wide bounded minimum maximum exponent) e = new-memory m b _ e room wide bounded minimum maximum exponent
+perform-touched r m b (GrowMemory memory pages) e = grow-memory m b _ e memory pages refl
+perform-touched r m b (MemorySize memory) e = stays m b _ e
+perform-touched r m b (Load memory kind pointer offset) e = stays m b _ e
+perform-touched r m b (Store memory kind pointer offset bits) e = store-memory m b _ e memory kind pointer offset bits refl
+perform-touched r m b (NewTable room kind wide bounded minimum maximum initial bits) e = new-table m b _ e room kind wide bounded minimum maximum initial bits
+perform-touched r m b (GrowTable table cells kind bits) e = grow-table m b _ e r table cells kind bits refl
+perform-touched r m b (TableSize table) e = stays m b _ e
+perform-touched r m b (TableGet table index) e = stays m b _ e
+perform-touched r m b (TableSet table index kind bits) e = set-table m b _ e table index kind bits refl
+perform-touched r m b (TableFill table start kind bits len) e = fill-table m b _ e r table start kind bits len refl
+perform-touched r m b (TableCopy into to source from len) e = copy-table m b _ e r into to source from len refl
+perform-touched r m b (TableInit table segment to from len) e = init-table m b _ e r table segment to from len refl
+perform-touched r m b (DropSegment segment) e = drop-segment m b _ e segment refl
+perform-touched r m b (NewSegment kind count first second third fourth) e = new-segment m b _ e kind (itemsOf count first second third fourth) refl
+perform-touched r m b (LinkCheck memory wide bounded minimum maximum exponent) e = stays m b _ e
+
+-- a step on a sound machine touches its operation's target alone
+pub step-touched : (r : ℕ) (m : Machine) (b : Buffers) (op : Operation) → soundOver m b ≡ true → Touched m b op (step r m b op .machine) (step r m b op .buffers)
+unfolding step decide settled changed
+step-touched r m b op e =
+    tested (λ (p : Performed). Touched m b op (settled m (p .out)) (p .buffers)) (wellFormed op) _ _
+    (λ t.
+    tested (λ (p : Performed). Touched m b op (settled m (p .out)) (p .buffers)) (soundOver m b) _ _
+    (λ k.
+    let w = perform-touched r m b op e in
+    record { memories = w .memories; bytes = w .bytes; tables = w .tables; cells = w .cells; segments = w .segments; items = w .items; kept = w .kept })
+    (stays m b op e))
+    (stays m b op e)
