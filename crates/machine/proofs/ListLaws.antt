@@ -1,4 +1,4 @@
--- Laws of sound lists of records, over any kind of record: each record is sound; a record replaced, a record added. Assumes nothing.
+-- Laws of sound lists of records, over any kind of record: each record is sound; a record replaced, a record added; rooms lie apart. Assumes nothing.
 use Prim.Native.Nat.{ℕ, zero, suc, _+_, _-_, _≤_, _<_}
 use mathlib.Core.Path.{_≡_, refl, sym, ap, subst, _∙_}
 use mathlib.Core.Bool.{Bool, true, false}
@@ -85,7 +85,8 @@ module _ {A : Type 0} (sound : A → Bool) (start end : A → ℕ) where
     unfolding soundList
     long = leb-true _ _ (both-1 _ _ e)
 
-    few : n ≤ 8
+    -- at most 8 are in use
+    pub few : n ≤ 8
     unfolding soundList
     few = leb-true _ _ (both-1 _ _ (both-2 _ _ e))
 
@@ -93,23 +94,20 @@ module _ {A : Type 0} (sound : A → Bool) (start end : A → ℕ) where
     unfolding soundList
     followed = both-2 _ _ (both-2 _ _ e)
 
-    -- the records in use are within the list, and at most 8
-    pub in-use-long : n ≤ length xs
-    in-use-long = omega (arith, long, few)
-
-    pub in-use-few : n ≤ 8
-    in-use-few = few
+    -- every record in use has its place
+    pub placed : n ≤ length xs
+    placed = omega (arith, long, few)
 
     -- each record in use is sound
     pub each-sound : (i : ℕ) → i < n → sound (getD xs i d) ≡ true
-    each-sound i h = follow-each 0 n i xs d h (omega (arith, long, few)) followed
+    each-sound i h = follow-each 0 n i xs d h placed followed
 
     -- a record in use is replaced by one from the same start to the same end
     pub set-sound : (i : ℕ) (r : A) → i < n → sound r ≡ true → start r ≡ start (getD xs i d) → end r ≡ end (getD xs i d)
         → soundList sound start end n (set xs i r) ≡ true
     set-sound i r h s p q =
         list-sound n (set xs i r) (omega (arith, length-set xs i r, long)) few
-        (follow-set 0 n i xs d r s p q h (omega (arith, long, few)) followed)
+        (follow-set 0 n i xs d r s p q h placed followed)
 
     -- one more record, which starts where the last one ends
     pub add-sound : (r : A) → n < 8 → sound r ≡ true → start r ≡ next d n xs → soundList sound start end (n + 1) (set xs n r) ≡ true
@@ -134,7 +132,7 @@ module _ {A : Type 0} (sound : A → Bool) (start end : A → ℕ) where
 
     -- rooms lie apart, in the order of their numbers
     pub rooms-apart : ((r : A) → start r ≤ end r) → (i j : ℕ) → i < j → j < n → end (getD xs i d) ≤ start (getD xs j d)
-    rooms-apart o i j h g = follow-apart 0 n i j xs d o h g (omega (arith, long, few)) followed
+    rooms-apart o i j h g = follow-apart 0 n i j xs d o h g placed followed
 
     -- every room ends before the next one
     pub ends-before-next : ((r : A) → start r ≤ end r) → (i : ℕ) → i < n → end (getD xs i d) ≤ next d n xs

@@ -49,7 +49,6 @@ use Rattle.machine.specs.Operation.{wellFormed, yes, limitsOf, exponentO
 use Rattle.machine.specs.Step.{Done, Performed, onNone, onBytes, onCells, onItems, setting, charging, madeMemory, newMemoryOn, growMemoryOn, storeOn, madeTable, newTableOn, growTableOn, setOn, fillOn, copyKnown, copyOn, initOn, dropOn, madeSegment, newSegmentOn, perform, decide, step}
 use Rattle.machine.specs.declared.records.Machine.{Machine}
 use Rattle.machine.specs.declared.outcome.Outcome.{Outcome}
-use Rattle.machine.specs.declared.outcome.Change.{Change}
 use Rattle.machine.specs.declared.outcome.Change.the-variants as change
 use Rattle.machine.specs.declared.operation.Operation.{Operation}
 use Rattle.machine.specs.declared.operation.Operation.the-variants.{Make, SetFuel, GetFuel, Charge, SetLimiter, NewMemory, GrowMemory, MemorySize, Load, Store, NewTable, GrowTable, TableSize, TableGet, TableSet, TableFill, TableCopy, TableInit, DropSegment, NewSegment, LinkCheck}
@@ -138,7 +137,7 @@ module _ {A : Type 0} (start room : A → ℕ) (d : A) (n : ℕ) (rs : List A) w
                 (λ t.
                 let y : j ≡ i = eqb-true j i t in
                 subst (λ (k : ℕ). Like (getD rs k d) (getD (set rs i r) k d)) (sym y)
-                (subst (Like (getD rs i d)) (sym (getD-set-same rs i r d (omega (arith, lists.in-use-long sound start end d n rs e)))) l))
+                (subst (Like (getD rs i d)) (sym (getD-set-same rs i r d (omega (arith, lists.placed sound start end d n rs e)))) l))
                 (λ t. subst (Like (getD rs j d)) (sym (getD-set-other rs i j r d (eqb-false j i t))) (same _));
           }
 
@@ -188,7 +187,7 @@ Cells m P = Celled (λ (r : Table). r .start) (λ (r : Table). r .room) noTable 
 abbrev pub Items : Machine → (ℕ → Type 0) → List ℕ → List ℕ → Type 0
 Items m P = Celled (λ (r : ElementSegment). r .start) (λ (r : ElementSegment). r .places) noSegment (m .counts .segments) (m .segments) P
 
--- what an operation leaves of a machine and its buffers
+-- what an operation leaves of a machine and its buffers: all but its target as it was; items change only where a segment is made
 pub record Touched (m : Machine) (b : Buffers) (op : Operation) (m′ : Machine) (b′ : Buffers) : Type 0 where
   pub memories : Memories m (length (b .bytes)) (λ (i : ℕ). targetOf m op ≡ InMemory i) m′
   pub bytes : Bytes m (λ (i : ℕ). targetOf m op ≡ InMemory i) (b .bytes) (b′ .bytes)
@@ -254,6 +253,10 @@ module _ (m : Machine) (b : Buffers) (op : Operation) (e : soundOver m b ≡ tru
         kept = λ h. refl;
       }
 
+  -- nor where the buffers are equal
+  still : (b′ : Buffers) → b′ ≡ b → To m b′
+  still b′ q = subst (To m) (sym q) stays
+
   -- memories and bytes alone change
   on-bytes : (rs : List Memory) (n : ℕ) (bs : List ℕ) → Memories m (length (b .bytes)) (λ (i : ℕ). targetOf m op ≡ InMemory i) (withMemories m rs n)
       → Bytes m (λ (i : ℕ). targetOf m op ≡ InMemory i) (b .bytes) bs → To (withMemories m rs n) (buffers bs (b .cells) (b .items))
@@ -288,7 +291,7 @@ module _ (m : Machine) (b : Buffers) (op : Operation) (e : soundOver m b ≡ tru
     unfolding soundMemories changed
     memory-changed r s l =
         subst (λ (m′ : Machine). To m′ (buffers bs (b .cells) (b .items)))
-        (sym (pick-true _ _ _ (lt-ltb i 8 (omega (arith, h, lists.in-use-few _ _ _ noMemory _ _ (sounds .memories))))))
+        (sym (pick-true _ _ _ (lt-ltb i 8 (omega (arith, h, lists.few _ _ _ noMemory _ _ (sounds .memories))))))
         (on-bytes _ _ bs
         (list-changes _ _ _ _ _ _ _ (sounds .memories) _ (λ r. refl) i r p h s (ap (λ (x : Memory). x .start) l) (ap (λ (x : Memory). x .room) l) l)
         bytes-change)
@@ -320,7 +323,7 @@ module _ (m : Machine) (b : Buffers) (op : Operation) (e : soundOver m b ≡ tru
     unfolding soundTables changed
     table-changed r s l =
         subst (λ (m′ : Machine). To m′ (buffers (b .bytes) cs (b .items)))
-        (sym (pick-true _ _ _ (lt-ltb i 8 (omega (arith, h, lists.in-use-few _ _ _ noTable _ _ (sounds .tables))))))
+        (sym (pick-true _ _ _ (lt-ltb i 8 (omega (arith, h, lists.few _ _ _ noTable _ _ (sounds .tables))))))
         (on-cells _ _ cs
         (list-changes _ _ _ _ _ _ _ (sounds .tables) _ (λ r. refl) i r p h s (ap (λ (x : Table). x .start) l) (ap (λ (x : Table). x .room) l) l)
         cells-changed)
@@ -341,7 +344,7 @@ module _ (m : Machine) (b : Buffers) (op : Operation) (e : soundOver m b ≡ tru
   unfolding soundSegments changed
   segment-dropped i h p =
       subst (λ (m′ : Machine). To m′ b)
-      (sym (pick-true _ _ _ (lt-ltb i 8 (omega (arith, h, lists.in-use-few _ _ _ noSegment _ _ (sounds .segments))))))
+      (sym (pick-true _ _ _ (lt-ltb i 8 (omega (arith, h, lists.few _ _ _ noSegment _ _ (sounds .segments))))))
       (on-items _ _ (b .items)
       (list-changes _ _ _ _ _ _ _ (sounds .segments) _ (λ r. inl refl) i (dropped (segmentAt m i)) p h
       (dropped-sound _ _ (segment-sound m (length (b .bytes)) (length (b .cells)) (length (b .items)) e i h)) refl refl (inr refl))
@@ -358,11 +361,6 @@ module _ (m : Machine) (b : Buffers) (op : Operation) (e : soundOver m b ≡ tru
       (list-adds _ _ _ _ _ _ _ (sounds .segments) _ (λ r. inl refl) r h s q)
       (cells-add _ _ _ _ _ _ _ (sounds .segments) hi (b .items) is w) (λ k. absurd (k t)))
 
-  -- an operation that changes neither record nor cell
-  still : (c : Change) (b′ : Buffers) → c ≡ change.Nothing → b′ ≡ b → To (changed c m) b′
-  unfolding changed
-  still c b′ p q = subst (λ (x : Change). To (changed x m) b′) (sym p) (subst (To m) (sym q) stays)
-
   -- what is left where an operation was performed
   abbrev Leaves : Performed → Type 0
   Leaves p = To (changed (p .out .change) m) (p .buffers)
@@ -374,7 +372,7 @@ module _ (m : Machine) (b : Buffers) (op : Operation) (e : soundOver m b ≡ tru
   abbrev table-at : (i : ℕ) → i < m .counts .tables → soundTable (tableAt m i) (length (b .cells)) ≡ true
   table-at = table-sound m (length (b .bytes)) (length (b .cells)) (length (b .items)) e
 
-  -- 10
+  -- 10: a memory is made
   new-memory : (room wide bounded minimum maximum exponent : ℕ) → Leaves (onBytes (newMemoryOn m (b .bytes) room wide bounded minimum maximum exponent) b)
   unfolding newMemoryOn madeMemory changed
   new-memory room wide bounded minimum maximum exponent =
@@ -395,7 +393,7 @@ module _ (m : Machine) (b : Buffers) (op : Operation) (e : soundOver m b ≡ tru
       made : m .counts .memories < 8 → (y : MadeMemory) → c .out .made ≡ y
           → To (changed (madeMemory m y (c .out .limiter) .change) m) (buffers (c .cells) (b .cells) (b .items))
       made h (made-memory.Refused r) q =
-          still change.Nothing _ refl (ap (λ (bs : List ℕ). buffers bs (b .cells) (b .items))
+          still _ (ap (λ (bs : List ℕ). buffers bs (b .cells) (b .items))
           (memory-frames.new-kept w k x (nextByte m) room (b .bytes) (m .limiter) r q .0))
       made h (made-memory.Made r) q =
           let v = memory-frames.new-done w k x (nextByte m) room (b .bytes) (m .limiter) r q in
@@ -407,7 +405,7 @@ module _ (m : Machine) (b : Buffers) (op : Operation) (e : soundOver m b ≡ tru
           (ap (λ (y : Memory). y .start) (sym z) ∙ v .start-is)
           (within-kept _ _ _ _ (memory-frames.new-within w k x (nextByte m) room (b .bytes) (m .limiter)) (omega (arith, v .sound .inside, v .start-is, v .room-is)))
 
-  -- 11
+  -- 11: a memory grows
   grow-memory : (i n : ℕ) → targetOf m op ≡ InMemory i → Leaves (onBytes (growMemoryOn m (b .bytes) i n) b)
   unfolding growMemoryOn changed
   grow-memory i n p =
@@ -424,7 +422,7 @@ module _ (m : Machine) (b : Buffers) (op : Operation) (e : soundOver m b ≡ tru
       (like-same _ _ (memory-frames.grow-same r (b .bytes) n (m .fuel) (m .limiter))))
       stays
 
-  -- 14
+  -- 14: a memory is written
   store-memory : (i kind pointer offset bits : ℕ) → targetOf m op ≡ InMemory i → Leaves (onBytes (storeOn m (b .bytes) i kind pointer offset bits) b)
   unfolding storeOn changed
   store-memory i kind pointer offset bits p =
@@ -436,7 +434,7 @@ module _ (m : Machine) (b : Buffers) (op : Operation) (e : soundOver m b ≡ tru
       (sound-is (memoryAt m i) (length (b .bytes)) (memory-at i h) .inside)))
       stays
 
-  -- 20
+  -- 20: a table is made
   new-table : (room kind wide bounded minimum maximum initial bits : ℕ) → Leaves (onCells (newTableOn m (b .cells) room kind wide bounded minimum maximum initial bits) b)
   unfolding newTableOn madeTable changed
   new-table room kind wide bounded minimum maximum initial bits =
@@ -450,10 +448,10 @@ module _ (m : Machine) (b : Buffers) (op : Operation) (e : soundOver m b ≡ tru
 
       made : m .counts .tables < 8 → (y : MadeTable) → c .out .made ≡ y
           → To (changed (madeTable m y (c .out .limiter) .change) m) (buffers (b .bytes) (c .cells) (b .items))
-      made h (made-table.Refused r) q = still change.Nothing _ refl (ap (λ (cs : List ℕ). buffers (b .bytes) cs (b .items)) (f .refused r q))
+      made h (made-table.Refused r) q = still _ (ap (λ (cs : List ℕ). buffers (b .bytes) cs (b .items)) (f .refused r q))
       made h (made-table.Made r) q = table-added r _ _ h (sym (ap (soundTable r) (f .kept .long)) ∙ f .sound r q) (f .placed r q .0) (f .kept)
 
-  -- 21
+  -- 21: a table grows
   grow-table : (r i n kind bits : ℕ) → targetOf m op ≡ InTable i → Leaves (onCells (growTableOn r m (b .cells) i n kind bits) b)
   unfolding growTableOn changed
   grow-table r i n kind bits p =
@@ -465,7 +463,7 @@ module _ (m : Machine) (b : Buffers) (op : Operation) (e : soundOver m b ≡ tru
       (sym (ap (soundTable (growTable r (tableAt m i) (b .cells) n (referenceOf kind bits) (m .fuel) (m .limiter) .out .table)) (f .kept .long)) ∙ f .sound (table-at i h)) (f .same))
       stays
 
-  -- 24
+  -- 24: a cell is set
   set-table : (i index kind bits : ℕ) → targetOf m op ≡ InTable i → Leaves (onCells (setOn m (b .cells) i index kind bits) b)
   unfolding setOn changed
   set-table i index kind bits p =
@@ -473,7 +471,7 @@ module _ (m : Machine) (b : Buffers) (op : Operation) (e : soundOver m b ≡ tru
       (λ t. table-written i (ltb-true i (m .counts .tables) t) p _ (table-frames.set-frame (tableAt m i) (b .cells) index (referenceOf kind bits) .kept))
       stays
 
-  -- 25
+  -- 25: cells are filled
   fill-table : (r i start kind bits len : ℕ) → targetOf m op ≡ InTable i → Leaves (onCells (fillOn r m (b .cells) i start kind bits len) b)
   unfolding fillOn changed
   fill-table r i start kind bits len p =
@@ -481,7 +479,7 @@ module _ (m : Machine) (b : Buffers) (op : Operation) (e : soundOver m b ≡ tru
       (λ t. table-written i (ltb-true i (m .counts .tables) t) p _ (table-frames.fill-frame r (tableAt m i) (b .cells) start len (m .fuel) (referenceOf kind bits) .kept))
       stays
 
-  -- 26
+  -- 26: cells are copied, between two tables or within one
   copy-table : (r into to source from len : ℕ) → targetOf m op ≡ InTable into → Leaves (onCells (copyOn r m (b .cells) into to source from len) b)
   unfolding copyOn copyKnown changed
   copy-table r into to source from len p =
@@ -493,7 +491,7 @@ module _ (m : Machine) (b : Buffers) (op : Operation) (e : soundOver m b ≡ tru
       (table-written into h p _ (table-frames.copy-frame r (tableAt m into) (tableAt m source) (b .cells) to from len (m .fuel) .kept)))
       stays
 
-  -- 27
+  -- 27: cells are set from a segment's items
   init-table : (r i segment to from len : ℕ) → targetOf m op ≡ InTable i → Leaves (onCells (initOn r m (b .cells) (b .items) i segment to from len) b)
   unfolding initOn changed
   init-table r i segment to from len p =
@@ -502,12 +500,12 @@ module _ (m : Machine) (b : Buffers) (op : Operation) (e : soundOver m b ≡ tru
       (table-frames.init-frame r (tableAt m i) (segmentAt m segment) (b .cells) (b .items) to from len (m .fuel) .kept))
       stays
 
-  -- 28
+  -- 28: a segment is dropped
   drop-segment : (i : ℕ) → targetOf m op ≡ InSegment i → Leaves (onNone (dropOn m i) b)
-  unfolding dropOn
-  drop-segment i p = tested (λ (o : Outcome). Leaves (onNone o b)) _ _ _ (λ t. segment-dropped i (ltb-true i (m .counts .segments) t) p) (still change.Nothing b refl refl)
+  unfolding dropOn changed
+  drop-segment i p = tested (λ (o : Outcome). Leaves (onNone o b)) _ _ _ (λ t. segment-dropped i (ltb-true i (m .counts .segments) t) p) stays
 
-  -- 29
+  -- 29: a segment is made
   new-segment : (kind : ℕ) (given : List ℕ) → targetOf m op ≡ NewItems → Leaves (onItems (newSegmentOn m (b .items) kind given) b)
   unfolding newSegmentOn madeSegment changed
   new-segment kind given p =
@@ -520,7 +518,7 @@ module _ (m : Machine) (b : Buffers) (op : Operation) (e : soundOver m b ≡ tru
       f = table-frames.segment-frame (kindOf kind) (nextItem m) (b .items) given
 
       made : m .counts .segments < 8 → (y : MadeSegment) → c .made ≡ y → To (changed (madeSegment m y .change) m) (buffers (b .bytes) (b .cells) (c .items))
-      made h (made-segment.Refused r) q = still change.Nothing _ refl (ap (buffers (b .bytes) (b .cells)) (f .refused r q))
+      made h (made-segment.Refused r) q = still _ (ap (buffers (b .bytes) (b .cells)) (f .refused r q))
       made h (made-segment.Made r) q = segment-added r _ _ h (sym (ap (soundSegment r) (f .kept .long)) ∙ f .sound r q) (f .placed r q .0) (f .kept) p
 
   -- 01, 03: no record changes
