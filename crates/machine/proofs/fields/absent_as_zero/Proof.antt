@@ -1,16 +1,13 @@
+-- `machine::fields::absent_as_zero` meets its contract. Assumes nothing.
 use Rattle.machine.specs.Operation.{absentAsZero}
 use Rattle.base.proofs.Picks.{cases}
 use Rattle.machine.proofs.fields.absent_as_zero.Statement.{statement}
 use Rattle.machine.proofs.fields.absent_as_zero.Tie as tie
-use Rattle.machine.proofs.fields.absent_as_zero.Reads as reads
-use Rattle.machine.proofs.fields.absent_as_zero.Lts as lts
 
--- src/fields.rt:26:9
 returns : tie.Need-returns
 unfolding absentAsZero
 returns c = search cases
 
--- src/fields.rt:22:1
 returns-2 : tie.Need-returns-2
 unfolding absentAsZero
 returns-2 c = search cases

@@ -1,15 +1,14 @@
+-- `machine::fields::digits_of` meets its contract. Assumes nothing.
 use Rattle.machine.proofs.Digits.{digit-more, digits-end, nothing-after}
 use Rattle.machine.specs.Operation.{digitsOf}
-use mathlib.Core.Path.{_≡_, refl, sym, ap, _∙_}
+use mathlib.Core.Path.{_≡_, refl, _∙_}
 use mathlib.Core.List.{_++_}
-use lib.ListN.{length, drop, set, length-set}
-use Prim.Native.Nat.{ℕ, _-_, _/_, _%_, _≤_, _<_}
+use lib.ListN.{length, drop, length-set}
+use Prim.Native.Nat.{_-_, _%_, _≤_}
 use native.Mathlib.Omega.{arith}
 use borrow.Author.Needs.{needs}
 use Rattle.machine.proofs.fields.digits_of.Statement.{statement}
 use Rattle.machine.proofs.fields.digits_of.Tie as tie
-use Rattle.machine.proofs.fields.digits_of.Reads as reads
-use Rattle.machine.proofs.fields.digits_of.Lts as lts
 
 abbrev Inv-loop : tie.InvT-loop
 Inv-loop field row₀ rest₀ i₀ row rest i = (i ≤ 16) × (length row ≡ 16) × (digitsOf i rest ++ drop i row ≡ digitsOf 16 field)
@@ -17,34 +16,27 @@ Inv-loop field row₀ rest₀ i₀ row rest i = (i ≤ 16) × (length row ≡ 16
 abbrev μ-loop : tie.MeasureT-loop
 μ-loop field row₀ rest₀ i₀ row rest i = i
 
--- src/fields.rt:111:5
 loop-holds : tie.Need-loop-holds Inv-loop μ-loop
 loop-holds c =
     (omega arith, refl, nothing-after (digitsOf 16 (c .args .field)))
 
--- src/fields.rt:112:9
 sub-i : tie.Need-sub-i Inv-loop μ-loop
 sub-i c = search needs
 
--- src/fields.rt:113:18
 cast-row : tie.Need-cast-row Inv-loop μ-loop
 cast-row c = search needs
 
--- src/fields.rt:113:9
 array-write-row : tie.Need-array-write-row Inv-loop μ-loop
 array-write-row c = search needs
 
--- src/fields.rt:111:5
 loop-less : tie.Need-loop-less Inv-loop μ-loop
 loop-less c = search needs
 
--- src/fields.rt:111:5
 loop-again : tie.Need-loop-again Inv-loop μ-loop
 loop-again c =
     let l = c .before .loop in
     (omega arith, length-set (l .row) (l .i - 1) (l .rest % 16) ∙ l .inv .1, digit-more (c .before .before .args .field) (l .i) (l .rest) (l .row) (omega arith) (omega (arith, l .inv .1)) (l .inv .2))
 
--- src/fields.rt:105:1
 returns : tie.Need-returns Inv-loop μ-loop
 returns c =
     let l = c .before .loop in digits-end (c .before .before .args .field) (l .i) (l .rest) (l .row) (omega arith) (l .inv .2)

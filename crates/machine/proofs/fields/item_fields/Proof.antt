@@ -1,56 +1,45 @@
+-- `machine::fields::item_fields` meets its contract. Assumes nothing.
 use borrow.Author.Tests.{le-leb, not-true, not-false}
-use Rattle.base.proofs.Picks.{pick-true, pick-false, both-true, both-left, both-right, both-then, cases}
-use mathlib.Core.Path.{_≡_, refl, sym, ap, _∙_}
+use Rattle.base.proofs.Picks.{both-left, both-right, both-then, cases}
+use mathlib.Core.Path.{sym, _∙_}
 use Rattle.machine.specs.Operation.{itemFields}
 use Rattle.base.proofs.Picks.{cases}
 use borrow.Author.Needs.{needs}
 use Rattle.machine.proofs.fields.item_fields.Statement.{statement}
 use Rattle.machine.proofs.fields.item_fields.Tie as tie
-use Rattle.machine.proofs.fields.item_fields.Reads as reads
-use Rattle.machine.proofs.fields.item_fields.Lts as lts
-use Rattle.machine.proofs.fields.item_field.Reads as item-field-reads
 
--- src/fields.rt:176:9
 returns : tie.Need-returns
 unfolding itemFields
 returns c =
     search cases
 
--- src/fields.rt:178:9
 item-field-requires : tie.Need-item-field-requires
 item-field-requires c κs = search needs
 
--- src/fields.rt:179:9
 returns-2 : tie.Need-returns-2
 unfolding itemFields
 returns-2 c =
     sym (both-right _ _ (both-left _ _ (sym (c .before .item-field .ensures) ∙ not-true _ (c .if2 .taken))))
 
--- src/fields.rt:181:9
 item-field-requires-2 : tie.Need-item-field-requires-2
 item-field-requires-2 c κs = search needs
 
--- src/fields.rt:182:9
 returns-3 : tie.Need-returns-3
 unfolding itemFields
 returns-3 c =
     sym (both-right _ _ (both-right _ _ (both-left _ _ (sym (c .before .item-field2 .ensures) ∙ not-true _ (c .if3 .taken)))))
 
--- src/fields.rt:184:9
 item-field-requires-3 : tie.Need-item-field-requires-3
 item-field-requires-3 c κs = search needs
 
--- src/fields.rt:185:9
 returns-4 : tie.Need-returns-4
 unfolding itemFields
 returns-4 c =
     sym (both-right _ _ (both-right _ _ (both-right _ _ (both-left _ _ (sym (c .before .item-field3 .ensures) ∙ not-true _ (c .if4 .taken))))))
 
--- src/fields.rt:187:5
 item-field-requires-4 : tie.Need-item-field-requires-4
 item-field-requires-4 c κs = search needs
 
--- src/fields.rt:172:1
 returns-5 : tie.Need-returns-5
 unfolding itemFields
 returns-5 c =

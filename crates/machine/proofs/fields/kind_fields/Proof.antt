@@ -1,26 +1,20 @@
+-- `machine::fields::kind_fields` meets its contract. Assumes nothing.
 use Rattle.machine.specs.Operation.{kindFields}
 use Rattle.base.proofs.Picks.{cases}
 use borrow.Author.Needs.{needs}
 use Rattle.machine.proofs.fields.kind_fields.Statement.{statement}
 use Rattle.machine.proofs.fields.kind_fields.Tie as tie
-use Rattle.machine.proofs.fields.kind_fields.Reads as reads
-use Rattle.machine.proofs.fields.kind_fields.Lts as lts
-use Rattle.machine.proofs.fields.binary.Reads as binary-reads
 
--- src/fields.rt:53:9
 binary-requires : tie.Need-binary-requires
 binary-requires c κs = search needs
 
--- src/fields.rt:54:9
 returns : tie.Need-returns
 unfolding kindFields
 returns c = search cases
 
--- src/fields.rt:56:5
 binary-requires-2 : tie.Need-binary-requires-2
 binary-requires-2 c κs = search needs
 
--- src/fields.rt:50:1
 returns-2 : tie.Need-returns-2
 unfolding kindFields
 returns-2 c = search cases

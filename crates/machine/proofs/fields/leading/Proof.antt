@@ -1,18 +1,15 @@
+-- `machine::fields::leading` meets its contract. Assumes nothing.
 use Prim.Native.Nat.{_+_}
 use denote.Ref.{now}
 use Rattle.machine.proofs.Digits.{leading-bad, leading-more, leading-end}
-use Rattle.machine.specs.Operation.{leading, mostOf}
-use mathlib.Core.Path.{_≡_, refl, sym, ap, _∙_}
-use lib.ListN.{length, drop, getD}
-use Prim.Native.Nat.{ℕ, _-_, _≤_, _<_}
+use Rattle.machine.specs.Operation.{leading}
+use mathlib.Core.Path.{_≡_, refl, ap, _∙_}
+use lib.ListN.{length, drop}
+use Prim.Native.Nat.{ℕ, _-_, _≤_}
 use native.Mathlib.Omega.{arith}
 use borrow.Author.Needs.{needs}
 use Rattle.machine.proofs.fields.leading.Statement.{statement}
 use Rattle.machine.proofs.fields.leading.Tie as tie
-use Rattle.machine.proofs.fields.leading.Reads as reads
-use Rattle.machine.proofs.fields.leading.Lts as lts
-use Rattle.machine.proofs.fields.most.Reads as most-reads
-use Rattle.machine.proofs.fields.one_less.Reads as one-less-reads
 
 abbrev Inv-loop : tie.InvT-loop
 Inv-loop count digits left₀ i₀ left i = (i ≤ length digits) × (leading left (drop i digits) ≡ leading count digits)
@@ -20,37 +17,29 @@ Inv-loop count digits left₀ i₀ left i = (i ≤ length digits) × (leading le
 abbrev μ-loop : tie.MeasureT-loop
 μ-loop count digits left₀ i₀ left i = length digits - i
 
--- src/fields.rt:142:5
 loop-holds : tie.Need-loop-holds Inv-loop μ-loop
 loop-holds c = (omega arith, refl)
 
--- src/fields.rt:143:12
 most-requires : tie.Need-most-requires Inv-loop μ-loop
 most-requires c κs = tt
 
--- src/fields.rt:143:25
 shared-slice-read-if1 : tie.Need-shared-slice-read-if1 Inv-loop μ-loop
 shared-slice-read-if1 c = search needs
 
--- src/fields.rt:144:13
 returns : tie.Need-returns Inv-loop μ-loop
 returns c =
     let l = c .before .before .before .before .loop in
     leading-bad (c .before .before .before .before .before .before .args .count) (l .left) (l .i) (now (c .before .before .before .before .before .before .args .digits)) (l .inv .1) (omega arith) (omega (arith, c .if1 .taken, c .before .before .most .ensures))
 
--- src/fields.rt:146:9
 one-less-requires : tie.Need-one-less-requires Inv-loop μ-loop
 one-less-requires c κs = tt
 
--- src/fields.rt:147:9
 add-i : tie.Need-add-i Inv-loop μ-loop
 add-i c = search needs
 
--- src/fields.rt:142:5
 loop-less : tie.Need-loop-less Inv-loop μ-loop
 loop-less c = search needs
 
--- src/fields.rt:142:5
 loop-again : tie.Need-loop-again Inv-loop μ-loop
 loop-again c =
     let l = c .before .before .before .before .before .loop in
@@ -58,7 +47,6 @@ loop-again c =
     ap (λ (n : ℕ). leading n (drop (l .i + 1) (now (c .before .before .before .before .before .before .before .args .digits)))) (c .one-less .ensures)
     ∙ leading-more (c .before .before .before .before .before .before .before .args .count) (l .left) (l .i) (now (c .before .before .before .before .before .before .before .args .digits)) (l .inv .1) (omega arith) (omega (arith, c .before .if1 .left, c .before .before .before .most .ensures)))
 
--- src/fields.rt:137:1
 returns-2 : tie.Need-returns-2 Inv-loop μ-loop
 returns-2 c =
     let l = c .before .loop in leading-end (c .before .before .before .args .count) (l .left) (l .i) (now (c .before .before .before .args .digits)) (l .inv .1) (omega arith)

@@ -1,22 +1,17 @@
+-- `machine::fields::memory_fields` meets its contract. Assumes nothing.
 use Rattle.machine.specs.Operation.{memoryFields}
 use Rattle.base.proofs.Picks.{cases}
 use borrow.Author.Needs.{needs}
 use Rattle.machine.proofs.fields.memory_fields.Statement.{statement}
 use Rattle.machine.proofs.fields.memory_fields.Tie as tie
-use Rattle.machine.proofs.fields.memory_fields.Reads as reads
-use Rattle.machine.proofs.fields.memory_fields.Lts as lts
-use Rattle.machine.proofs.fields.limit_fields.Reads as limit-fields-reads
 
--- src/fields.rt:47:9
 returns : tie.Need-returns
 unfolding memoryFields
 returns c = search cases
 
--- src/fields.rt:49:5
 limit-fields-requires : tie.Need-limit-fields-requires
 limit-fields-requires c κs = search needs
 
--- src/fields.rt:43:1
 returns-2 : tie.Need-returns-2
 unfolding memoryFields
 returns-2 c = search cases

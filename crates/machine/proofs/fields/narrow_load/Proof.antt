@@ -1,26 +1,21 @@
+-- `machine::fields::narrow_load` meets its contract. Assumes nothing.
 use Rattle.machine.specs.Operation.{narrowLoad}
 use Rattle.base.proofs.Picks.{cases}
 use Rattle.machine.proofs.fields.narrow_load.Statement.{statement}
 use Rattle.machine.proofs.fields.narrow_load.Tie as tie
-use Rattle.machine.proofs.fields.narrow_load.Reads as reads
-use Rattle.machine.proofs.fields.narrow_load.Lts as lts
 
--- src/fields.rt:234:9
 returns : tie.Need-returns
 unfolding narrowLoad
 returns c = search cases
 
--- src/fields.rt:237:9
 returns-2 : tie.Need-returns-2
 unfolding narrowLoad
 returns-2 c = search cases
 
--- src/fields.rt:240:9
 returns-3 : tie.Need-returns-3
 unfolding narrowLoad
 returns-3 c = search cases
 
--- src/fields.rt:230:1
 returns-4 : tie.Need-returns-4
 unfolding narrowLoad
 returns-4 c = search cases

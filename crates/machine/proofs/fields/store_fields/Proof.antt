@@ -1,27 +1,21 @@
+-- `machine::fields::store_fields` meets its contract. Assumes nothing.
 use Rattle.machine.specs.Operation.{storeFields}
 use Rattle.base.proofs.Picks.{cases}
 use borrow.Author.Needs.{needs}
 use Rattle.machine.proofs.fields.store_fields.Statement.{statement}
 use Rattle.machine.proofs.fields.store_fields.Tie as tie
-use Rattle.machine.proofs.fields.store_fields.Reads as reads
-use Rattle.machine.proofs.fields.store_fields.Lts as lts
-use Rattle.machine.proofs.fields.narrow_store.Reads as narrow-store-reads
 
--- src/fields.rt:96:9
 returns : tie.Need-returns
 unfolding storeFields
 returns c = search cases
 
--- src/fields.rt:98:8
 narrow-store-requires : tie.Need-narrow-store-requires
 narrow-store-requires c κs = search needs
 
--- src/fields.rt:99:9
 returns-2 : tie.Need-returns-2
 unfolding storeFields
 returns-2 c = search cases
 
--- src/fields.rt:92:1
 returns-3 : tie.Need-returns-3
 unfolding storeFields
 returns-3 c = search cases

@@ -1,26 +1,21 @@
+-- `machine::fields::whole_load` meets its contract. Assumes nothing.
 use Rattle.machine.specs.Operation.{wholeLoad}
 use Rattle.base.proofs.Picks.{cases}
 use Rattle.machine.proofs.fields.whole_load.Statement.{statement}
 use Rattle.machine.proofs.fields.whole_load.Tie as tie
-use Rattle.machine.proofs.fields.whole_load.Reads as reads
-use Rattle.machine.proofs.fields.whole_load.Lts as lts
 
--- src/fields.rt:219:9
 returns : tie.Need-returns
 unfolding wholeLoad
 returns c = search cases
 
--- src/fields.rt:222:9
 returns-2 : tie.Need-returns-2
 unfolding wholeLoad
 returns-2 c = search cases
 
--- src/fields.rt:225:9
 returns-3 : tie.Need-returns-3
 unfolding wholeLoad
 returns-3 c = search cases
 
--- src/fields.rt:215:1
 returns-4 : tie.Need-returns-4
 unfolding wholeLoad
 returns-4 c = search cases

@@ -1,26 +1,21 @@
+-- `machine::fields::whole_store` meets its contract. Assumes nothing.
 use Rattle.machine.specs.Operation.{wholeStore}
 use Rattle.base.proofs.Picks.{cases}
 use Rattle.machine.proofs.fields.whole_store.Statement.{statement}
 use Rattle.machine.proofs.fields.whole_store.Tie as tie
-use Rattle.machine.proofs.fields.whole_store.Reads as reads
-use Rattle.machine.proofs.fields.whole_store.Lts as lts
 
--- src/fields.rt:282:9
 returns : tie.Need-returns
 unfolding wholeStore
 returns c = search cases
 
--- src/fields.rt:285:9
 returns-2 : tie.Need-returns-2
 unfolding wholeStore
 returns-2 c = search cases
 
--- src/fields.rt:288:9
 returns-3 : tie.Need-returns-3
 unfolding wholeStore
 returns-3 c = search cases
 
--- src/fields.rt:278:1
 returns-4 : tie.Need-returns-4
 unfolding wholeStore
 returns-4 c = search cases

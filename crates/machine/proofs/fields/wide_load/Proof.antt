@@ -1,36 +1,29 @@
+-- `machine::fields::wide_load` meets its contract. Assumes nothing.
 use Rattle.machine.specs.Operation.{wideLoad}
 use Rattle.base.proofs.Picks.{cases}
 use Rattle.machine.proofs.fields.wide_load.Statement.{statement}
 use Rattle.machine.proofs.fields.wide_load.Tie as tie
-use Rattle.machine.proofs.fields.wide_load.Reads as reads
-use Rattle.machine.proofs.fields.wide_load.Lts as lts
 
--- src/fields.rt:249:9
 returns : tie.Need-returns
 unfolding wideLoad
 returns c = search cases
 
--- src/fields.rt:252:9
 returns-2 : tie.Need-returns-2
 unfolding wideLoad
 returns-2 c = search cases
 
--- src/fields.rt:255:9
 returns-3 : tie.Need-returns-3
 unfolding wideLoad
 returns-3 c = search cases
 
--- src/fields.rt:258:9
 returns-4 : tie.Need-returns-4
 unfolding wideLoad
 returns-4 c = search cases
 
--- src/fields.rt:261:9
 returns-5 : tie.Need-returns-5
 unfolding wideLoad
 returns-5 c = search cases
 
--- src/fields.rt:245:1
 returns-6 : tie.Need-returns-6
 unfolding wideLoad
 returns-6 c = search cases

@@ -1,48 +1,38 @@
+-- `machine::fueling::hand_leading` meets its contract. Assumes nothing.
 use Prim.Native.Nat.{ℕ, _-_}
 use lib.ListN.{length, take}
 use Rattle.machine.proofs.Digits.{take-all}
 use Rattle.base.specs.Limiter.{handOver}
 use native.Mathlib.Omega.{arith}
-use mathlib.Core.Path.{_≡_, refl, sym, ap, _∙_}
+use mathlib.Core.Path.{_≡_, sym, ap, _∙_}
 use borrow.Author.Needs.{needs}
 use Rattle.machine.proofs.fueling.hand_leading.Statement.{statement}
 use Rattle.machine.proofs.fueling.hand_leading.Tie as tie
-use Rattle.machine.proofs.fueling.hand_leading.Reads as reads
-use Rattle.machine.proofs.fueling.hand_leading.Lts as lts
-use Rattle.base.proofs.limiter.Limiter.hand_over.Reads as hand-over-reads
 
--- src/fueling.rt:25:34
 slice-aggregate-hand-over : tie.Need-slice-aggregate-hand-over
 slice-aggregate-hand-over c = search needs
 
--- src/fueling.rt:25:9
 hand-over-requires : tie.Need-hand-over-requires
 hand-over-requires c κs = search needs
 
--- src/fueling.rt:25:9
 returns : tie.Need-returns
 returns c =
     let a = c .before .before .before .args in
     let long : length (a .t2) ≡ 16 = search needs in
     c .hand-over .ensures ∙ ap (handOver (a .limiter)) (sym (take-all (a .t2) (a .count) (omega (arith, c .before .before .if1 .taken))))
 
--- src/fueling.rt:27:23
 sub-hand-over : tie.Need-sub-hand-over
 sub-hand-over c = search needs
 
--- src/fueling.rt:27:23
 part-hand-over-start : tie.Need-part-hand-over-start
 part-hand-over-start c = search needs
 
--- src/fueling.rt:27:23
 part-hand-over-end : tie.Need-part-hand-over-end
 part-hand-over-end c = search needs
 
--- src/fueling.rt:27:5
 hand-over-requires-2 : tie.Need-hand-over-requires-2
 hand-over-requires-2 c κs = search needs
 
--- src/fueling.rt:20:1
 returns-2 : tie.Need-returns-2
 returns-2 c =
     let a = c .before .before .before .before .args in

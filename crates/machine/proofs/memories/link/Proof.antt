@@ -1,36 +1,26 @@
+-- `machine::memories::link` meets its contract. Assumes nothing.
 use Prim.Native.Nat.{ℕ}
 use Rattle.types.specs.declared.limits.Limits.{Limits}
 use Rattle.types.specs.MemoryType.{buildMemory}
 use Rattle.machine.specs.Operation.{yes, exponentOf}
 use Rattle.machine.specs.Step.{linked}
-use mathlib.Core.Path.{_≡_, refl, sym, ap, _∙_}
+use mathlib.Core.Path.{ap, _∙_}
 use borrow.Author.Needs.{needs}
 use Rattle.machine.proofs.memories.link.Statement.{statement}
 use Rattle.machine.proofs.memories.link.Tie as tie
-use Rattle.machine.proofs.memories.link.Reads as reads
-use Rattle.machine.proofs.memories.link.Lts as lts
-use Rattle.machine.proofs.fields.exponent_of.Reads as exponent-of-reads
-use Rattle.machine.proofs.fields.limits_of.Reads as limits-of-reads
-use Rattle.machine.proofs.memories.linked.Reads as linked-reads
-use Rattle.types.proofs.memory_ty.MemoryType.build.Reads as build-reads
 
--- src/memories.rt:93:9
 limits-of-requires : tie.Need-limits-of-requires
 limits-of-requires c κs = search needs
 
--- src/memories.rt:94:55
 exponent-of-requires : tie.Need-exponent-of-requires
 exponent-of-requires c κs = search needs
 
--- src/memories.rt:94:9
 build-requires : tie.Need-build-requires
 build-requires c κs = search needs
 
--- src/memories.rt:95:5
 linked-requires : tie.Need-linked-requires
 linked-requires c κs = search needs
 
--- src/memories.rt:83:1
 returns : tie.Need-returns
 returns c =
     c .linked .ensures

@@ -1,16 +1,13 @@
+-- `machine::sound::sound_references` meets its contract. Assumes nothing.
 use Rattle.machine.specs.Sound.{soundReferences}
 use Rattle.base.proofs.Picks.{cases}
 use Rattle.machine.proofs.sound.sound_references.Statement.{statement}
 use Rattle.machine.proofs.sound.sound_references.Tie as tie
-use Rattle.machine.proofs.sound.sound_references.Reads as reads
-use Rattle.machine.proofs.sound.sound_references.Lts as lts
 
--- src/sound.rt:10:9
 returns : tie.Need-returns
 unfolding soundReferences
 returns c = search cases
 
--- src/sound.rt:6:1
 returns-2 : tie.Need-returns-2
 unfolding soundReferences
 returns-2 c = search cases

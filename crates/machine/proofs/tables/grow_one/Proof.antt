@@ -1,36 +1,27 @@
+-- `machine::tables::grow_one` meets its contract. Assumes nothing.
 use Rattle.table.specs.Grow.{growTable}
 use Rattle.types.specs.Raw.{rawBytes}
 use Rattle.types.specs.declared.raw.TypedRawRef.{TypedRawRef}
 use Rattle.machine.specs.Step.{done, tableGrownOn}
 use denote.Ref.{now}
 use Rattle.machine.specs.declared.outcome.Outcome.{Outcome}
-use mathlib.Core.Path.{_≡_, refl, sym, ap, _∙_}
+use mathlib.Core.Path.{ap, _∙_}
 use borrow.Author.Needs.{needs}
 use Rattle.machine.proofs.tables.grow_one.Statement.{statement}
 use Rattle.machine.proofs.tables.grow_one.Tie as tie
-use Rattle.machine.proofs.tables.grow_one.Reads as reads
-use Rattle.machine.proofs.tables.grow_one.Lts as lts
-use Rattle.machine.proofs.fields.reference_of.Reads as reference-of-reads
-use Rattle.machine.proofs.tables.grown.Reads as grown-reads
-use Rattle.table.proofs.table.Table.grow.Reads as grow-reads
 
--- src/tables.rt:55:9
 reference-of-requires : tie.Need-reference-of-requires
 reference-of-requires c κs = search needs
 
--- src/tables.rt:56:9
 grow-requires : tie.Need-grow-requires
 grow-requires c κs = search needs
 
--- src/tables.rt:57:5
 grown-requires : tie.Need-grown-requires
 grown-requires c κs = search needs
 
--- src/tables.rt:43:1
 same-length : tie.Need-same-length
 same-length c = search needs
 
--- src/tables.rt:43:1
 returns : tie.Need-returns
 returns c =
     ap (λ (o : Outcome). done o (c .before .before .before .grow .last .1 .0)) (c .grown .ensures)

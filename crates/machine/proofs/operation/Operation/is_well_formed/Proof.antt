@@ -1,263 +1,203 @@
+-- `machine::operation::Operation::is_well_formed` meets its contract. Assumes nothing.
 use Rattle.machine.specs.Operation.{wellFormed}
-use mathlib.Core.Path.{_≡_, refl, sym, ap, _∙_}
+use mathlib.Core.Path.{refl}
 use borrow.Author.Needs.{needs}
 use Rattle.machine.proofs.operation.Operation.is_well_formed.Statement.{statement}
 use Rattle.machine.proofs.operation.Operation.is_well_formed.Tie as tie
-use Rattle.machine.proofs.operation.Operation.is_well_formed.Reads as reads
-use Rattle.machine.proofs.operation.Operation.is_well_formed.Lts as lts
-use Rattle.machine.proofs.fields.binary.Reads as binary-reads
-use Rattle.machine.proofs.fields.init_fields.Reads as init-fields-reads
-use Rattle.machine.proofs.fields.memory_fields.Reads as memory-fields-reads
-use Rattle.machine.proofs.fields.script_fields.Reads as script-fields-reads
-use Rattle.machine.proofs.fields.segment_fields.Reads as segment-fields-reads
-use Rattle.machine.proofs.fields.store_fields.Reads as store-fields-reads
-use Rattle.machine.proofs.fields.table_fields.Reads as table-fields-reads
 
--- src/operate.rt:28:39
 enum-told : tie.Need-enum-told
 enum-told c = search needs
 
--- src/operate.rt:29:42
 enum-told-2 : tie.Need-enum-told-2
 enum-told-2 c = search needs
 
--- src/operate.rt:30:35
 enum-told-3 : tie.Need-enum-told-3
 enum-told-3 c = search needs
 
--- src/operate.rt:31:41
 enum-told-4 : tie.Need-enum-told-4
 enum-told-4 c = search needs
 
--- src/operate.rt:32:37
 enum-known-self : tie.Need-enum-known-self
 enum-known-self c = search needs
 
--- src/operate.rt:32:56
 script-fields-requires : tie.Need-script-fields-requires
 script-fields-requires c κs = search needs
 
--- src/operate.rt:35:17
 enum-known-self-2 : tie.Need-enum-known-self-2
 enum-known-self-2 c = search needs
 
--- src/operate.rt:40:18
 memory-fields-requires : tie.Need-memory-fields-requires
 memory-fields-requires c κs = search needs
 
--- src/operate.rt:41:45
 enum-told-5 : tie.Need-enum-told-5
 enum-told-5 c = search needs
 
--- src/operate.rt:42:45
 enum-told-6 : tie.Need-enum-told-6
 enum-told-6 c = search needs
 
--- src/operate.rt:43:31
 enum-known-self-3 : tie.Need-enum-known-self-3
 enum-known-self-3 c = search needs
 
--- src/operate.rt:44:32
 enum-known-self-4 : tie.Need-enum-known-self-4
 enum-known-self-4 c = search needs
 
--- src/operate.rt:44:52
 store-fields-requires : tie.Need-store-fields-requires
 store-fields-requires c κs = search needs
 
--- src/operate.rt:46:17
 enum-known-self-5 : tie.Need-enum-known-self-5
 enum-known-self-5 c = search needs
 
--- src/operate.rt:52:18
 table-fields-requires : tie.Need-table-fields-requires
 table-fields-requires c κs = search needs
 
--- src/operate.rt:53:36
 enum-known-self-6 : tie.Need-enum-known-self-6
 enum-known-self-6 c = search needs
 
--- src/operate.rt:53:50
 binary-requires : tie.Need-binary-requires
 binary-requires c κs = search needs
 
--- src/operate.rt:54:44
 enum-told-7 : tie.Need-enum-told-7
 enum-told-7 c = search needs
 
--- src/operate.rt:55:43
 enum-told-8 : tie.Need-enum-told-8
 enum-told-8 c = search needs
 
--- src/operate.rt:56:35
 enum-known-self-7 : tie.Need-enum-known-self-7
 enum-known-self-7 c = search needs
 
--- src/operate.rt:56:49
 binary-requires-2 : tie.Need-binary-requires-2
 binary-requires-2 c κs = search needs
 
--- src/operate.rt:57:36
 enum-known-self-8 : tie.Need-enum-known-self-8
 enum-known-self-8 c = search needs
 
--- src/operate.rt:57:50
 binary-requires-3 : tie.Need-binary-requires-3
 binary-requires-3 c κs = search needs
 
--- src/operate.rt:58:44
 enum-told-9 : tie.Need-enum-told-9
 enum-told-9 c = search needs
 
--- src/operate.rt:59:36
 enum-known-self-9 : tie.Need-enum-known-self-9
 enum-known-self-9 c = search needs
 
--- src/operate.rt:59:55
 init-fields-requires : tie.Need-init-fields-requires
 init-fields-requires c κs = search needs
 
--- src/operate.rt:60:46
 enum-told-10 : tie.Need-enum-told-10
 enum-told-10 c = search needs
 
--- src/operate.rt:62:17
 enum-known-self-10 : tie.Need-enum-known-self-10
 enum-known-self-10 c = search needs
 
--- src/operate.rt:68:18
 segment-fields-requires : tie.Need-segment-fields-requires
 segment-fields-requires c κs = search needs
 
--- src/operate.rt:70:17
 enum-known-self-11 : tie.Need-enum-known-self-11
 enum-known-self-11 c = search needs
 
--- src/operate.rt:75:18
 memory-fields-requires-2 : tie.Need-memory-fields-requires-2
 memory-fields-requires-2 c κs = search needs
 
--- src/operate.rt:24:5
 returns : tie.Need-returns
 unfolding wellFormed
 returns c =
     rw (c .enum-told .given .1) refl
 
--- src/operate.rt:24:5
 returns-2 : tie.Need-returns-2
 unfolding wellFormed
 returns-2 c =
     rw (c .enum-told2 .given .1) refl
 
--- src/operate.rt:24:5
 returns-3 : tie.Need-returns-3
 unfolding wellFormed
 returns-3 c =
     rw (c .enum-told3 .given .1) refl
 
--- src/operate.rt:24:5
 returns-4 : tie.Need-returns-4
 unfolding wellFormed
 returns-4 c =
     rw (c .enum-told4 .given .1) refl
 
--- src/operate.rt:24:5
 returns-5 : tie.Need-returns-5
 unfolding wellFormed
 returns-5 c =
     rw (c .before .before .self .given .1) (c .script-fields .ensures)
 
--- src/operate.rt:24:5
 returns-6 : tie.Need-returns-6
 unfolding wellFormed
 returns-6 c =
     rw (c .before .before .self2 .given .1) (c .memory-fields .ensures)
 
--- src/operate.rt:24:5
 returns-7 : tie.Need-returns-7
 unfolding wellFormed
 returns-7 c =
     rw (c .enum-told5 .given .1) refl
 
--- src/operate.rt:24:5
 returns-8 : tie.Need-returns-8
 unfolding wellFormed
 returns-8 c =
     rw (c .enum-told6 .given .1) refl
 
--- src/operate.rt:24:5
 returns-9 : tie.Need-returns-9
 unfolding wellFormed
 returns-9 c =
     rw (c .before .self3 .given .1) refl
 
--- src/operate.rt:24:5
 returns-10 : tie.Need-returns-10
 unfolding wellFormed
 returns-10 c =
     rw (c .before .before .self4 .given .1) (c .store-fields .ensures)
 
--- src/operate.rt:24:5
 returns-11 : tie.Need-returns-11
 unfolding wellFormed
 returns-11 c =
     rw (c .before .before .self5 .given .1) (c .table-fields .ensures)
 
--- src/operate.rt:24:5
 returns-12 : tie.Need-returns-12
 unfolding wellFormed
 returns-12 c =
     rw (c .before .before .self6 .given .1) (c .binary .ensures)
 
--- src/operate.rt:24:5
 returns-13 : tie.Need-returns-13
 unfolding wellFormed
 returns-13 c =
     rw (c .enum-told7 .given .1) refl
 
--- src/operate.rt:24:5
 returns-14 : tie.Need-returns-14
 unfolding wellFormed
 returns-14 c =
     rw (c .enum-told8 .given .1) refl
 
--- src/operate.rt:24:5
 returns-15 : tie.Need-returns-15
 unfolding wellFormed
 returns-15 c =
     rw (c .before .before .self7 .given .1) (c .binary2 .ensures)
 
--- src/operate.rt:24:5
 returns-16 : tie.Need-returns-16
 unfolding wellFormed
 returns-16 c =
     rw (c .before .before .self8 .given .1) (c .binary3 .ensures)
 
--- src/operate.rt:24:5
 returns-17 : tie.Need-returns-17
 unfolding wellFormed
 returns-17 c =
     rw (c .enum-told9 .given .1) refl
 
--- src/operate.rt:24:5
 returns-18 : tie.Need-returns-18
 unfolding wellFormed
 returns-18 c =
     rw (c .before .before .self9 .given .1) (c .init-fields .ensures)
 
--- src/operate.rt:24:5
 returns-19 : tie.Need-returns-19
 unfolding wellFormed
 returns-19 c =
     rw (c .enum-told10 .given .1) refl
 
--- src/operate.rt:24:5
 returns-20 : tie.Need-returns-20
 unfolding wellFormed
 returns-20 c =
     rw (c .before .before .self10 .given .1) (c .segment-fields .ensures)
 
--- src/operate.rt:24:5
 returns-21 : tie.Need-returns-21
 unfolding wellFormed
 returns-21 c =

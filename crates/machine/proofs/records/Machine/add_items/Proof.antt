@@ -1,3 +1,4 @@
+-- `machine::records::Machine::add_items` meets its contract. Assumes nothing.
 use Rattle.table.specs.Element.{newSegment}
 use Rattle.machine.specs.Operation.{kindOf}
 use Rattle.machine.specs.Step.{done, segmentMadeOn, newSegmentOn}
@@ -7,39 +8,27 @@ use lib.Dec.{leb, ltb}
 use Prim.Native.Nat.{ℕ, _-_}
 use Rattle.machine.specs.declared.outcome.Outcome.{Outcome}
 use denote.Ref.{now}
-use Rattle.base.proofs.Picks.{pick-true, pick-false, both-true, both-left, both-right, both-then, cases}
-use mathlib.Core.Path.{_≡_, refl, sym, ap, _∙_}
+use Rattle.base.proofs.Picks.{pick-true, pick-false}
+use mathlib.Core.Path.{sym, ap, _∙_}
 use borrow.Author.Needs.{needs}
 use Rattle.machine.proofs.records.Machine.add_items.Statement.{statement}
 use Rattle.machine.proofs.records.Machine.add_items.Tie as tie
-use Rattle.machine.proofs.records.Machine.add_items.Reads as reads
-use Rattle.machine.proofs.records.Machine.add_items.Lts as lts
-use Rattle.machine.proofs.records.Machine.make_segment.Reads as make-segment-reads
-use Rattle.machine.proofs.records.Machine.next_item.Reads as next-item-reads
-use Rattle.machine.proofs.records.Machine.refuses.Reads as refuses-reads
-use Rattle.machine.proofs.records.finds_room.Reads as finds-room-reads
 
--- src/segments.rt:119:13
 next-item-requires : tie.Need-next-item-requires
 next-item-requires c κs = search needs
 
--- src/segments.rt:120:81
 sub-finds-room : tie.Need-sub-finds-room
 sub-finds-room c = search needs
 
--- src/segments.rt:120:12
 finds-room-requires : tie.Need-finds-room-requires
 finds-room-requires c κs = search needs
 
--- src/segments.rt:121:13
 make-segment-requires : tie.Need-make-segment-requires
 make-segment-requires c κs = search needs
 
--- src/segments.rt:121:13
 same-length : tie.Need-same-length
 same-length c = search needs
 
--- src/segments.rt:121:13
 returns : tie.Need-returns
 unfolding newSegmentOn
 returns c =
@@ -52,11 +41,9 @@ returns c =
     ∙ sym (c .before .before .before .before .before .finds-room .ensures)
     ∙ c .before .before .before .before .if1 .taken))
 
--- src/segments.rt:123:9
 refuses-requires : tie.Need-refuses-requires
 refuses-requires c κs = search needs
 
--- src/segments.rt:115:5
 returns-2 : tie.Need-returns-2
 unfolding newSegmentOn
 returns-2 c =

@@ -1,29 +1,23 @@
+-- `machine::records::Machine::add_segment` meets its contract. Assumes nothing.
 use Rattle.machine.specs.Outcome.{changed}
 use Rattle.base.proofs.Picks.{cases}
 use borrow.Author.Needs.{needs}
 use Rattle.machine.proofs.records.Machine.add_segment.Statement.{statement}
 use Rattle.machine.proofs.records.Machine.add_segment.Tie as tie
-use Rattle.machine.proofs.records.Machine.add_segment.Reads as reads
-use Rattle.machine.proofs.records.Machine.add_segment.Lts as lts
 
--- src/outcome.rt:119:13
 mul-segment : tie.Need-mul-segment
 mul-segment c = search needs
 
--- src/outcome.rt:119:13
 element-set-from-segment : tie.Need-element-set-from-segment
 element-set-from-segment c = search needs
 
--- src/outcome.rt:120:36
 add-next : tie.Need-add-next
 add-next c = search needs
 
--- src/outcome.rt:121:13
 returns : tie.Need-returns
 unfolding changed
 returns c = search cases
 
--- src/outcome.rt:113:5
 returns-2 : tie.Need-returns-2
 unfolding changed
 returns-2 c = search cases

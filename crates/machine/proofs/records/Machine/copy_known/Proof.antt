@@ -1,34 +1,26 @@
+-- `machine::records::Machine::copy_known` meets its contract. Assumes nothing.
 use Rattle.table.specs.Copy.{copyTable, copyWithin}
 use Rattle.types.specs.Raw.{rawBytes}
 use Rattle.machine.specs.Machine.{tableAt}
 use Rattle.machine.specs.Step.{spannedOn, copyKnown}
 use Rattle.table.specs.declared.table.Table.{Table}
 use denote.Ref.{now}
-use borrow.Author.Tests.{lt-ltb, le-ltb, eq-eqb, ne-eqb, not-true, not-false}
-use Rattle.base.proofs.Picks.{pick-true, pick-false, both-true, both-left, both-right, both-then, cases}
-use mathlib.Core.Path.{_≡_, refl, sym, ap, _∙_}
+use borrow.Author.Tests.{eq-eqb, ne-eqb}
+use Rattle.base.proofs.Picks.{pick-true, pick-false}
+use mathlib.Core.Path.{sym, ap, _∙_}
 use borrow.Author.Needs.{needs}
 use Rattle.machine.proofs.records.Machine.copy_known.Statement.{statement}
 use Rattle.machine.proofs.records.Machine.copy_known.Tie as tie
-use Rattle.machine.proofs.records.Machine.copy_known.Reads as reads
-use Rattle.machine.proofs.records.Machine.copy_known.Lts as lts
-use Rattle.machine.proofs.records.Machine.table_at.Reads as table-at-reads
-use Rattle.machine.proofs.tables.copy_one.Reads as copy-one-reads
-use Rattle.machine.proofs.tables.copy_two.Reads as copy-two-reads
 
--- src/tables.rt:280:13
 table-at-requires : tie.Need-table-at-requires
 table-at-requires c κs = search needs
 
--- src/tables.rt:284:13
 copy-one-requires : tie.Need-copy-one-requires
 copy-one-requires c κs = search needs
 
--- src/tables.rt:284:13
 same-length : tie.Need-same-length
 same-length c = search needs
 
--- src/tables.rt:284:13
 returns : tie.Need-returns
 unfolding copyKnown
 returns c =
@@ -37,19 +29,15 @@ returns c =
     ∙ ap (λ (x : Table). spannedOn (a .self .limiter) (copyWithin rawBytes x (now (a .cells)) (a .to) (a .from) (a .len) (a .self .fuel))) (c .before .before .before .before .before .before .before .table-at .ensures)
     ∙ sym (pick-true _ _ _ (eq-eqb _ _ (c .before .before .before .before .if1 .taken)))
 
--- src/tables.rt:286:13
 table-at-requires-2 : tie.Need-table-at-requires-2
 table-at-requires-2 c κs = search needs
 
--- src/tables.rt:287:9
 copy-two-requires : tie.Need-copy-two-requires
 copy-two-requires c κs = search needs
 
--- src/tables.rt:269:5
 same-length-2 : tie.Need-same-length-2
 same-length-2 c = search needs
 
--- src/tables.rt:269:5
 returns-2 : tie.Need-returns-2
 unfolding copyKnown
 returns-2 c =

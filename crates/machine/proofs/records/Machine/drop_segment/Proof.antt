@@ -1,38 +1,29 @@
+-- `machine::records::Machine::drop_segment` meets its contract. Assumes nothing.
 use Rattle.machine.specs.declared.outcome.Change.the-variants as change
 use Rattle.table.specs.Element.{dropped}
 use Rattle.base.specs.Answer.{accept}
 use Rattle.machine.specs.Step.{dropOn}
 use Rattle.table.specs.declared.element.ElementSegment.{ElementSegment}
 use Rattle.machine.proofs.Laws.{unknown, known}
-use mathlib.Core.Path.{_≡_, refl, sym, ap, _∙_}
+use mathlib.Core.Path.{ap, _∙_}
 use borrow.Author.Needs.{needs}
 use Rattle.machine.proofs.records.Machine.drop_segment.Statement.{statement}
 use Rattle.machine.proofs.records.Machine.drop_segment.Tie as tie
-use Rattle.machine.proofs.records.Machine.drop_segment.Reads as reads
-use Rattle.machine.proofs.records.Machine.drop_segment.Lts as lts
-use Rattle.machine.proofs.records.Machine.refuses.Reads as refuses-reads
-use Rattle.machine.proofs.records.Machine.segment_at.Reads as segment-at-reads
-use Rattle.table.proofs.element.ElementSegment.drop_items.Reads as drop-items-reads
 
--- src/segments.rt:76:13
 refuses-requires : tie.Need-refuses-requires
 refuses-requires c κs = search needs
 
--- src/segments.rt:76:13
 returns : tie.Need-returns
 unfolding dropOn
 returns c =
     unknown _ (c .before .before .before .args .number) (c .before .before .before .args .self .counts .segments) (c .before .if1 .taken) (c .refuses .ensures)
 
--- src/segments.rt:78:13
 segment-at-requires : tie.Need-segment-at-requires
 segment-at-requires c κs = search needs
 
--- src/segments.rt:79:13
 drop-items-requires : tie.Need-drop-items-requires
 drop-items-requires c κs = search needs
 
--- src/segments.rt:71:5
 returns-2 : tie.Need-returns-2
 unfolding dropOn
 returns-2 c =

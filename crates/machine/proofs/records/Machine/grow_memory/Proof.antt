@@ -1,42 +1,32 @@
+-- `machine::records::Machine::grow_memory` meets its contract. Assumes nothing.
 use Rattle.memory.specs.Grow.{growMemory}
 use Rattle.machine.specs.Step.{done, grownOn, growMemoryOn}
 use Rattle.memory.specs.declared.memory.Memory.{Memory}
 use Rattle.machine.specs.declared.outcome.Outcome.{Outcome}
 use denote.Ref.{now}
 use Rattle.machine.proofs.Laws.{unknown, known}
-use mathlib.Core.Path.{_≡_, refl, sym, ap, _∙_}
+use mathlib.Core.Path.{ap, _∙_}
 use borrow.Author.Needs.{needs}
 use Rattle.machine.proofs.records.Machine.grow_memory.Statement.{statement}
 use Rattle.machine.proofs.records.Machine.grow_memory.Tie as tie
-use Rattle.machine.proofs.records.Machine.grow_memory.Reads as reads
-use Rattle.machine.proofs.records.Machine.grow_memory.Lts as lts
-use Rattle.machine.proofs.memories.grow_one.Reads as grow-one-reads
-use Rattle.machine.proofs.records.Machine.memory_at.Reads as memory-at-reads
-use Rattle.machine.proofs.records.Machine.refuses.Reads as refuses-reads
 
--- src/memories.rt:169:13
 refuses-requires : tie.Need-refuses-requires
 refuses-requires c κs = search needs
 
--- src/memories.rt:169:13
 returns : tie.Need-returns
 unfolding growMemoryOn
 returns c =
     unknown _ (c .before .before .before .before .args .number) (c .before .before .before .before .args .self .counts .memories) (c .before .if1 .taken) (ap (λ (o : Outcome). done o (now (c .before .before .before .before .args .bytes))) (c .refuses .ensures))
 
--- src/memories.rt:171:13
 memory-at-requires : tie.Need-memory-at-requires
 memory-at-requires c κs = search needs
 
--- src/memories.rt:174:9
 grow-one-requires : tie.Need-grow-one-requires
 grow-one-requires c κs = search needs
 
--- src/memories.rt:164:5
 same-length : tie.Need-same-length
 same-length c = search needs
 
--- src/memories.rt:164:5
 returns-2 : tie.Need-returns-2
 unfolding growMemoryOn
 returns-2 c =

@@ -1,37 +1,28 @@
+-- `machine::records::Machine::link_check` meets its contract. Assumes nothing.
 use Rattle.types.specs.MemoryType.{buildMemory}
 use Rattle.machine.specs.Operation.{yes, limitsOf, exponentOf}
 use Rattle.machine.specs.Step.{linked, linkCheck}
 use Rattle.memory.specs.declared.memory.Memory.{Memory}
 use Rattle.machine.proofs.Laws.{unknown, known}
-use mathlib.Core.Path.{_≡_, refl, sym, ap, _∙_}
+use mathlib.Core.Path.{ap, _∙_}
 use borrow.Author.Needs.{needs}
 use Rattle.machine.proofs.records.Machine.link_check.Statement.{statement}
 use Rattle.machine.proofs.records.Machine.link_check.Tie as tie
-use Rattle.machine.proofs.records.Machine.link_check.Reads as reads
-use Rattle.machine.proofs.records.Machine.link_check.Lts as lts
-use Rattle.machine.proofs.memories.link.Reads as link-reads
-use Rattle.machine.proofs.memories.refused.Reads as refused-reads
-use Rattle.machine.proofs.records.Machine.memory_at.Reads as memory-at-reads
 
--- src/memories.rt:239:13
 refused-requires : tie.Need-refused-requires
 refused-requires c κs = search needs
 
--- src/memories.rt:239:13
 returns : tie.Need-returns
 unfolding linkCheck
 returns c =
     unknown _ (c .before .before .before .args .number) (c .before .before .before .args .self .counts .memories) (c .before .if1 .taken) (c .refused .ensures)
 
--- src/memories.rt:241:13
 memory-at-requires : tie.Need-memory-at-requires
 memory-at-requires c κs = search needs
 
--- src/memories.rt:243:9
 link-requires : tie.Need-link-requires
 link-requires c κs = search needs
 
--- src/memories.rt:226:5
 returns-2 : tie.Need-returns-2
 unfolding linkCheck
 returns-2 c =

@@ -1,26 +1,21 @@
+-- `machine::records::Machine::made_memory` meets its contract. Assumes nothing.
 use Rattle.machine.specs.Step.{madeMemory}
-use mathlib.Core.Path.{_≡_, refl, sym, ap, _∙_}
+use mathlib.Core.Path.{refl}
 use borrow.Author.Needs.{needs}
 use Rattle.machine.proofs.records.Machine.made_memory.Statement.{statement}
 use Rattle.machine.proofs.records.Machine.made_memory.Tie as tie
-use Rattle.machine.proofs.records.Machine.made_memory.Reads as reads
-use Rattle.machine.proofs.records.Machine.made_memory.Lts as lts
 
--- src/memories.rt:105:33
 enum-known-made : tie.Need-enum-known-made
 enum-known-made c = search needs
 
--- src/memories.rt:111:30
 enum-known-made-2 : tie.Need-enum-known-made-2
 enum-known-made-2 c = search needs
 
--- src/memories.rt:100:5
 returns : tie.Need-returns
 unfolding madeMemory
 returns c =
     rw (c .before .made .given .1) refl
 
--- src/memories.rt:100:5
 returns-2 : tie.Need-returns-2
 unfolding madeMemory
 returns-2 c =

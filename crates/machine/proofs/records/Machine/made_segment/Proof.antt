@@ -1,31 +1,24 @@
+-- `machine::records::Machine::made_segment` meets its contract. Assumes nothing.
 use Rattle.machine.specs.Step.{madeSegment}
-use mathlib.Core.Path.{_≡_, refl, sym, ap, _∙_}
+use mathlib.Core.Path.{refl}
 use borrow.Author.Needs.{needs}
 use Rattle.machine.proofs.records.Machine.made_segment.Statement.{statement}
 use Rattle.machine.proofs.records.Machine.made_segment.Tie as tie
-use Rattle.machine.proofs.records.Machine.made_segment.Reads as reads
-use Rattle.machine.proofs.records.Machine.made_segment.Lts as lts
-use Rattle.machine.proofs.records.Machine.keeps.Reads as keeps-reads
 
--- src/segments.rt:97:34
 enum-known-made : tie.Need-enum-known-made
 enum-known-made c = search needs
 
--- src/segments.rt:97:46
 keeps-requires : tie.Need-keeps-requires
 keeps-requires c κs = search needs
 
--- src/segments.rt:98:31
 enum-known-made-2 : tie.Need-enum-known-made-2
 enum-known-made-2 c = search needs
 
--- src/segments.rt:91:5
 returns : tie.Need-returns
 unfolding madeSegment
 returns c =
     rw (c .before .before .made .given .1) (c .keeps .ensures)
 
--- src/segments.rt:91:5
 returns-2 : tie.Need-returns-2
 unfolding madeSegment
 returns-2 c =

@@ -1,26 +1,21 @@
+-- `machine::records::Machine::made_table` meets its contract. Assumes nothing.
 use Rattle.machine.specs.Step.{madeTable}
-use mathlib.Core.Path.{_≡_, refl, sym, ap, _∙_}
+use mathlib.Core.Path.{refl}
 use borrow.Author.Needs.{needs}
 use Rattle.machine.proofs.records.Machine.made_table.Statement.{statement}
 use Rattle.machine.proofs.records.Machine.made_table.Tie as tie
-use Rattle.machine.proofs.records.Machine.made_table.Reads as reads
-use Rattle.machine.proofs.records.Machine.made_table.Lts as lts
 
--- src/tables.rt:131:32
 enum-known-made : tie.Need-enum-known-made
 enum-known-made c = search needs
 
--- src/tables.rt:137:29
 enum-known-made-2 : tie.Need-enum-known-made-2
 enum-known-made-2 c = search needs
 
--- src/tables.rt:126:5
 returns : tie.Need-returns
 unfolding madeTable
 returns c =
     rw (c .before .made .given .1) refl
 
--- src/tables.rt:126:5
 returns-2 : tie.Need-returns-2
 unfolding madeTable
 returns-2 c =

@@ -1,3 +1,4 @@
+-- `machine::records::Machine::make_memory` meets its contract. Assumes nothing.
 use Rattle.memory.specs.New.{newMemory}
 use Rattle.machine.specs.Operation.{yes, exponentOf}
 use Rattle.machine.specs.Step.{done, madeOn}
@@ -5,38 +6,26 @@ use Prim.Native.Nat.{ℕ}
 use Rattle.types.specs.declared.limits.Limits.{Limits}
 use Rattle.machine.specs.declared.outcome.Outcome.{Outcome}
 use denote.Ref.{now}
-use mathlib.Core.Path.{_≡_, refl, sym, ap, _∙_}
+use mathlib.Core.Path.{ap, _∙_}
 use borrow.Author.Needs.{needs}
 use Rattle.machine.proofs.records.Machine.make_memory.Statement.{statement}
 use Rattle.machine.proofs.records.Machine.make_memory.Tie as tie
-use Rattle.machine.proofs.records.Machine.make_memory.Reads as reads
-use Rattle.machine.proofs.records.Machine.make_memory.Lts as lts
-use Rattle.machine.proofs.fields.exponent_of.Reads as exponent-of-reads
-use Rattle.machine.proofs.fields.limits_of.Reads as limits-of-reads
-use Rattle.machine.proofs.records.Machine.made_memory.Reads as made-memory-reads
-use Rattle.memory.proofs.new.new_memory.Reads as new-memory-reads
 
--- src/memories.rt:133:13
 limits-of-requires : tie.Need-limits-of-requires
 limits-of-requires c κs = search needs
 
--- src/memories.rt:134:13
 exponent-of-requires : tie.Need-exponent-of-requires
 exponent-of-requires c κs = search needs
 
--- src/memories.rt:136:13
 new-memory-requires : tie.Need-new-memory-requires
 new-memory-requires c κs = search needs
 
--- src/memories.rt:139:9
 made-memory-requires : tie.Need-made-memory-requires
 made-memory-requires c κs = search needs
 
--- src/memories.rt:120:5
 same-length : tie.Need-same-length
 same-length c = search needs
 
--- src/memories.rt:120:5
 returns : tie.Need-returns
 returns c =
     ap (λ (o : Outcome). done o (c .before .before .before .before .new-memory .last .1 .1 .1 .1 .1 .0)) (c .made-memory .ensures)

@@ -1,35 +1,26 @@
+-- `machine::records::Machine::make_segment` meets its contract. Assumes nothing.
 use Rattle.types.specs.declared.raw.RefType.{RefType}
 use Rattle.table.specs.Element.{newSegment}
 use Rattle.machine.specs.Step.{done, segmentMadeOn}
 use Rattle.machine.specs.declared.outcome.Outcome.{Outcome}
 use denote.Ref.{now}
-use mathlib.Core.Path.{_≡_, refl, sym, ap, _∙_}
+use mathlib.Core.Path.{ap, _∙_}
 use borrow.Author.Needs.{needs}
 use Rattle.machine.proofs.records.Machine.make_segment.Statement.{statement}
 use Rattle.machine.proofs.records.Machine.make_segment.Tie as tie
-use Rattle.machine.proofs.records.Machine.make_segment.Reads as reads
-use Rattle.machine.proofs.records.Machine.make_segment.Lts as lts
-use Rattle.machine.proofs.fields.kind_of.Reads as kind-of-reads
-use Rattle.machine.proofs.records.Machine.made_segment.Reads as made-segment-reads
-use Rattle.table.proofs.element.ElementSegment.new.Reads as new-reads
 
--- src/segments.rt:110:13
 kind-of-requires : tie.Need-kind-of-requires
 kind-of-requires c κs = search needs
 
--- src/segments.rt:111:13
 new-requires : tie.Need-new-requires
 new-requires c κs = search needs
 
--- src/segments.rt:112:9
 made-segment-requires : tie.Need-made-segment-requires
 made-segment-requires c κs = search needs
 
--- src/segments.rt:107:5
 same-length : tie.Need-same-length
 same-length c = search needs
 
--- src/segments.rt:107:5
 returns : tie.Need-returns
 returns c =
     ap (λ (o : Outcome). done o (c .before .before .before .new .last .1 .1 .0)) (c .made-segment .ensures)

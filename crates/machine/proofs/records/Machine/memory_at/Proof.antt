@@ -1,3 +1,4 @@
+-- `machine::records::Machine::memory_at` meets its contract. Assumes nothing.
 use Rattle.machine.proofs.Lists.{past}
 use mathlib.Core.Path.{_≡_, sym, _∙_}
 use lib.ListN.{length, length-map}
@@ -5,27 +6,19 @@ use Rattle.machine.specs.Machine.{noMemory}
 use borrow.Author.Needs.{needs}
 use Rattle.machine.proofs.records.Machine.memory_at.Statement.{statement}
 use Rattle.machine.proofs.records.Machine.memory_at.Tie as tie
-use Rattle.machine.proofs.records.Machine.memory_at.Reads as reads
-use Rattle.machine.proofs.records.Machine.memory_at.Lts as lts
-use Rattle.machine.proofs.records.no_memory.Reads as no-memory-reads
 
--- src/records.rt:115:20
 mul-result : tie.Need-mul-result
 mul-result c = search needs
 
--- src/records.rt:115:20
 element-copy-out-result : tie.Need-element-copy-out-result
 element-copy-out-result c = search needs
 
--- src/records.rt:115:13
 returns : tie.Need-returns
 returns c = search needs
 
--- src/records.rt:117:9
 no-memory-requires : tie.Need-no-memory-requires
 no-memory-requires c κs = search needs
 
--- src/records.rt:111:5
 returns-2 : tie.Need-returns-2
 returns-2 c =
     let args = c .before .before .args in

@@ -1,36 +1,27 @@
+-- `machine::records::Machine::memory_size` meets its contract. Assumes nothing.
 use Rattle.memory.specs.Memory.{pagesOf}
 use Rattle.base.specs.Answer.{accept}
 use Rattle.machine.specs.Step.{memorySize}
 use Rattle.machine.proofs.Laws.{unknown, known}
-use mathlib.Core.Path.{_≡_, refl, sym, ap, _∙_}
+use mathlib.Core.Path.{ap, _∙_}
 use borrow.Author.Needs.{needs}
 use Rattle.machine.proofs.records.Machine.memory_size.Statement.{statement}
 use Rattle.machine.proofs.records.Machine.memory_size.Tie as tie
-use Rattle.machine.proofs.records.Machine.memory_size.Reads as reads
-use Rattle.machine.proofs.records.Machine.memory_size.Lts as lts
-use Rattle.machine.proofs.memories.refused.Reads as refused-reads
-use Rattle.machine.proofs.records.Machine.memory_at.Reads as memory-at-reads
-use Rattle.memory.proofs.memory.Memory.pages.Reads as pages-reads
 
--- src/memories.rt:183:13
 refused-requires : tie.Need-refused-requires
 refused-requires c κs = search needs
 
--- src/memories.rt:183:13
 returns : tie.Need-returns
 unfolding memorySize
 returns c =
     unknown _ (c .before .before .before .args .number) (c .before .before .before .args .self .counts .memories) (c .before .if1 .taken) (c .refused .ensures)
 
--- src/memories.rt:185:13
 memory-at-requires : tie.Need-memory-at-requires
 memory-at-requires c κs = search needs
 
--- src/memories.rt:186:13
 pages-requires : tie.Need-pages-requires
 pages-requires c κs = search needs
 
--- src/memories.rt:178:5
 returns-2 : tie.Need-returns-2
 unfolding memorySize
 returns-2 c =

@@ -1,3 +1,4 @@
+-- `machine::records::Machine::new_memory` meets its contract. Assumes nothing.
 use Rattle.memory.specs.New.{newMemory}
 use Rattle.machine.specs.Operation.{yes, limitsOf, exponentOf}
 use Rattle.machine.specs.Step.{done, madeOn, newMemoryOn}
@@ -7,39 +8,27 @@ use lib.Dec.{leb, ltb}
 use Prim.Native.Nat.{ℕ, _-_}
 use Rattle.machine.specs.declared.outcome.Outcome.{Outcome}
 use denote.Ref.{now}
-use Rattle.base.proofs.Picks.{pick-true, pick-false, both-true, both-left, both-right, both-then, cases}
-use mathlib.Core.Path.{_≡_, refl, sym, ap, _∙_}
+use Rattle.base.proofs.Picks.{pick-true, pick-false}
+use mathlib.Core.Path.{sym, ap, _∙_}
 use borrow.Author.Needs.{needs}
 use Rattle.machine.proofs.records.Machine.new_memory.Statement.{statement}
 use Rattle.machine.proofs.records.Machine.new_memory.Tie as tie
-use Rattle.machine.proofs.records.Machine.new_memory.Reads as reads
-use Rattle.machine.proofs.records.Machine.new_memory.Lts as lts
-use Rattle.machine.proofs.records.Machine.make_memory.Reads as make-memory-reads
-use Rattle.machine.proofs.records.Machine.next_byte.Reads as next-byte-reads
-use Rattle.machine.proofs.records.Machine.refuses.Reads as refuses-reads
-use Rattle.machine.proofs.records.finds_room.Reads as finds-room-reads
 
--- src/memories.rt:156:13
 next-byte-requires : tie.Need-next-byte-requires
 next-byte-requires c κs = search needs
 
--- src/memories.rt:157:67
 sub-finds-room : tie.Need-sub-finds-room
 sub-finds-room c = search needs
 
--- src/memories.rt:157:12
 finds-room-requires : tie.Need-finds-room-requires
 finds-room-requires c κs = search needs
 
--- src/memories.rt:158:13
 make-memory-requires : tie.Need-make-memory-requires
 make-memory-requires c κs = search needs
 
--- src/memories.rt:158:13
 same-length : tie.Need-same-length
 same-length c = search needs
 
--- src/memories.rt:158:13
 returns : tie.Need-returns
 unfolding newMemoryOn
 returns c =
@@ -52,11 +41,9 @@ returns c =
     ∙ sym (c .before .before .before .before .before .finds-room .ensures)
     ∙ c .before .before .before .before .if1 .taken))
 
--- src/memories.rt:160:9
 refuses-requires : tie.Need-refuses-requires
 refuses-requires c κs = search needs
 
--- src/memories.rt:143:5
 returns-2 : tie.Need-returns-2
 unfolding newMemoryOn
 returns-2 c =

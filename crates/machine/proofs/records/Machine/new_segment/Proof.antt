@@ -1,57 +1,45 @@
+-- `machine::records::Machine::new_segment` meets its contract. Assumes nothing.
 use Prim.Native.Nat.{ℕ, _-_}
 use lib.ListN.{length, take}
 use Rattle.machine.proofs.Digits.{take-all}
 use Rattle.machine.specs.Step.{newSegmentOn}
 use native.Mathlib.Omega.{arith}
 use denote.Ref.{now}
-use mathlib.Core.Path.{_≡_, refl, sym, ap, _∙_}
+use mathlib.Core.Path.{_≡_, sym, ap, _∙_}
 use borrow.Author.Needs.{needs}
 use Rattle.machine.proofs.records.Machine.new_segment.Statement.{statement}
 use Rattle.machine.proofs.records.Machine.new_segment.Tie as tie
-use Rattle.machine.proofs.records.Machine.new_segment.Reads as reads
-use Rattle.machine.proofs.records.Machine.new_segment.Lts as lts
-use Rattle.machine.proofs.records.Machine.add_items.Reads as add-items-reads
 
--- src/segments.rt:139:48
 slice-aggregate-add-items : tie.Need-slice-aggregate-add-items
 slice-aggregate-add-items c = search needs
 
--- src/segments.rt:139:13
 add-items-requires : tie.Need-add-items-requires
 add-items-requires c κs = search needs
 
--- src/segments.rt:139:13
 same-length : tie.Need-same-length
 same-length c = search needs
 
--- src/segments.rt:139:13
 returns : tie.Need-returns
 returns c =
     let a = c .before .before .before .before .before .before .before .args in
     let long : length (a .t5) ≡ 4 = search needs in
     c .before .before .add-items .ensures ∙ ap (newSegmentOn (a .self) (now (a .items)) (a .kind)) (sym (take-all (a .t5) (a .count) (omega (arith, c .before .before .before .before .before .if1 .taken))))
 
--- src/segments.rt:141:37
 sub-add-items : tie.Need-sub-add-items
 sub-add-items c = search needs
 
--- src/segments.rt:141:37
 part-add-items-start : tie.Need-part-add-items-start
 part-add-items-start c = search needs
 
--- src/segments.rt:141:37
 part-add-items-end : tie.Need-part-add-items-end
 part-add-items-end c = search needs
 
--- src/segments.rt:141:9
 add-items-requires-2 : tie.Need-add-items-requires-2
 add-items-requires-2 c κs = search needs
 
--- src/segments.rt:127:5
 same-length-2 : tie.Need-same-length-2
 same-length-2 c = search needs
 
--- src/segments.rt:127:5
 returns-2 : tie.Need-returns-2
 returns-2 c =
     let a = c .before .before .before .before .before .before .before .before .args in

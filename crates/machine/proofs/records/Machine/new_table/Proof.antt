@@ -1,3 +1,4 @@
+-- `machine::records::Machine::new_table` meets its contract. Assumes nothing.
 use Rattle.table.specs.New.{newTable}
 use Rattle.machine.specs.Operation.{yes, limitsOf, kindOf, referenceOf}
 use Rattle.machine.specs.Step.{done, tableMadeOn, newTableOn}
@@ -7,39 +8,27 @@ use lib.Dec.{leb, ltb}
 use Prim.Native.Nat.{ℕ, _-_}
 use Rattle.machine.specs.declared.outcome.Outcome.{Outcome}
 use denote.Ref.{now}
-use Rattle.base.proofs.Picks.{pick-true, pick-false, both-true, both-left, both-right, both-then, cases}
-use mathlib.Core.Path.{_≡_, refl, sym, ap, _∙_}
+use Rattle.base.proofs.Picks.{pick-true, pick-false}
+use mathlib.Core.Path.{sym, ap, _∙_}
 use borrow.Author.Needs.{needs}
 use Rattle.machine.proofs.records.Machine.new_table.Statement.{statement}
 use Rattle.machine.proofs.records.Machine.new_table.Tie as tie
-use Rattle.machine.proofs.records.Machine.new_table.Reads as reads
-use Rattle.machine.proofs.records.Machine.new_table.Lts as lts
-use Rattle.machine.proofs.records.Machine.make_table.Reads as make-table-reads
-use Rattle.machine.proofs.records.Machine.next_cell.Reads as next-cell-reads
-use Rattle.machine.proofs.records.Machine.refuses.Reads as refuses-reads
-use Rattle.machine.proofs.records.finds_room.Reads as finds-room-reads
 
--- src/tables.rt:187:13
 next-cell-requires : tie.Need-next-cell-requires
 next-cell-requires c κs = search needs
 
--- src/tables.rt:188:65
 sub-finds-room : tie.Need-sub-finds-room
 sub-finds-room c = search needs
 
--- src/tables.rt:188:12
 finds-room-requires : tie.Need-finds-room-requires
 finds-room-requires c κs = search needs
 
--- src/tables.rt:189:13
 make-table-requires : tie.Need-make-table-requires
 make-table-requires c κs = search needs
 
--- src/tables.rt:189:13
 same-length : tie.Need-same-length
 same-length c = search needs
 
--- src/tables.rt:189:13
 returns : tie.Need-returns
 unfolding newTableOn
 returns c =
@@ -52,11 +41,9 @@ returns c =
     ∙ sym (c .before .before .before .before .before .finds-room .ensures)
     ∙ c .before .before .before .before .if1 .taken))
 
--- src/tables.rt:191:9
 refuses-requires : tie.Need-refuses-requires
 refuses-requires c κs = search needs
 
--- src/tables.rt:172:5
 returns-2 : tie.Need-returns-2
 unfolding newTableOn
 returns-2 c =

@@ -1,35 +1,26 @@
+-- `machine::records::Machine::operate` meets its contract. Assumes nothing.
 use Rattle.machine.specs.declared.records.Machine.{Machine}
 use Rattle.machine.specs.Step.{stepped, after, step}
-use mathlib.Core.Path.{_≡_, refl, sym, ap, _∙_}
+use mathlib.Core.Path.{ap, _∙_}
 use borrow.Author.Needs.{needs}
 use Rattle.machine.proofs.records.Machine.operate.Statement.{statement}
 use Rattle.machine.proofs.records.Machine.operate.Tie as tie
-use Rattle.machine.proofs.records.Machine.operate.Reads as reads
-use Rattle.machine.proofs.records.Machine.operate.Lts as lts
-use Rattle.machine.proofs.records.Machine.decide.Reads as decide-reads
-use Rattle.machine.proofs.records.Machine.settle.Reads as settle-reads
 
--- src/operate.rt:215:13
 decide-requires : tie.Need-decide-requires
 decide-requires c κs = search needs
 
--- src/operate.rt:217:13
 settle-requires : tie.Need-settle-requires
 settle-requires c κs = search needs
 
--- src/operate.rt:206:5
 same-length : tie.Need-same-length
 same-length c = search needs
 
--- src/operate.rt:206:5
 same-length-2 : tie.Need-same-length-2
 same-length-2 c = search needs
 
--- src/operate.rt:206:5
 same-length-3 : tie.Need-same-length-3
 same-length-3 c = search needs
 
--- src/operate.rt:206:5
 returns : tie.Need-returns
 unfolding step
 returns c =

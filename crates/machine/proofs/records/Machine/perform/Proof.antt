@@ -1,230 +1,159 @@
+-- `machine::records::Machine::perform` meets its contract. Assumes nothing.
 use Rattle.machine.proofs.Rooms.{next-byte-inside, next-cell-inside, next-item-inside}
 use Rattle.machine.specs.Outcome.{keeps}
 use Rattle.machine.specs.Machine.{buffers}
 use Rattle.machine.specs.Step.{Done, onNone, onBytes, onCells, onItems, perform}
 use Rattle.machine.specs.declared.outcome.Outcome.{Outcome}
 use denote.Ref.{now}
-use mathlib.Core.Path.{_≡_, refl, sym, ap, _∙_}
+use mathlib.Core.Path.{ap, _∙_}
 use borrow.Author.Needs.{needs}
 use Rattle.machine.proofs.records.Machine.perform.Statement.{statement}
 use Rattle.machine.proofs.records.Machine.perform.Tie as tie
-use Rattle.machine.proofs.records.Machine.perform.Reads as reads
-use Rattle.machine.proofs.records.Machine.perform.Lts as lts
-use Rattle.machine.proofs.records.Machine.charge.Reads as charge-reads
-use Rattle.machine.proofs.records.Machine.drop_segment.Reads as drop-segment-reads
-use Rattle.machine.proofs.records.Machine.get_fuel.Reads as get-fuel-reads
-use Rattle.machine.proofs.records.Machine.grow_memory.Reads as grow-memory-reads
-use Rattle.machine.proofs.records.Machine.grow_table.Reads as grow-table-reads
-use Rattle.machine.proofs.records.Machine.keeps.Reads as keeps-reads
-use Rattle.machine.proofs.records.Machine.link_check.Reads as link-check-reads
-use Rattle.machine.proofs.records.Machine.load.Reads as load-reads
-use Rattle.machine.proofs.records.Machine.memory_size.Reads as memory-size-reads
-use Rattle.machine.proofs.records.Machine.new_memory.Reads as new-memory-reads
-use Rattle.machine.proofs.records.Machine.new_segment.Reads as new-segment-reads
-use Rattle.machine.proofs.records.Machine.new_table.Reads as new-table-reads
-use Rattle.machine.proofs.records.Machine.refuses.Reads as refuses-reads
-use Rattle.machine.proofs.records.Machine.set_fuel.Reads as set-fuel-reads
-use Rattle.machine.proofs.records.Machine.set_limiter.Reads as set-limiter-reads
-use Rattle.machine.proofs.records.Machine.store.Reads as store-reads
-use Rattle.machine.proofs.records.Machine.table_copy.Reads as table-copy-reads
-use Rattle.machine.proofs.records.Machine.table_fill.Reads as table-fill-reads
-use Rattle.machine.proofs.records.Machine.table_get.Reads as table-get-reads
-use Rattle.machine.proofs.records.Machine.table_init.Reads as table-init-reads
-use Rattle.machine.proofs.records.Machine.table_set.Reads as table-set-reads
-use Rattle.machine.proofs.records.Machine.table_size.Reads as table-size-reads
 
--- src/operate.rt:93:39
 enum-told : tie.Need-enum-told
 enum-told c = search needs
 
--- src/operate.rt:93:39
 refuses-requires : tie.Need-refuses-requires
 refuses-requires c κs = search needs
 
--- src/operate.rt:94:34
 enum-known-op : tie.Need-enum-known-op
 enum-known-op c = search needs
 
--- src/operate.rt:94:46
 set-fuel-requires : tie.Need-set-fuel-requires
 set-fuel-requires c κs = search needs
 
--- src/operate.rt:95:35
 enum-told-2 : tie.Need-enum-told-2
 enum-told-2 c = search needs
 
--- src/operate.rt:95:35
 get-fuel-requires : tie.Need-get-fuel-requires
 get-fuel-requires c κs = search needs
 
--- src/operate.rt:96:33
 enum-known-op-2 : tie.Need-enum-known-op-2
 enum-known-op-2 c = search needs
 
--- src/operate.rt:96:44
 charge-requires : tie.Need-charge-requires
 charge-requires c κs = search needs
 
--- src/operate.rt:97:37
 enum-known-op-3 : tie.Need-enum-known-op-3
 enum-known-op-3 c = search needs
 
--- src/operate.rt:97:56
 set-limiter-requires : tie.Need-set-limiter-requires
 set-limiter-requires c κs = search needs
 
--- src/operate.rt:99:17
 enum-known-op-4 : tie.Need-enum-known-op-4
 enum-known-op-4 c = search needs
 
--- src/operate.rt:105:18
 new-memory-requires : tie.Need-new-memory-requires
 new-memory-requires c κs =
     next-byte-inside _ _ _ _ (c .before .before .before .before .before .before .before .pre)
 
--- src/operate.rt:106:37
 enum-known-op-5 : tie.Need-enum-known-op-5
 enum-known-op-5 c = search needs
 
--- src/operate.rt:106:56
 grow-memory-requires : tie.Need-grow-memory-requires
 grow-memory-requires c κs = search needs
 
--- src/operate.rt:107:37
 enum-known-op-6 : tie.Need-enum-known-op-6
 enum-known-op-6 c = search needs
 
--- src/operate.rt:107:60
 memory-size-requires : tie.Need-memory-size-requires
 memory-size-requires c κs = search needs
 
--- src/operate.rt:107:49
 keeps-requires : tie.Need-keeps-requires
 keeps-requires c κs = search needs
 
--- src/operate.rt:109:17
 enum-known-op-7 : tie.Need-enum-known-op-7
 enum-known-op-7 c = search needs
 
--- src/operate.rt:113:29
 load-requires : tie.Need-load-requires
 load-requires c κs = search needs
 
--- src/operate.rt:113:18
 keeps-requires-2 : tie.Need-keeps-requires-2
 keeps-requires-2 c κs = search needs
 
--- src/operate.rt:115:17
 enum-known-op-8 : tie.Need-enum-known-op-8
 enum-known-op-8 c = search needs
 
--- src/operate.rt:120:18
 store-requires : tie.Need-store-requires
 store-requires c κs = search needs
 
--- src/operate.rt:122:17
 enum-known-op-9 : tie.Need-enum-known-op-9
 enum-known-op-9 c = search needs
 
--- src/operate.rt:130:18
 new-table-requires : tie.Need-new-table-requires
 new-table-requires c κs =
     next-cell-inside _ _ _ _ (c .before .before .before .before .before .before .before .pre)
 
--- src/operate.rt:132:17
 enum-known-op-10 : tie.Need-enum-known-op-10
 enum-known-op-10 c = search needs
 
--- src/operate.rt:136:18
 grow-table-requires : tie.Need-grow-table-requires
 grow-table-requires c κs = search needs
 
--- src/operate.rt:137:36
 enum-known-op-11 : tie.Need-enum-known-op-11
 enum-known-op-11 c = search needs
 
--- src/operate.rt:137:58
 table-size-requires : tie.Need-table-size-requires
 table-size-requires c κs = search needs
 
--- src/operate.rt:137:47
 keeps-requires-3 : tie.Need-keeps-requires-3
 keeps-requires-3 c κs = search needs
 
--- src/operate.rt:138:35
 enum-known-op-12 : tie.Need-enum-known-op-12
 enum-known-op-12 c = search needs
 
--- src/operate.rt:138:64
 table-get-requires : tie.Need-table-get-requires
 table-get-requires c κs = search needs
 
--- src/operate.rt:138:53
 keeps-requires-4 : tie.Need-keeps-requires-4
 keeps-requires-4 c κs = search needs
 
--- src/operate.rt:140:17
 enum-known-op-13 : tie.Need-enum-known-op-13
 enum-known-op-13 c = search needs
 
--- src/operate.rt:144:18
 table-set-requires : tie.Need-table-set-requires
 table-set-requires c κs = search needs
 
--- src/operate.rt:146:17
 enum-known-op-14 : tie.Need-enum-known-op-14
 enum-known-op-14 c = search needs
 
--- src/operate.rt:151:18
 table-fill-requires : tie.Need-table-fill-requires
 table-fill-requires c κs = search needs
 
--- src/operate.rt:153:17
 enum-known-op-15 : tie.Need-enum-known-op-15
 enum-known-op-15 c = search needs
 
--- src/operate.rt:158:18
 table-copy-requires : tie.Need-table-copy-requires
 table-copy-requires c κs = search needs
 
--- src/operate.rt:160:17
 enum-known-op-16 : tie.Need-enum-known-op-16
 enum-known-op-16 c = search needs
 
--- src/operate.rt:165:18
 table-init-requires : tie.Need-table-init-requires
 table-init-requires c κs = search needs
 
--- src/operate.rt:166:38
 enum-known-op-17 : tie.Need-enum-known-op-17
 enum-known-op-17 c = search needs
 
--- src/operate.rt:166:51
 drop-segment-requires : tie.Need-drop-segment-requires
 drop-segment-requires c κs = search needs
 
--- src/operate.rt:168:17
 enum-known-op-18 : tie.Need-enum-known-op-18
 enum-known-op-18 c = search needs
 
--- src/operate.rt:174:18
 new-segment-requires : tie.Need-new-segment-requires
 new-segment-requires c κs =
     next-item-inside _ _ _ _ (c .before .before .before .before .before .before .before .pre)
 
--- src/operate.rt:176:17
 enum-known-op-19 : tie.Need-enum-known-op-19
 enum-known-op-19 c = search needs
 
--- src/operate.rt:182:29
 link-check-requires : tie.Need-link-check-requires
 link-check-requires c κs = search needs
 
--- src/operate.rt:182:18
 keeps-requires-5 : tie.Need-keeps-requires-5
 keeps-requires-5 c κs = search needs
 
--- src/operate.rt:82:5
 returns : tie.Need-returns
 unfolding perform
 returns c =
@@ -232,7 +161,6 @@ returns c =
     let b = buffers (now (a .bytes)) (now (a .cells)) (now (a .items)) in
     rw (c .before .enum-told .given .1) (ap (λ (o : Outcome). onNone o b) (c .refuses .ensures))
 
--- src/operate.rt:82:5
 returns-2 : tie.Need-returns-2
 unfolding perform
 returns-2 c =
@@ -240,7 +168,6 @@ returns-2 c =
     let b = buffers (now (a .bytes)) (now (a .cells)) (now (a .items)) in
     rw (c .before .before .op .given .1) (ap (λ (o : Outcome). onNone o b) (c .set-fuel .ensures))
 
--- src/operate.rt:82:5
 returns-3 : tie.Need-returns-3
 unfolding perform
 returns-3 c =
@@ -248,7 +175,6 @@ returns-3 c =
     let b = buffers (now (a .bytes)) (now (a .cells)) (now (a .items)) in
     rw (c .before .enum-told2 .given .1) (ap (λ (o : Outcome). onNone o b) (c .get-fuel .ensures))
 
--- src/operate.rt:82:5
 returns-4 : tie.Need-returns-4
 unfolding perform
 returns-4 c =
@@ -256,7 +182,6 @@ returns-4 c =
     let b = buffers (now (a .bytes)) (now (a .cells)) (now (a .items)) in
     rw (c .before .before .op2 .given .1) (ap (λ (o : Outcome). onNone o b) (c .charge .ensures))
 
--- src/operate.rt:82:5
 returns-5 : tie.Need-returns-5
 unfolding perform
 returns-5 c =
@@ -264,11 +189,9 @@ returns-5 c =
     let b = buffers (now (a .bytes)) (now (a .cells)) (now (a .items)) in
     rw (c .before .before .op3 .given .1) (ap (λ (o : Outcome). onNone o b) (c .set-limiter .ensures))
 
--- src/operate.rt:82:5
 same-length : tie.Need-same-length
 same-length c = search needs
 
--- src/operate.rt:82:5
 returns-6 : tie.Need-returns-6
 unfolding perform
 returns-6 c =
@@ -276,11 +199,9 @@ returns-6 c =
     let b = buffers (now (a .bytes)) (now (a .cells)) (now (a .items)) in
     rw (c .before .before .before .before .before .op4 .given .1) (ap (λ (d : Done). onBytes d b) (c .before .before .new-memory .ensures))
 
--- src/operate.rt:82:5
 same-length-2 : tie.Need-same-length-2
 same-length-2 c = search needs
 
--- src/operate.rt:82:5
 returns-7 : tie.Need-returns-7
 unfolding perform
 returns-7 c =
@@ -288,7 +209,6 @@ returns-7 c =
     let b = buffers (now (a .bytes)) (now (a .cells)) (now (a .items)) in
     rw (c .before .before .before .before .before .op5 .given .1) (ap (λ (d : Done). onBytes d b) (c .before .before .grow-memory .ensures))
 
--- src/operate.rt:82:5
 returns-8 : tie.Need-returns-8
 unfolding perform
 returns-8 c =
@@ -296,11 +216,9 @@ returns-8 c =
     let b = buffers (now (a .bytes)) (now (a .cells)) (now (a .items)) in
     rw (c .before .before .before .op6 .given .1) (ap (λ (o : Outcome). onNone o b) (c .keeps .ensures ∙ ap (keeps (a .self)) (c .before .memory-size .ensures)))
 
--- src/operate.rt:82:5
 same-length-3 : tie.Need-same-length-3
 same-length-3 c = search needs
 
--- src/operate.rt:82:5
 returns-9 : tie.Need-returns-9
 unfolding perform
 returns-9 c =
@@ -308,11 +226,9 @@ returns-9 c =
     let b = buffers (now (a .bytes)) (now (a .cells)) (now (a .items)) in
     rw (c .before .before .before .before .op7 .given .1) (ap (λ (o : Outcome). onNone o b) (c .keeps2 .ensures ∙ ap (keeps (a .self)) (c .before .load .ensures)))
 
--- src/operate.rt:82:5
 same-length-4 : tie.Need-same-length-4
 same-length-4 c = search needs
 
--- src/operate.rt:82:5
 returns-10 : tie.Need-returns-10
 unfolding perform
 returns-10 c =
@@ -320,11 +236,9 @@ returns-10 c =
     let b = buffers (now (a .bytes)) (now (a .cells)) (now (a .items)) in
     rw (c .before .before .before .before .before .op8 .given .1) (ap (λ (d : Done). onBytes d b) (c .before .before .store .ensures))
 
--- src/operate.rt:82:5
 same-length-5 : tie.Need-same-length-5
 same-length-5 c = search needs
 
--- src/operate.rt:82:5
 returns-11 : tie.Need-returns-11
 unfolding perform
 returns-11 c =
@@ -332,11 +246,9 @@ returns-11 c =
     let b = buffers (now (a .bytes)) (now (a .cells)) (now (a .items)) in
     rw (c .before .before .before .before .before .op9 .given .1) (ap (λ (d : Done). onCells d b) (c .before .before .new-table .ensures))
 
--- src/operate.rt:82:5
 same-length-6 : tie.Need-same-length-6
 same-length-6 c = search needs
 
--- src/operate.rt:82:5
 returns-12 : tie.Need-returns-12
 unfolding perform
 returns-12 c =
@@ -344,7 +256,6 @@ returns-12 c =
     let b = buffers (now (a .bytes)) (now (a .cells)) (now (a .items)) in
     rw (c .before .before .before .before .before .op10 .given .1) (ap (λ (d : Done). onCells d b) (c .before .before .grow-table .ensures))
 
--- src/operate.rt:82:5
 returns-13 : tie.Need-returns-13
 unfolding perform
 returns-13 c =
@@ -352,11 +263,9 @@ returns-13 c =
     let b = buffers (now (a .bytes)) (now (a .cells)) (now (a .items)) in
     rw (c .before .before .before .op11 .given .1) (ap (λ (o : Outcome). onNone o b) (c .keeps3 .ensures ∙ ap (keeps (a .self)) (c .before .table-size .ensures)))
 
--- src/operate.rt:82:5
 same-length-7 : tie.Need-same-length-7
 same-length-7 c = search needs
 
--- src/operate.rt:82:5
 returns-14 : tie.Need-returns-14
 unfolding perform
 returns-14 c =
@@ -364,11 +273,9 @@ returns-14 c =
     let b = buffers (now (a .bytes)) (now (a .cells)) (now (a .items)) in
     rw (c .before .before .before .before .op12 .given .1) (ap (λ (o : Outcome). onNone o b) (c .keeps4 .ensures ∙ ap (keeps (a .self)) (c .before .table-get .ensures)))
 
--- src/operate.rt:82:5
 same-length-8 : tie.Need-same-length-8
 same-length-8 c = search needs
 
--- src/operate.rt:82:5
 returns-15 : tie.Need-returns-15
 unfolding perform
 returns-15 c =
@@ -376,11 +283,9 @@ returns-15 c =
     let b = buffers (now (a .bytes)) (now (a .cells)) (now (a .items)) in
     rw (c .before .before .before .before .before .op13 .given .1) (ap (λ (d : Done). onCells d b) (c .before .before .table-set .ensures))
 
--- src/operate.rt:82:5
 same-length-9 : tie.Need-same-length-9
 same-length-9 c = search needs
 
--- src/operate.rt:82:5
 returns-16 : tie.Need-returns-16
 unfolding perform
 returns-16 c =
@@ -388,11 +293,9 @@ returns-16 c =
     let b = buffers (now (a .bytes)) (now (a .cells)) (now (a .items)) in
     rw (c .before .before .before .before .before .op14 .given .1) (ap (λ (d : Done). onCells d b) (c .before .before .table-fill .ensures))
 
--- src/operate.rt:82:5
 same-length-10 : tie.Need-same-length-10
 same-length-10 c = search needs
 
--- src/operate.rt:82:5
 returns-17 : tie.Need-returns-17
 unfolding perform
 returns-17 c =
@@ -400,15 +303,12 @@ returns-17 c =
     let b = buffers (now (a .bytes)) (now (a .cells)) (now (a .items)) in
     rw (c .before .before .before .before .before .op15 .given .1) (ap (λ (d : Done). onCells d b) (c .before .before .table-copy .ensures))
 
--- src/operate.rt:82:5
 same-length-11 : tie.Need-same-length-11
 same-length-11 c = search needs
 
--- src/operate.rt:82:5
 same-length-12 : tie.Need-same-length-12
 same-length-12 c = search needs
 
--- src/operate.rt:82:5
 returns-18 : tie.Need-returns-18
 unfolding perform
 returns-18 c =
@@ -416,7 +316,6 @@ returns-18 c =
     let b = buffers (now (a .bytes)) (now (a .cells)) (now (a .items)) in
     rw (c .before .before .before .before .before .before .op16 .given .1) (ap (λ (d : Done). onCells d b) (c .before .before .table-init .ensures))
 
--- src/operate.rt:82:5
 returns-19 : tie.Need-returns-19
 unfolding perform
 returns-19 c =
@@ -424,11 +323,9 @@ returns-19 c =
     let b = buffers (now (a .bytes)) (now (a .cells)) (now (a .items)) in
     rw (c .before .before .op17 .given .1) (ap (λ (o : Outcome). onNone o b) (c .drop-segment .ensures))
 
--- src/operate.rt:82:5
 same-length-13 : tie.Need-same-length-13
 same-length-13 c = search needs
 
--- src/operate.rt:82:5
 returns-20 : tie.Need-returns-20
 unfolding perform
 returns-20 c =
@@ -436,7 +333,6 @@ returns-20 c =
     let b = buffers (now (a .bytes)) (now (a .cells)) (now (a .items)) in
     rw (c .before .before .before .before .before .op18 .given .1) (ap (λ (d : Done). onItems d b) (c .before .before .new-segment .ensures))
 
--- src/operate.rt:82:5
 returns-21 : tie.Need-returns-21
 unfolding perform
 returns-21 c =

@@ -1,25 +1,20 @@
+-- `machine::records::Machine::put_memory` meets its contract. Assumes nothing.
 use Rattle.machine.specs.Outcome.{changed}
 use Rattle.base.proofs.Picks.{cases}
 use borrow.Author.Needs.{needs}
 use Rattle.machine.proofs.records.Machine.put_memory.Statement.{statement}
 use Rattle.machine.proofs.records.Machine.put_memory.Tie as tie
-use Rattle.machine.proofs.records.Machine.put_memory.Reads as reads
-use Rattle.machine.proofs.records.Machine.put_memory.Lts as lts
 
--- src/outcome.rt:59:13
 mul-memory : tie.Need-mul-memory
 mul-memory c = search needs
 
--- src/outcome.rt:59:13
 element-set-from-memory : tie.Need-element-set-from-memory
 element-set-from-memory c = search needs
 
--- src/outcome.rt:60:13
 returns : tie.Need-returns
 unfolding changed
 returns c = search cases
 
--- src/outcome.rt:54:5
 returns-2 : tie.Need-returns-2
 unfolding changed
 returns-2 c = search cases

@@ -1,3 +1,4 @@
+-- `machine::records::Machine::segment_at` meets its contract. Assumes nothing.
 use Rattle.machine.proofs.Lists.{past}
 use mathlib.Core.Path.{_≡_, sym, _∙_}
 use lib.ListN.{length, length-map}
@@ -5,27 +6,19 @@ use Rattle.machine.specs.Machine.{noSegment}
 use borrow.Author.Needs.{needs}
 use Rattle.machine.proofs.records.Machine.segment_at.Statement.{statement}
 use Rattle.machine.proofs.records.Machine.segment_at.Tie as tie
-use Rattle.machine.proofs.records.Machine.segment_at.Reads as reads
-use Rattle.machine.proofs.records.Machine.segment_at.Lts as lts
-use Rattle.machine.proofs.records.no_segment.Reads as no-segment-reads
 
--- src/records.rt:135:20
 mul-result : tie.Need-mul-result
 mul-result c = search needs
 
--- src/records.rt:135:20
 element-copy-out-result : tie.Need-element-copy-out-result
 element-copy-out-result c = search needs
 
--- src/records.rt:135:13
 returns : tie.Need-returns
 returns c = search needs
 
--- src/records.rt:137:9
 no-segment-requires : tie.Need-no-segment-requires
 no-segment-requires c κs = search needs
 
--- src/records.rt:131:5
 returns-2 : tie.Need-returns-2
 returns-2 c =
     let args = c .before .before .args in

@@ -1,31 +1,24 @@
+-- `machine::records::Machine::setting` meets its contract. Assumes nothing.
 use Rattle.machine.specs.Step.{setting}
-use mathlib.Core.Path.{_≡_, refl, sym, ap, _∙_}
+use mathlib.Core.Path.{refl}
 use borrow.Author.Needs.{needs}
 use Rattle.machine.proofs.records.Machine.setting.Statement.{statement}
 use Rattle.machine.proofs.records.Machine.setting.Tie as tie
-use Rattle.machine.proofs.records.Machine.setting.Reads as reads
-use Rattle.machine.proofs.records.Machine.setting.Lts as lts
-use Rattle.machine.proofs.records.Machine.keeps.Reads as keeps-reads
 
--- src/fueling.rt:36:31
 enum-known-step : tie.Need-enum-known-step
 enum-known-step c = search needs
 
--- src/fueling.rt:36:43
 keeps-requires : tie.Need-keeps-requires
 keeps-requires c κs = search needs
 
--- src/fueling.rt:37:28
 enum-known-step-2 : tie.Need-enum-known-step-2
 enum-known-step-2 c = search needs
 
--- src/fueling.rt:32:5
 returns : tie.Need-returns
 unfolding setting
 returns c =
     rw (c .before .before .step .given .1) (c .keeps .ensures)
 
--- src/fueling.rt:32:5
 returns-2 : tie.Need-returns-2
 unfolding setting
 returns-2 c =

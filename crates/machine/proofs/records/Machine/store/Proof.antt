@@ -1,3 +1,4 @@
+-- `machine::records::Machine::store` meets its contract. Assumes nothing.
 use Rattle.memory.specs.Memory.{storeMemory}
 use Rattle.memory.specs.declared.access.StoreKind.{StoreKind}
 use Rattle.machine.specs.Operation.{storeKindOf}
@@ -6,49 +7,34 @@ use Rattle.machine.specs.declared.outcome.Outcome.{Outcome}
 use Rattle.memory.specs.declared.memory.Memory.{Memory}
 use denote.Ref.{now}
 use Rattle.machine.proofs.Laws.{unknown, known}
-use mathlib.Core.Path.{_≡_, refl, sym, ap, _∙_}
+use mathlib.Core.Path.{ap, _∙_}
 use borrow.Author.Needs.{needs}
 use Rattle.machine.proofs.records.Machine.store.Statement.{statement}
 use Rattle.machine.proofs.records.Machine.store.Tie as tie
-use Rattle.machine.proofs.records.Machine.store.Reads as reads
-use Rattle.machine.proofs.records.Machine.store.Lts as lts
-use Rattle.machine.proofs.fields.store_kind_of.Reads as store-kind-of-reads
-use Rattle.machine.proofs.records.Machine.keeps.Reads as keeps-reads
-use Rattle.machine.proofs.records.Machine.memory_at.Reads as memory-at-reads
-use Rattle.machine.proofs.records.Machine.refuses.Reads as refuses-reads
-use Rattle.memory.proofs.memory.Memory.store.Reads as store-reads
 
--- src/memories.rt:217:13
 refuses-requires : tie.Need-refuses-requires
 refuses-requires c κs = search needs
 
--- src/memories.rt:217:13
 returns : tie.Need-returns
 unfolding storeOn
 returns c =
     unknown _ (c .before .before .before .before .args .number) (c .before .before .before .before .args .self .counts .memories) (c .before .if1 .taken) (ap (λ (o : Outcome). done o (now (c .before .before .before .before .args .bytes))) (c .refuses .ensures))
 
--- src/memories.rt:219:13
 memory-at-requires : tie.Need-memory-at-requires
 memory-at-requires c κs = search needs
 
--- src/memories.rt:220:13
 store-kind-of-requires : tie.Need-store-kind-of-requires
 store-kind-of-requires c κs = search needs
 
--- src/memories.rt:221:13
 store-requires : tie.Need-store-requires
 store-requires c κs = search needs
 
--- src/memories.rt:222:9
 keeps-requires : tie.Need-keeps-requires
 keeps-requires c κs = search needs
 
--- src/memories.rt:204:5
 same-length : tie.Need-same-length
 same-length c = search needs
 
--- src/memories.rt:204:5
 returns-2 : tie.Need-returns-2
 unfolding storeOn
 returns-2 c =

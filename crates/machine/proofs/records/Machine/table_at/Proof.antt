@@ -1,3 +1,4 @@
+-- `machine::records::Machine::table_at` meets its contract. Assumes nothing.
 use Rattle.machine.proofs.Lists.{past}
 use mathlib.Core.Path.{_≡_, sym, _∙_}
 use lib.ListN.{length, length-map}
@@ -5,27 +6,19 @@ use Rattle.machine.specs.Machine.{noTable}
 use borrow.Author.Needs.{needs}
 use Rattle.machine.proofs.records.Machine.table_at.Statement.{statement}
 use Rattle.machine.proofs.records.Machine.table_at.Tie as tie
-use Rattle.machine.proofs.records.Machine.table_at.Reads as reads
-use Rattle.machine.proofs.records.Machine.table_at.Lts as lts
-use Rattle.machine.proofs.records.no_table.Reads as no-table-reads
 
--- src/records.rt:125:20
 mul-result : tie.Need-mul-result
 mul-result c = search needs
 
--- src/records.rt:125:20
 element-copy-out-result : tie.Need-element-copy-out-result
 element-copy-out-result c = search needs
 
--- src/records.rt:125:13
 returns : tie.Need-returns
 returns c = search needs
 
--- src/records.rt:127:9
 no-table-requires : tie.Need-no-table-requires
 no-table-requires c κs = search needs
 
--- src/records.rt:121:5
 returns-2 : tie.Need-returns-2
 returns-2 c =
     let args = c .before .before .args in

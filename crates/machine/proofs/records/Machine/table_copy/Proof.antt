@@ -1,46 +1,36 @@
+-- `machine::records::Machine::table_copy` meets its contract. Assumes nothing.
 use Rattle.machine.specs.Step.{done, copyOn}
 use Rattle.machine.specs.declared.outcome.Outcome.{Outcome}
 use denote.Ref.{now}
-use borrow.Author.Tests.{lt-ltb, le-ltb, eq-eqb, ne-eqb, not-true, not-false}
-use Rattle.base.proofs.Picks.{pick-true, pick-false, both-true, both-left, both-right, both-then, cases}
-use mathlib.Core.Path.{_≡_, refl, sym, ap, _∙_}
+use borrow.Author.Tests.{lt-ltb, le-ltb}
+use Rattle.base.proofs.Picks.{pick-true, pick-false, both-true, both-left, both-right}
+use mathlib.Core.Path.{sym, ap, _∙_}
 use borrow.Author.Needs.{needs}
 use Rattle.machine.proofs.records.Machine.table_copy.Statement.{statement}
 use Rattle.machine.proofs.records.Machine.table_copy.Tie as tie
-use Rattle.machine.proofs.records.Machine.table_copy.Reads as reads
-use Rattle.machine.proofs.records.Machine.table_copy.Lts as lts
-use Rattle.machine.proofs.records.Machine.copy_known.Reads as copy-known-reads
-use Rattle.machine.proofs.records.Machine.refuses.Reads as refuses-reads
 
--- src/tables.rt:304:13
 refuses-requires : tie.Need-refuses-requires
 refuses-requires c κs = search needs
 
--- src/tables.rt:304:13
 returns : tie.Need-returns
 unfolding copyOn
 returns c =
     ap (λ (o : Outcome). done o (now (c .before .before .before .args .cells))) (c .refuses .ensures) ∙ sym (pick-false _ _ _ (both-left _ _ (le-ltb _ _ (c .before .if1 .taken))))
 
--- src/tables.rt:307:13
 refuses-requires-2 : tie.Need-refuses-requires-2
 refuses-requires-2 c κs = search needs
 
--- src/tables.rt:307:13
 returns-2 : tie.Need-returns-2
 unfolding copyOn
 returns-2 c =
     ap (λ (o : Outcome). done o (now (c .before .before .before .before .args .cells))) (c .refuses2 .ensures) ∙ sym (pick-false _ _ _ (both-right _ _ (le-ltb _ _ (c .before .if2 .taken))))
 
--- src/tables.rt:309:9
 copy-known-requires : tie.Need-copy-known-requires
 copy-known-requires c κs = search needs
 
--- src/tables.rt:291:5
 same-length : tie.Need-same-length
 same-length c = search needs
 
--- src/tables.rt:291:5
 returns-3 : tie.Need-returns-3
 unfolding copyOn
 returns-3 c =

@@ -1,3 +1,4 @@
+-- `machine::records::Machine::table_fill` meets its contract. Assumes nothing.
 use Rattle.table.specs.Fill.{fillTable}
 use Rattle.types.specs.Raw.{rawBytes}
 use Rattle.machine.specs.Operation.{referenceOf}
@@ -6,39 +7,28 @@ use Rattle.table.specs.declared.table.Table.{Table}
 use Rattle.machine.specs.declared.outcome.Outcome.{Outcome}
 use denote.Ref.{now}
 use Rattle.machine.proofs.Laws.{unknown, known}
-use mathlib.Core.Path.{_≡_, refl, sym, ap, _∙_}
+use mathlib.Core.Path.{ap, _∙_}
 use borrow.Author.Needs.{needs}
 use Rattle.machine.proofs.records.Machine.table_fill.Statement.{statement}
 use Rattle.machine.proofs.records.Machine.table_fill.Tie as tie
-use Rattle.machine.proofs.records.Machine.table_fill.Reads as reads
-use Rattle.machine.proofs.records.Machine.table_fill.Lts as lts
-use Rattle.machine.proofs.records.Machine.refuses.Reads as refuses-reads
-use Rattle.machine.proofs.records.Machine.table_at.Reads as table-at-reads
-use Rattle.machine.proofs.tables.fill_one.Reads as fill-one-reads
 
--- src/tables.rt:260:13
 refuses-requires : tie.Need-refuses-requires
 refuses-requires c κs = search needs
 
--- src/tables.rt:260:13
 returns : tie.Need-returns
 unfolding fillOn
 returns c =
     unknown _ (c .before .before .before .before .args .number) (c .before .before .before .before .args .self .counts .tables) (c .before .if1 .taken) (ap (λ (o : Outcome). done o (now (c .before .before .before .before .args .cells))) (c .refuses .ensures))
 
--- src/tables.rt:262:13
 table-at-requires : tie.Need-table-at-requires
 table-at-requires c κs = search needs
 
--- src/tables.rt:265:9
 fill-one-requires : tie.Need-fill-one-requires
 fill-one-requires c κs = search needs
 
--- src/tables.rt:247:5
 same-length : tie.Need-same-length
 same-length c = search needs
 
--- src/tables.rt:247:5
 returns-2 : tie.Need-returns-2
 unfolding fillOn
 returns-2 c =

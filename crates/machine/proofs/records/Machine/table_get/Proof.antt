@@ -1,37 +1,28 @@
+-- `machine::records::Machine::table_get` meets its contract. Assumes nothing.
 use Rattle.table.specs.Table.{getTable}
 use Rattle.machine.specs.Step.{getOn}
 use Rattle.table.specs.declared.table.Table.{Table}
 use denote.Ref.{now}
 use Rattle.machine.proofs.Laws.{unknown, known}
-use mathlib.Core.Path.{_≡_, refl, sym, ap, _∙_}
+use mathlib.Core.Path.{ap, _∙_}
 use borrow.Author.Needs.{needs}
 use Rattle.machine.proofs.records.Machine.table_get.Statement.{statement}
 use Rattle.machine.proofs.records.Machine.table_get.Tie as tie
-use Rattle.machine.proofs.records.Machine.table_get.Reads as reads
-use Rattle.machine.proofs.records.Machine.table_get.Lts as lts
-use Rattle.machine.proofs.memories.refused.Reads as refused-reads
-use Rattle.machine.proofs.records.Machine.table_at.Reads as table-at-reads
-use Rattle.table.proofs.table.Table.get.Reads as get-reads
 
--- src/tables.rt:226:13
 refused-requires : tie.Need-refused-requires
 refused-requires c κs = search needs
 
--- src/tables.rt:226:13
 returns : tie.Need-returns
 unfolding getOn
 returns c =
     unknown _ (c .before .before .before .before .args .number) (c .before .before .before .before .args .self .counts .tables) (c .before .if1 .taken) (c .refused .ensures)
 
--- src/tables.rt:228:13
 table-at-requires : tie.Need-table-at-requires
 table-at-requires c κs = search needs
 
--- src/tables.rt:229:9
 get-requires : tie.Need-get-requires
 get-requires c κs = search needs
 
--- src/tables.rt:221:5
 returns-2 : tie.Need-returns-2
 unfolding getOn
 returns-2 c =

@@ -1,3 +1,4 @@
+-- `machine::records::Machine::table_set` meets its contract. Assumes nothing.
 use Rattle.types.specs.declared.raw.TypedRawRef.{TypedRawRef}
 use Rattle.table.specs.Table.{setTable}
 use Rattle.machine.specs.Operation.{referenceOf}
@@ -6,49 +7,34 @@ use Rattle.table.specs.declared.table.Table.{Table}
 use Rattle.machine.specs.declared.outcome.Outcome.{Outcome}
 use denote.Ref.{now}
 use Rattle.machine.proofs.Laws.{unknown, known}
-use mathlib.Core.Path.{_≡_, refl, sym, ap, _∙_}
+use mathlib.Core.Path.{ap, _∙_}
 use borrow.Author.Needs.{needs}
 use Rattle.machine.proofs.records.Machine.table_set.Statement.{statement}
 use Rattle.machine.proofs.records.Machine.table_set.Tie as tie
-use Rattle.machine.proofs.records.Machine.table_set.Reads as reads
-use Rattle.machine.proofs.records.Machine.table_set.Lts as lts
-use Rattle.machine.proofs.fields.reference_of.Reads as reference-of-reads
-use Rattle.machine.proofs.records.Machine.keeps.Reads as keeps-reads
-use Rattle.machine.proofs.records.Machine.refuses.Reads as refuses-reads
-use Rattle.machine.proofs.records.Machine.table_at.Reads as table-at-reads
-use Rattle.table.proofs.table.Table.set.Reads as set-reads
 
--- src/tables.rt:238:13
 refuses-requires : tie.Need-refuses-requires
 refuses-requires c κs = search needs
 
--- src/tables.rt:238:13
 returns : tie.Need-returns
 unfolding setOn
 returns c =
     unknown _ (c .before .before .before .before .args .number) (c .before .before .before .before .args .self .counts .tables) (c .before .if1 .taken) (ap (λ (o : Outcome). done o (now (c .before .before .before .before .args .cells))) (c .refuses .ensures))
 
--- src/tables.rt:240:13
 table-at-requires : tie.Need-table-at-requires
 table-at-requires c κs = search needs
 
--- src/tables.rt:241:13
 reference-of-requires : tie.Need-reference-of-requires
 reference-of-requires c κs = search needs
 
--- src/tables.rt:242:13
 set-requires : tie.Need-set-requires
 set-requires c κs = search needs
 
--- src/tables.rt:243:9
 keeps-requires : tie.Need-keeps-requires
 keeps-requires c κs = search needs
 
--- src/tables.rt:233:5
 same-length : tie.Need-same-length
 same-length c = search needs
 
--- src/tables.rt:233:5
 returns-2 : tie.Need-returns-2
 unfolding setOn
 returns-2 c =

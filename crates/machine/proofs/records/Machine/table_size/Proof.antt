@@ -1,31 +1,24 @@
+-- `machine::records::Machine::table_size` meets its contract. Assumes nothing.
 use Rattle.base.specs.Answer.{accept}
 use Rattle.machine.specs.Step.{tableSize}
 use Rattle.table.specs.declared.table.Table.{Table}
 use Rattle.machine.proofs.Laws.{unknown, known}
-use mathlib.Core.Path.{_≡_, refl, sym, ap, _∙_}
+use mathlib.Core.Path.{ap}
 use borrow.Author.Needs.{needs}
 use Rattle.machine.proofs.records.Machine.table_size.Statement.{statement}
 use Rattle.machine.proofs.records.Machine.table_size.Tie as tie
-use Rattle.machine.proofs.records.Machine.table_size.Reads as reads
-use Rattle.machine.proofs.records.Machine.table_size.Lts as lts
-use Rattle.machine.proofs.memories.refused.Reads as refused-reads
-use Rattle.machine.proofs.records.Machine.table_at.Reads as table-at-reads
 
--- src/tables.rt:214:13
 refused-requires : tie.Need-refused-requires
 refused-requires c κs = search needs
 
--- src/tables.rt:214:13
 returns : tie.Need-returns
 unfolding tableSize
 returns c =
     unknown _ (c .before .before .before .args .number) (c .before .before .before .args .self .counts .tables) (c .before .if1 .taken) (c .refused .ensures)
 
--- src/tables.rt:216:13
 table-at-requires : tie.Need-table-at-requires
 table-at-requires c κs = search needs
 
--- src/tables.rt:209:5
 returns-2 : tie.Need-returns-2
 unfolding tableSize
 returns-2 c =
