@@ -4,6 +4,8 @@
 //! addresses and buffers. In every round the sides take turns, and each side's best run counts. What both sides answer is
 //! compared too. Everything is warm: what a row touches fits the second-level cache, but for tables of 2^20 cells.
 
+#[cfg(operate)]
+mod operate;
 #[cfg(tables)]
 mod tables;
 
@@ -793,4 +795,6 @@ fn main() {
     } else {
         println!("below the goal: {}", missed.join("; "));
     }
+    #[cfg(operate)]
+    operate::print();
 }

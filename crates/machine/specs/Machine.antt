@@ -81,5 +81,5 @@ freshMachine metering costs =
       segments = replicate 8 noSegment;
       counts = record { memories = 0; tables = 0; segments = 0 };
       fuel = newFuel metering costs;
-      limiter = noLimiter
+      limiter = noLimiter;
     }

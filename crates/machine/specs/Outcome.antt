@@ -28,7 +28,7 @@ withMemories m rs n =
       segments = m .segments;
       counts = record { memories = n; tables = m .counts .tables; segments = m .counts .segments };
       fuel = m .fuel;
-      limiter = m .limiter
+      limiter = m .limiter;
     }
 
 abbrev pub withTables : Machine → List Table → ℕ → Machine
@@ -39,7 +39,7 @@ withTables m rs n =
       segments = m .segments;
       counts = record { memories = m .counts .memories; tables = n; segments = m .counts .segments };
       fuel = m .fuel;
-      limiter = m .limiter
+      limiter = m .limiter;
     }
 
 abbrev pub withSegments : Machine → List ElementSegment → ℕ → Machine
@@ -50,7 +50,7 @@ withSegments m rs n =
       segments = rs;
       counts = record { memories = m .counts .memories; tables = m .counts .tables; segments = n };
       fuel = m .fuel;
-      limiter = m .limiter
+      limiter = m .limiter;
     }
 
 -- the record at a place, or one more record; past the eighth place there is none

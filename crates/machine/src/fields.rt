@@ -56,13 +56,7 @@ fn kind_fields(kind: u64, initial: u64) -> bool
     binary(initial)
 }
 
-pub(crate) fn table_fields(
-    kind: u64,
-    wide: u64,
-    bounded: u64,
-    maximum: u64,
-    initial: u64,
-) -> bool
+pub(crate) fn table_fields(kind: u64, wide: u64, bounded: u64, maximum: u64, initial: u64) -> bool
     ensures { λ r. ⌜ r ≡ tableFields kind wide bounded maximum initial ⌝ }
 {
     if !kind_fields(kind, initial) {

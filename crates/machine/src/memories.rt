@@ -155,7 +155,16 @@ impl Machine {
     {
         let start = self.next_byte();
         if super::records::finds_room(self.counts.memories, room, bytes.len() - start) {
-            return self.make_memory(bytes, start, room, wide, bounded, minimum, maximum, exponent);
+            return self.make_memory(
+                bytes,
+                start,
+                room,
+                wide,
+                bounded,
+                minimum,
+                maximum,
+                exponent,
+            );
         }
         self.refuses(17)
     }

@@ -127,7 +127,17 @@ impl Machine {
                 maximum,
                 initial,
                 bits,
-            } => self.new_table(cells, room, kind, wide, bounded, minimum, maximum, initial, bits),
+            } => self.new_table(
+                cells,
+                room,
+                kind,
+                wide,
+                bounded,
+                minimum,
+                maximum,
+                initial,
+                bits,
+            ),
             Operation::GrowTable {
                 table,
                 cells: n,

@@ -3,45 +3,136 @@ ghost use mathlib.Core.Path.{_≡_};
 
 pub enum Operation {
     // 00, which is part of making a machine
-    Make { metering: u64, copied: u64 },
+    Make {
+        metering: u64,
+        copied: u64,
+    },
     // 01
-    SetFuel { amount: u64 },
+    SetFuel {
+        amount: u64,
+    },
     // 02
     GetFuel,
     // 03
-    Charge { units: u64 },
+    Charge {
+        units: u64,
+    },
     // 04
-    SetLimiter { count: u64, digits: u64 },
+    SetLimiter {
+        count: u64,
+        digits: u64,
+    },
     // 10
-    NewMemory { room: u64, wide: u64, bounded: u64, minimum: u64, maximum: u64, exponent: u64 },
+    NewMemory {
+        room: u64,
+        wide: u64,
+        bounded: u64,
+        minimum: u64,
+        maximum: u64,
+        exponent: u64,
+    },
     // 11
-    GrowMemory { memory: u64, pages: u64 },
+    GrowMemory {
+        memory: u64,
+        pages: u64,
+    },
     // 12
-    MemorySize { memory: u64 },
+    MemorySize {
+        memory: u64,
+    },
     // 13
-    Load { memory: u64, kind: u64, pointer: u64, offset: u64 },
+    Load {
+        memory: u64,
+        kind: u64,
+        pointer: u64,
+        offset: u64,
+    },
     // 14
-    Store { memory: u64, kind: u64, pointer: u64, offset: u64, bits: u64 },
+    Store {
+        memory: u64,
+        kind: u64,
+        pointer: u64,
+        offset: u64,
+        bits: u64,
+    },
     // 20
-    NewTable { room: u64, kind: u64, wide: u64, bounded: u64, minimum: u64, maximum: u64, initial: u64, bits: u64 },
+    NewTable {
+        room: u64,
+        kind: u64,
+        wide: u64,
+        bounded: u64,
+        minimum: u64,
+        maximum: u64,
+        initial: u64,
+        bits: u64,
+    },
     // 21
-    GrowTable { table: u64, cells: u64, kind: u64, bits: u64 },
+    GrowTable {
+        table: u64,
+        cells: u64,
+        kind: u64,
+        bits: u64,
+    },
     // 22
-    TableSize { table: u64 },
+    TableSize {
+        table: u64,
+    },
     // 23
-    TableGet { table: u64, index: u64 },
+    TableGet {
+        table: u64,
+        index: u64,
+    },
     // 24
-    TableSet { table: u64, index: u64, kind: u64, bits: u64 },
+    TableSet {
+        table: u64,
+        index: u64,
+        kind: u64,
+        bits: u64,
+    },
     // 25
-    TableFill { table: u64, start: u64, kind: u64, bits: u64, len: u64 },
+    TableFill {
+        table: u64,
+        start: u64,
+        kind: u64,
+        bits: u64,
+        len: u64,
+    },
     // 26
-    TableCopy { into: u64, to: u64, source: u64, from: u64, len: u64 },
+    TableCopy {
+        into: u64,
+        to: u64,
+        source: u64,
+        from: u64,
+        len: u64,
+    },
     // 27
-    TableInit { table: u64, segment: u64, to: u64, from: u64, len: u64 },
+    TableInit {
+        table: u64,
+        segment: u64,
+        to: u64,
+        from: u64,
+        len: u64,
+    },
     // 28
-    DropSegment { segment: u64 },
+    DropSegment {
+        segment: u64,
+    },
     // 29
-    NewSegment { kind: u64, count: u64, first: u64, second: u64, third: u64, fourth: u64 },
+    NewSegment {
+        kind: u64,
+        count: u64,
+        first: u64,
+        second: u64,
+        third: u64,
+        fourth: u64,
+    },
     // 30
-    LinkCheck { memory: u64, wide: u64, bounded: u64, minimum: u64, maximum: u64, exponent: u64 },
+    LinkCheck {
+        memory: u64,
+        wide: u64,
+        bounded: u64,
+        minimum: u64,
+        maximum: u64,
+        exponent: u64,
+    },
 }

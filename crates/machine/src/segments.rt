@@ -117,7 +117,11 @@ impl Machine {
         ensures { λ r. ⌜ done r (now (items .exit)) ≡ newSegmentOn self (now (items .entry)) kind (now (given .entry)) ⌝ }
     {
         let start = self.next_item();
-        if super::records::finds_room(self.counts.segments, given.len() as u64, items.len() - start) {
+        if super::records::finds_room(
+            self.counts.segments,
+            given.len() as u64,
+            items.len() - start,
+        ) {
             return self.make_segment(items, start, kind, given);
         }
         self.refuses(17)

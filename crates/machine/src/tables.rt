@@ -162,7 +162,16 @@ impl Machine {
         let element = fields::kind_of(kind);
         let value = fields::reference_of(initial, bits);
         let limiter = self.limiter;
-        let created = table::new::new_table(element, wide == 1, limits, value, start, room, cells, limiter);
+        let created = table::new::new_table(
+            element,
+            wide == 1,
+            limits,
+            value,
+            start,
+            room,
+            cells,
+            limiter,
+        );
         let made = created.made;
         let left = created.limiter;
         self.made_table(made, left)
@@ -186,13 +195,31 @@ impl Machine {
     {
         let start = self.next_cell();
         if super::records::finds_room(self.counts.tables, room, cells.len() - start) {
-            return self.make_table(cells, start, room, kind, wide, bounded, minimum, maximum, initial, bits);
+            return self.make_table(
+                cells,
+                start,
+                room,
+                kind,
+                wide,
+                bounded,
+                minimum,
+                maximum,
+                initial,
+                bits,
+            );
         }
         self.refuses(17)
     }
 
     // 21: 16, then a growth by cells.
-    pub(crate) fn grow_table(self, cells: &mut [u64], number: u64, n: u64, kind: u64, bits: u64) -> Outcome
+    pub(crate) fn grow_table(
+        self,
+        cells: &mut [u64],
+        number: u64,
+        n: u64,
+        kind: u64,
+        bits: u64,
+    ) -> Outcome
         ensures { λ r. ⌜ done r (now (cells .exit)) ≡ growTableOn rawBytes self (now (cells .entry)) number n kind bits ⌝ }
     {
         let i = number as usize;
@@ -230,7 +257,14 @@ impl Machine {
     }
 
     // 24: 16, then the cell at an index.
-    pub(crate) fn table_set(self, cells: &mut [u64], number: u64, index: u64, kind: u64, bits: u64) -> Outcome
+    pub(crate) fn table_set(
+        self,
+        cells: &mut [u64],
+        number: u64,
+        index: u64,
+        kind: u64,
+        bits: u64,
+    ) -> Outcome
         ensures { λ r. ⌜ done r (now (cells .exit)) ≡ setOn self (now (cells .entry)) number index kind bits ⌝ }
     {
         let i = number as usize;

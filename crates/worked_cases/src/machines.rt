@@ -90,7 +90,14 @@ fn empty_init(to: u64) -> Operation {
 
 // P7: init of length 0 at the size, and one further.
 fn two_inits(machine: Machine, bytes: &mut [u8], cells: &mut [u64], items: &mut [u64]) {
-    let next = show(b"P7 at the size", machine, bytes, cells, items, empty_init(2));
+    let next = show(
+        b"P7 at the size",
+        machine,
+        bytes,
+        cells,
+        items,
+        empty_init(2),
+    );
     show(b"P7 one further", next, bytes, cells, items, empty_init(3));
 }
 
@@ -156,13 +163,15 @@ fn load(kind: u64, pointer: u64, offset: u64) -> Operation {
 }
 
 // P9.
-fn two_loads(
-    machine: Machine,
-    bytes: &mut [u8],
-    cells: &mut [u64],
-    items: &mut [u64],
-) -> Machine {
-    let next = show(b"P9 i32 from 8s", machine, bytes, cells, items, load(4, 0, 0));
+fn two_loads(machine: Machine, bytes: &mut [u8], cells: &mut [u64], items: &mut [u64]) -> Machine {
+    let next = show(
+        b"P9 i32 from 8s",
+        machine,
+        bytes,
+        cells,
+        items,
+        load(4, 0, 0),
+    );
     show(b"P9 i64 from 8u", next, bytes, cells, items, load(9, 0, 0))
 }
 
@@ -170,7 +179,14 @@ fn two_loads(
 fn three_loads(machine: Machine, bytes: &mut [u8], cells: &mut [u64], items: &mut [u64]) {
     let last = two_loads(machine, bytes, cells, items);
     let far = load(5, 18446744073709551615, 1);
-    show(b"P10 pointer 2^64-1, offset 1", last, bytes, cells, items, far);
+    show(
+        b"P10 pointer 2^64-1, offset 1",
+        last,
+        bytes,
+        cells,
+        items,
+        far,
+    );
 }
 
 pub(crate) fn byte_ff(bytes: &mut [u8], cells: &mut [u64], items: &mut [u64]) {

@@ -19,8 +19,14 @@ pub(crate) fn prices() {
     let sixty_four = costs(64);
     number_line(b"P1 63 bytes cost", sixty_four.fuel_for_copying_bytes(63));
     number_line(b"P1 64 bytes cost", sixty_four.fuel_for_copying_bytes(64));
-    number_line(b"P2 7 references of 8 cost", sixty_four.fuel_for_copying_values(7, 8));
-    number_line(b"P2 8 references of 8 cost", sixty_four.fuel_for_copying_values(8, 8));
+    number_line(
+        b"P2 7 references of 8 cost",
+        sixty_four.fuel_for_copying_values(7, 8),
+    );
+    number_line(
+        b"P2 8 references of 8 cost",
+        sixty_four.fuel_for_copying_values(8, 8),
+    );
     number_line(b"P3 B 0, 0 bytes cost", costs(0).fuel_for_copying_bytes(0));
 }
 
@@ -44,7 +50,10 @@ pub(crate) fn types() {
     number_line(b"P4 minimum 65537", built(false, 65537, false, 0, 16));
     number_line(b"P5 maximum 2^32", built(false, 0, true, 4294967296, 0));
     number_line(b"P5 maximum 2^32+1", built(false, 0, true, 4294967297, 0));
-    number_line(b"P6 minimum 2^48", built(true, 281474976710656, false, 0, 16));
+    number_line(
+        b"P6 minimum 2^48",
+        built(true, 281474976710656, false, 0, 16),
+    );
 }
 
 // 6 where a 32-bit table of 2^32-2 cells may not grow by so many.

@@ -42,10 +42,11 @@ loop-less c = search needs
 
 loop-again : tie.Need-loop-again Inv-loop μ-loop
 loop-again c =
-    let l = c .before .before .before .before .before .loop in
-    (omega arith,
-    ap (λ (n : ℕ). leading n (drop (l .i + 1) (now (c .before .before .before .before .before .before .before .args .digits)))) (c .one-less .ensures)
-    ∙ leading-more (c .before .before .before .before .before .before .before .args .count) (l .left) (l .i) (now (c .before .before .before .before .before .before .before .args .digits)) (l .inv .1) (omega arith) (omega (arith, c .before .if1 .left, c .before .before .before .most .ensures)))
+    let l = c .before .before .before .before .before .loop in (
+      omega arith,
+      ap (λ (n : ℕ). leading n (drop (l .i + 1) (now (c .before .before .before .before .before .before .before .args .digits)))) (c .one-less .ensures)
+          ∙ leading-more (c .before .before .before .before .before .before .before .args .count) (l .left) (l .i) (now (c .before .before .before .before .before .before .before .args .digits)) (l .inv .1) (omega arith) (omega (arith, c .before .if1 .left, c .before .before .before .most .ensures)),
+    )
 
 returns-2 : tie.Need-returns-2 Inv-loop μ-loop
 returns-2 c =

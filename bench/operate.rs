@@ -1,0 +1,102 @@
+//! What one operation costs through the port's `operate`, and how much of that is the soundness test and copying.
+//! The machine goes by value, so that the rounds run inside one call; a call with no rounds is taken off.
+
+use std::time::Instant;
+
+// Archive libtiming.a: crates/timing/src/operate.rt.
+unsafe extern "C" {
+    /// So many rounds of the line's operation on a machine with so many memories, tables and segments; the fuel left.
+    fn timing_operate(
+        bytes: *mut u8,
+        byte_count: usize,
+        cells: *mut u64,
+        cell_count: usize,
+        items: *mut u64,
+        item_count: usize,
+        line: *const u8,
+        length: usize,
+        instances: u64,
+        rounds: u64,
+    ) -> u64;
+}
+
+/// Each instance has a room of so many bytes or cells, of which the first 64 are in use.
+const ROOM: usize = 131072;
+const ROUNDS: u64 = 2000;
+
+/// A name, a code, its fields, and whether it needs an instance.
+const OPERATIONS: [(&str, &str, &[u64], bool); 18] = [
+    ("set fuel", "01", &[1000000], false),
+    ("get fuel", "02", &[], false),
+    ("charge", "03", &[0], false),
+    ("hand over a script", "04", &[3, 0x1200000000000000], false),
+    ("grow a memory by 1 byte", "11", &[0, 1], true),
+    ("a memory's size", "12", &[0], true),
+    ("load i64", "13", &[0, 1, 8, 8], true),
+    ("store i64", "14", &[0, 1, 8, 8, 7], true),
+    ("grow a table by 1 cell", "21", &[0, 1, 0, 5], true),
+    ("a table's size", "22", &[0], true),
+    ("get a cell", "23", &[0, 3], true),
+    ("set a cell", "24", &[0, 3, 0, 5], true),
+    ("fill 8 cells", "25", &[0, 3, 0, 5, 8], true),
+    ("copy 8 cells within", "26", &[0, 3, 0, 4, 8], true),
+    ("init 4 cells", "27", &[0, 0, 3, 0, 4], true),
+    ("drop a segment", "28", &[0], true),
+    ("link check", "30", &[0, 0, 0, 64, 0, 0], true),
+    ("unknown memory (16)", "12", &[9], false),
+];
+
+struct Buffers {
+    bytes: Vec<u8>,
+    cells: Vec<u64>,
+    items: Vec<u64>,
+}
+
+/// The nanoseconds of one call.
+fn spent(b: &mut Buffers, line: &str, instances: u64, rounds: u64) -> f64 {
+    let start = Instant::now();
+    let left = unsafe {
+        timing_operate(
+            b.bytes.as_mut_ptr(),
+            b.bytes.len(),
+            b.cells.as_mut_ptr(),
+            b.cells.len(),
+            b.items.as_mut_ptr(),
+            b.items.len(),
+            line.as_ptr(),
+            line.len(),
+            instances,
+            rounds,
+        )
+    };
+    std::hint::black_box(left);
+    start.elapsed().as_nanos() as f64
+}
+
+/// The nanoseconds of one round: the best of many.
+fn round(b: &mut Buffers, line: &str, instances: u64) -> f64 {
+    let mut none = f64::INFINITY;
+    let mut all = f64::INFINITY;
+    for _ in 0..60 {
+        none = none.min(spent(b, line, instances, 0));
+        all = all.min(spent(b, line, instances, ROUNDS));
+    }
+    (all - none) / ROUNDS as f64
+}
+
+pub fn print() {
+    let mut b = Buffers { bytes: vec![0; 8 * ROOM], cells: vec![0; 8 * ROOM], items: vec![0; 32] };
+    println!();
+    println!("{:<26} {:>12} {:>12} {:>12}", "through operate", "empty", "1 of each", "8 of each");
+    for (name, code, fields, needs) in OPERATIONS {
+        let line = fields.iter().fold(code.to_string(), |text, field| format!("{text} {field:016x}"));
+        let empty = if needs { "-".to_string() } else { format!("{:.1} ns", round(&mut b, &line, 0)) };
+        let one = format!("{:.1} ns", round(&mut b, &line, 1));
+        let all = format!("{:.1} ns", round(&mut b, &line, 8));
+        println!("{name:<26} {empty:>12} {one:>12} {all:>12}");
+    }
+    let copying = round(&mut b, "02", 0);
+    let one = round(&mut b, "02", 1) - copying;
+    let all = round(&mut b, "02", 8) - copying;
+    println!("of which copying and dispatch {copying:.1} ns, the soundness test {one:.1} ns with 1 of each and {all:.1} ns with 8 of each");
+}

@@ -1,0 +1,133 @@
+-- Laws of the fields of a line: what the loop over fields keeps, and its ways out. Assumes nothing.
+use mathlib.Core.Path.{_≡_, refl, sym, ap, _∙_}
+use mathlib.Core.Bool.{Bool, true, false}
+use mathlib.Core.List.{List, [], _∷_}
+use Prim.Native.Nat.{ℕ, zero, suc, _+_, _-_, _*_, _<_, _≤_}
+use native.Mathlib.Omega.{arith}
+use lib.Dec.{ltb, eqb}
+use lib.ListN.{length, drop, getD, set, replicate, length-drop, drop-of-length-le}
+use lib.Seq.{drop-cons, drop-drop}
+use borrow.Author.Tests.{eq-eqb, ne-eqb}
+use Rattle.base.specs.Pick.{pick}
+use Rattle.base.proofs.Picks.{pick-true, pick-false, pick-same}
+use Rattle.lines.specs.Hex.{digitOf, hexFrom}
+use Rattle.base.specs.Span.{over}
+use Rattle.lines.specs.Line.{Got, none, some, then, thenField, ended, headed, fieldsOf, filled, noLine, coded, lineOf}
+use Rattle.lines.specs.declared.field.Field.{Field}
+use Rattle.lines.specs.declared.field.Field.the-variants.{Value, Bad}
+use Rattle.lines.specs.declared.line.Line.{Line}
+use Rattle.base.proofs.Spans.{over-nil, over-first}
+
+-- too few bytes are no number
+pick-bad : (t : Bool) (f : Field) → f ≡ Bad → pick t f Bad ≡ Bad
+unfolding pick
+pick-bad true f e = e
+pick-bad false f e = refl
+
+pub hex-short : (n v : ℕ) (l : List ℕ) → length l < n → hexFrom n v l ≡ Bad
+unfolding hexFrom
+hex-short zero v l h = absurd (omega arith)
+hex-short (suc n) v [] h = refl
+hex-short (suc n) v (b ∷ l) h = pick-bad (ltb (digitOf b) 16) _ (hex-short n (v * 16 + digitOf b) l (omega arith))
+
+-- the fields from a place where a byte stands
+some-left : (k : ℕ) (b : ℕ) (l : List ℕ) (s : List ℕ) → s ≡ b ∷ l
+    → fieldsOf (suc k) s ≡ pick (eqb b 32) (thenField (hexFrom 16 0 (drop 1 s)) (fieldsOf k (drop 17 s))) none
+unfolding fieldsOf headed
+some-left k b l s e = ap (λ (z : List ℕ). headed z (hexFrom 16 0 (drop 1 s)) (fieldsOf k (drop 17 s))) e
+
+at-byte : (n at : ℕ) (s : List ℕ) → n ≤ 7 → at < length s →
+    fieldsOf (8 - n) (drop at s) ≡ pick (eqb (getD s at 0) 32) (thenField (hexFrom 16 0 (drop (at + 1) s)) (fieldsOf (8 - (n + 1)) (drop (at + 17) s))) none
+at-byte n at s h k =
+    let j : 8 - n ≡ suc (8 - (n + 1)) = omega arith in
+    let a : drop 1 (drop at s) ≡ drop (at + 1) s = drop-drop 1 at s in
+    let b : drop 17 (drop at s) ≡ drop (at + 17) s = drop-drop 17 at s in
+    let r = some-left (8 - (n + 1)) (getD s at 0) (drop (suc at) s) (drop at s) (drop-cons s at 0 k) in
+    ap (λ (m : ℕ). fieldsOf m (drop at s)) j ∙ (rw (a, b) at r)
+
+-- a field goes into its place
+filled-then : (c n v : ℕ) (list : List ℕ) (g : Got) → n < length list → filled c n list (then v g) ≡ filled c (n + 1) (set list n v) g
+unfolding filled then
+filled-then c n v list none h = refl
+filled-then c n v list (some l) h =
+    let a : n + suc (length l) ≡ (n + 1) + length l = omega arith in
+    let e : n + 1 ≡ suc n = omega arith in
+    let b : over list n (v ∷ l) ≡ over (set list n v) (n + 1) l = sym (ap (λ (k : ℕ). over (set list n v) k l) e ∙ over-first list n l v h) in
+    rw (a, b) refl
+
+-- the loop over fields: a field more, then the ways out
+pub fields-on : (c n at v : ℕ) (s list : List ℕ) {f : Field} {r : Line} → n ≤ 7 → length list ≡ 8 → at < length s → getD s at 0 ≡ 32 →
+    f ≡ hexFrom 16 0 (drop (at + 1) s) → f ≡ Value v →
+    filled c n list (fieldsOf (8 - n) (drop at s)) ≡ r → filled c (n + 1) (set list n v) (fieldsOf (8 - (n + 1)) (drop (at + 17) s)) ≡ r
+unfolding thenField
+fields-on c n at v s list h z k e d g q =
+    let rest = fieldsOf (8 - (n + 1)) (drop (at + 17) s) in
+    let w : fieldsOf (8 - n) (drop at s) ≡ then v rest =
+    at-byte n at s h k ∙ pick-true _ _ _ (eq-eqb _ _ e) ∙ ap (λ (u : Field). thenField u rest) (sym d ∙ g) in
+    sym (filled-then c n v list rest (omega arith)) ∙ ap (λ (u : Got). filled c n list u) (sym w) ∙ q
+
+-- no number stands there
+pub fields-bad : (c n at : ℕ) (s list : List ℕ) {f : Field} {o r : Line} → o ≡ noLine → n ≤ 7 → at < length s → getD s at 0 ≡ 32 →
+    f ≡ hexFrom 16 0 (drop (at + 1) s) → f ≡ Bad → filled c n list (fieldsOf (8 - n) (drop at s)) ≡ r → o ≡ r
+unfolding thenField filled
+fields-bad c n at s list o h k e d g q =
+    let rest = fieldsOf (8 - (n + 1)) (drop (at + 17) s) in
+    let w : fieldsOf (8 - n) (drop at s) ≡ none =
+    at-byte n at s h k ∙ pick-true _ _ _ (eq-eqb _ _ e) ∙ ap (λ (u : Field). thenField u rest) (sym d ∙ g) in
+    o ∙ ap (λ (u : Got). filled c n list u) (sym w) ∙ q
+
+-- no space stands there
+pub fields-char : (c n at : ℕ) (s list : List ℕ) {o r : Line} → o ≡ noLine → n ≤ 7 → at < length s → (getD s at 0 ≡ 32 → ⊥) →
+    filled c n list (fieldsOf (8 - n) (drop at s)) ≡ r → o ≡ r
+unfolding filled
+fields-char c n at s list o h k e q =
+    o ∙ ap (λ (u : Got). filled c n list u) (sym (at-byte n at s h k ∙ pick-false _ _ _ (ne-eqb _ _ e))) ∙ q
+
+-- too few bytes are left
+pub fields-short : (c n at : ℕ) (s list : List ℕ) {o r : Line} → o ≡ noLine → n ≤ 7 → at < length s → length s - at < 17 →
+    filled c n list (fieldsOf (8 - n) (drop at s)) ≡ r → o ≡ r
+unfolding thenField filled
+fields-short c n at s list o h k e q =
+    let rest = fieldsOf (8 - (n + 1)) (drop (at + 17) s) in
+    let b : hexFrom 16 0 (drop (at + 1) s) ≡ Bad = hex-short 16 0 (drop (at + 1) s) (omega (arith, length-drop (at + 1) s)) in
+    let w : fieldsOf (8 - n) (drop at s) ≡ none =
+    at-byte n at s h k ∙ ap (λ (u : Field). pick (eqb (getD s at 0) 32) (thenField u rest) none) b ∙ pick-same (eqb (getD s at 0) 32) none in
+    o ∙ ap (λ (u : Got). filled c n list u) (sym w) ∙ q
+
+-- something stands behind the eighth field
+pub fields-many : (c n at : ℕ) (s list : List ℕ) {o r : Line} → o ≡ noLine → 7 < n → at < length s →
+    filled c n list (fieldsOf (8 - n) (drop at s)) ≡ r → o ≡ r
+unfolding filled fieldsOf ended
+fields-many c n at s list o h k q =
+    let j : 8 - n ≡ 0 = omega arith in
+    let w : fieldsOf (8 - n) (drop at s) ≡ none = ap (λ (m : ℕ). fieldsOf m (drop at s)) j ∙ ap ended (drop-cons s at 0 k) in
+    o ∙ ap (λ (u : Got). filled c n list u) (sym w) ∙ q
+
+nothing : (k : ℕ) → fieldsOf k [] ≡ some []
+unfolding fieldsOf ended headed
+nothing zero = refl
+nothing (suc k) = refl
+
+-- the end of the line
+pub fields-end : (c n at : ℕ) (s list : List ℕ) {r : Line} → length s ≤ at →
+    filled c n list (fieldsOf (8 - n) (drop at s)) ≡ r → record { good = true; code = c; count = n; list = list } ≡ r
+unfolding filled
+fields-end c n at s list h q =
+    let w : fieldsOf (8 - n) (drop at s) ≡ some [] = ap (λ (z : List ℕ). fieldsOf (8 - n) z) (drop-of-length-le s h) ∙ nothing (8 - n) in
+    let a : n ≡ n + 0 = omega arith in
+    let e : record { good = true; code = c; count = n; list = list } ≡ filled c n list (some []) = rw (over-nil, ← a) refl in
+    e ∙ ap (λ (u : Got). filled c n list u) (sym w) ∙ q
+
+-- the ways out of reading a line
+pub line-short : (s : List ℕ) {o : Line} → o ≡ noLine → length s < 2 → o ≡ lineOf s
+unfolding lineOf coded
+line-short s e h = e ∙ ap (λ (f : Field). coded f (fieldsOf 8 (drop 2 s))) (sym (hex-short 2 0 s h))
+
+pub line-bad : (s : List ℕ) {f : Field} {o : Line} → o ≡ noLine → f ≡ hexFrom 2 0 (drop 0 s) → f ≡ Bad → o ≡ lineOf s
+unfolding lineOf coded
+line-bad s e d g = e ∙ ap (λ (f : Field). coded f (fieldsOf 8 (drop 2 s))) (sym (sym d ∙ g))
+
+pub line-is : (s : List ℕ) (c : ℕ) {f : Field} {o : Line} → f ≡ hexFrom 2 0 (drop 0 s) → f ≡ Value c
+    → o ≡ filled c 0 (replicate 8 0) (fieldsOf 8 (drop 2 s)) → o ≡ lineOf s
+unfolding lineOf coded
+line-is s c d g e = e ∙ ap (λ (f : Field). coded f (fieldsOf 8 (drop 2 s))) (sym (sym d ∙ g))

@@ -1,0 +1,11 @@
+pub mod Entries
+pub mod DigitLaws
+pub mod HexLaws
+pub mod FieldLaws
+pub mod Writing
+pub mod CodeLaws
+pub mod HexText
+pub mod FieldText
+pub mod BackLaws
+pub mod Text
+pub mod Unique

@@ -1,0 +1,33 @@
+-- Uniqueness: each public function's contract names one answer, and one content of what it is lent to write, for each input. Assumes nothing.
+use mathlib.Core.Path.{sym, _∙_, ap}
+use mathlib.Core.List.{List}
+use Prim.Native.Nat.{ℕ}
+use denote.Ref.{now}
+use Rattle.base.proofs.One.{One, OneWith}
+use Rattle.lines.specs.Written.{Answered, Wrote}
+use Rattle.lines.proofs.line.read.Reads as read-reads
+use Rattle.lines.proofs.line.read.Kinds as read-kinds
+use Rattle.lines.proofs.code.operation_of.Reads as operation-of-reads
+use Rattle.lines.proofs.code.operation_of.Kinds as operation-of-kinds
+use Rattle.lines.proofs.code.read_line.Reads as read-line-reads
+use Rattle.lines.proofs.code.read_line.Kinds as read-line-kinds
+use Rattle.lines.proofs.code.write_line.Reads as write-line-reads
+use Rattle.lines.proofs.code.write_line.Kinds as write-line-kinds
+use Rattle.lines.proofs.answer_line.write_answer_line.Reads as write-answer-line-reads
+use Rattle.lines.proofs.answer_line.write_answer_line.Kinds as write-answer-line-kinds
+
+pub read-one : One 1 read-kinds.ps read-kinds.r read-reads.Pre read-reads.Post
+read-one κs a x x′ s s′ z p q = p ∙ sym q
+
+pub operation-of-one : One 0 operation-of-kinds.ps operation-of-kinds.r operation-of-reads.Pre operation-of-reads.Post
+operation-of-one κs a x x′ s s′ z p q = p ∙ sym q
+
+pub read-line-one : One 1 read-line-kinds.ps read-line-kinds.r read-line-reads.Pre read-line-reads.Post
+read-line-one κs a x x′ s s′ z p q = p ∙ sym q
+
+-- one length, and one content of the buffer
+pub write-line-one : OneWith 1 write-line-kinds.ps write-line-kinds.r write-line-reads.Pre write-line-reads.Post (List ℕ) (λ κs s. now (s .1 .0))
+write-line-one κs a x x′ s s′ z p q = (ap (λ (o : Wrote). o .size) (p ∙ sym q), ap (λ (o : Wrote). o .cells) (p ∙ sym q))
+
+pub write-answer-line-one : OneWith 1 write-answer-line-kinds.ps write-answer-line-kinds.r write-answer-line-reads.Pre write-answer-line-reads.Post (List ℕ) (λ κs s. now (s .0))
+write-answer-line-one κs a x x′ s s′ z p q = (ap (λ (o : Answered). o .done) (p ∙ sym q), ap (λ (o : Answered). o .cells) (p ∙ sym q))

@@ -1,0 +1,16 @@
+-- `lines::line::read` meets its contract. Assumes nothing.
+use mathlib.Core.Path.{refl}
+use borrow.Author.Needs.{needs}
+use Rattle.lines.specs.Digits.{digitTable}
+use Rattle.lines.proofs.line.read.Statement.{statement}
+use Rattle.lines.proofs.line.read.Tie as tie
+
+read-by-table-requires : tie.Need-read-by-table-requires
+unfolding digitTable
+read-by-table-requires c κs = refl
+
+returns : tie.Need-returns
+returns c = search needs
+
+pub read-spec : {M : Type 1} → statement M
+read-spec = tie.close (tie.spec read-by-table-requires returns)

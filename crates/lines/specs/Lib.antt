@@ -1,0 +1,9 @@
+pub mod Hex
+pub mod Line
+pub mod Code
+pub mod AnswerLine
+pub mod Session
+pub mod Pieces
+pub mod Digits
+pub mod Written
+pub mod Sayable

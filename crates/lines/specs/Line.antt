@@ -1,0 +1,67 @@
+-- Document 01, "Operation lines": a two-digit code, then fields of 16 digits, each behind a single space.
+use Prim.Native.Nat.{ℕ, zero, suc, _+_}
+use mathlib.Core.Bool.{true, false}
+use mathlib.Core.List.{List, [], _∷_, _++_}
+use lib.Dec.{eqb}
+use lib.ListN.{length, drop, getD, replicate}
+use Rattle.base.specs.Pick.{pick}
+use Rattle.base.specs.Span.{over}
+use Rattle.lines.specs.Hex.{hexFrom, hexText}
+use Rattle.lines.specs.declared.field.Field.{Field}
+use Rattle.lines.specs.declared.field.Field.the-variants.{Value, Bad}
+use Rattle.lines.specs.declared.line.Line.{Line}
+
+-- the fields of a line, where they are fields
+pub data Got : Type 0 where
+  none : Got
+  some : List ℕ → Got
+
+unfoldable pub then : ℕ → Got → Got
+then v none = none
+then v (some l) = some (v ∷ l)
+
+-- a field, and what follows it
+unfoldable pub thenField : Field → Got → Got
+thenField Bad g = none
+thenField (Value v) g = then v g
+
+unfoldable pub ended : List ℕ → Got
+ended [] = some []
+ended (b ∷ l) = none
+
+-- nothing, or a space, a field and what follows it
+unfoldable pub headed : List ℕ → Field → Got → Got
+headed [] f g = some []
+headed (b ∷ l) f g = pick (eqb b 32) (thenField f g) none
+
+-- at most n fields, up to the end
+unfoldable pub fieldsOf : ℕ → List ℕ → Got
+fieldsOf zero l = ended l
+fieldsOf (suc n) l = headed l (hexFrom 16 0 (drop 1 l)) (fieldsOf n (drop 17 l))
+
+-- a line as numbers: whether it is a code and fields, the code, how many fields, and the fields with zeros up to 8
+abbrev pub noLine : Line
+noLine = record { good = false; code = 0; count = 0; list = replicate 8 0 }
+
+-- n fields are in the list, and the rest goes behind them
+unfoldable pub filled : ℕ → ℕ → List ℕ → Got → Line
+filled code n list none = noLine
+filled code n list (some l) = record { good = true; code = code; count = n + length l; list = over list n l }
+
+unfoldable pub coded : Field → Got → Line
+coded Bad g = noLine
+coded (Value code) g = filled code 0 (replicate 8 0) g
+
+unfoldable pub lineOf : List ℕ → Line
+lineOf l = coded (hexFrom 2 0 l) (fieldsOf 8 (drop 2 l))
+
+abbrev pub at : Line → ℕ → ℕ
+at w i = getD (w .list) i 0
+
+-- the way back: a code and fields as text
+unfoldable pub fieldsText : List ℕ → List ℕ
+fieldsText [] = []
+fieldsText (v ∷ l) = 32 ∷ (hexText 16 v ++ fieldsText l)
+
+unfoldable pub lineText : ℕ → List ℕ → List ℕ
+lineText code fields = hexText 2 code ++ fieldsText fields

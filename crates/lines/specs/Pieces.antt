@@ -1,0 +1,87 @@
+-- Document 01, "Operation lines": a session whose input comes in pieces. A piece is what was left of the last one and the bytes that came in.
+-- A line of over 160 characters is malformed; what of it no piece can hold is passed over, and it has one answer.
+use Prim.Native.Nat.{ℕ, zero, suc, _+_}
+use mathlib.Core.Bool.{Bool, true, false}
+use mathlib.Core.List.{List, [], _∷_, _++_}
+use lib.Dec.{ltb, leb, eqb}
+use lib.ListN.{length, take, drop}
+use Rattle.base.specs.Pick.{pick}
+use Rattle.base.specs.Answer.{refuse}
+use Rattle.lines.specs.Session.{Held, Turn, turned, turnOf, textOf, session}
+
+-- the bytes before the first LF
+unfoldable pub lfAt : List ℕ → ℕ
+lfAt [] = 0
+lfAt (b ∷ l) = pick (eqb b 10) 0 (suc (lfAt l))
+
+-- what a line that is too long gives
+abbrev pub overlong : Held → Turn
+overlong h = turned (refuse 18 0) (h .machine) (h .buffers)
+
+-- what is left of a session, inside a line that is too long already or not
+unfoldable pub sessionFrom : Bool → ℕ → Held → List ℕ → List ℕ
+sessionFrom false r h l = session r h l
+sessionFrom true r h l = textOf (overlong h) ++ session r (overlong h .held) (drop (lfAt l + 1) l)
+
+-- what a run over a piece gives: bytes out, bytes used, what is held, and whether it ended inside a line that is too long
+pub record Run : Type 0 where
+  pub out : List ℕ
+  pub used : ℕ
+  pub held : Held
+  pub skip : Bool
+
+abbrev pub still : Held → Run
+still h = record { out = []; used = 0; held = h; skip = false }
+
+abbrev pub ahead : List ℕ → ℕ → Run → Run
+ahead t n x = record { out = t ++ x .out; used = n + x .used; held = x .held; skip = x .skip }
+
+-- at most k whole lines of a piece
+unfoldable pub wholeLines : ℕ → ℕ → Held → List ℕ → Run
+wholeLines zero r h l = still h
+wholeLines (suc k) r h l =
+    pick (ltb (lfAt l) (length l))
+    (ahead (textOf (turnOf r h (take (lfAt l) l))) (lfAt l + 1) (wholeLines k r (turnOf r h (take (lfAt l) l) .held) (drop (lfAt l + 1) l)))
+    (still h)
+
+-- what a run leaves, if that has no LF and is over 160 bytes, is used up and passed over
+unfoldable pub closeOf : List ℕ → Run → Run
+closeOf l x =
+    pick (ltb (lfAt (drop (x .used) l)) (length (drop (x .used) l))) x
+    (pick (leb (length (drop (x .used) l)) 160) x (record { out = x .out; used = length l; held = x .held; skip = true }))
+
+-- at most k answers of a piece
+unfoldable pub pieceOf : ℕ → Bool → ℕ → Held → List ℕ → Run
+pieceOf k false r h l = closeOf l (wholeLines k r h l)
+pieceOf zero true r h l = record { out = []; used = 0; held = h; skip = true }
+pieceOf (suc k) true r h l =
+    pick (ltb (lfAt l) (length l))
+    (closeOf l (ahead (textOf (overlong h)) (lfAt l + 1) (wholeLines k r (overlong h .held) (drop (lfAt l + 1) l))))
+    (record { out = []; used = length l; held = h; skip = true })
+
+-- a host: what is held, whether a line is being passed over, what is left unused, and what was written
+pub record Host : Type 0 where
+  pub held : Held
+  pub skip : Bool
+  pub tail : List ℕ
+  pub sent : List ℕ
+
+-- room for so many answers, and bytes that come in
+pub record Feed : Type 0 where
+  pub room : ℕ
+  pub bytes : List ℕ
+
+abbrev pub ranOf : ℕ → Host → Feed → Run
+ranOf r h x = pieceOf (x .room) (h .skip) r (h .held) (h .tail ++ x .bytes)
+
+unfoldable pub fed : ℕ → Host → Feed → Host
+fed r h x =
+    record { held = ranOf r h x .held; skip = ranOf r h x .skip; tail = drop (ranOf r h x .used) (h .tail ++ x .bytes); sent = h .sent ++ ranOf r h x .out }
+
+unfoldable pub fedAll : ℕ → Host → List Feed → Host
+fedAll r h [] = h
+fedAll r h (x ∷ xs) = fedAll r (fed r h x) xs
+
+unfoldable pub whole : List Feed → List ℕ
+whole [] = []
+whole (x ∷ xs) = x .bytes ++ whole xs

@@ -1,0 +1,164 @@
+// One operation line again and again on a machine with so many instances of each kind.
+use base::fuel::FuelCosts;
+use lines::code::Parsed;
+use lines::code::read_line;
+use machine::operation::Operation;
+use machine::records::Machine;
+ghost use mathlib.Core.Path.{_≡_};
+ghost use Rattle.machine.specs.Machine.{freshMachine};
+ghost use Rattle.base.specs.Fuel.{defaultCosts};
+ghost use Rattle.lines.specs.Code.{readLine};
+ghost use mathlib.Core.Bool.{true};
+ghost use Rattle.timing.specs.Rounds.{oneMemory, oneTable, oneSegment, held, again, places, setUp, timedBy, Timed};
+
+// Pages of one byte, 64 of them at first.
+fn one_memory() -> Operation
+    ensures { λ r. ⌜ r ≡ oneMemory ⌝ }
+{
+    Operation::NewMemory {
+        room: 131072,
+        wide: 0,
+        bounded: 0,
+        minimum: 64,
+        maximum: 0,
+        exponent: 0,
+    }
+}
+
+fn one_table() -> Operation
+    ensures { λ r. ⌜ r ≡ oneTable ⌝ }
+{
+    Operation::NewTable {
+        room: 131072,
+        kind: 0,
+        wide: 0,
+        bounded: 0,
+        minimum: 64,
+        maximum: 0,
+        initial: 0,
+        bits: 0,
+    }
+}
+
+fn one_segment() -> Operation
+    ensures { λ r. ⌜ r ≡ oneSegment ⌝ }
+{
+    Operation::NewSegment {
+        kind: 0,
+        count: 4,
+        first: 1,
+        second: 2,
+        third: 3,
+        fourth: 4,
+    }
+}
+
+// One operation of which only the machine is kept.
+fn once(
+    machine: Machine,
+    bytes: &mut [u8],
+    cells: &mut [u64],
+    items: &mut [u64],
+    op: Operation,
+) -> Machine
+    ensures { λ r. ⌜ held r (now (bytes .exit)) (now (cells .exit)) (now (items .exit)) ≡ again 1 (held machine (now (bytes .entry)) (now (cells .entry)) (now (items .entry))) op ⌝ }
+{
+    let done = machine.operate(bytes, cells, items, op);
+    done.machine
+}
+
+fn repeat(
+    machine: Machine,
+    bytes: &mut [u8],
+    cells: &mut [u64],
+    items: &mut [u64],
+    op: Operation,
+    rounds: u64,
+) -> Machine
+    ensures { λ r. ⌜ held r (now (bytes .exit)) (now (cells .exit)) (now (items .exit)) ≡ again rounds (held machine (now (bytes .entry)) (now (cells .entry)) (now (items .entry))) op ⌝ }
+{
+    let mut next = machine;
+    let mut left = rounds;
+    while left > 0 {
+        next = once(next, bytes, cells, items, op);
+        left -= 1;
+    }
+    next
+}
+
+// So many memories and tables more.
+fn places(
+    machine: Machine,
+    bytes: &mut [u8],
+    cells: &mut [u64],
+    items: &mut [u64],
+    instances: u64,
+) -> Machine
+    ensures { λ r. ⌜ held r (now (bytes .exit)) (now (cells .exit)) (now (items .exit)) ≡ places instances (held machine (now (bytes .entry)) (now (cells .entry)) (now (items .entry))) ⌝ }
+{
+    let memories = repeat(machine, bytes, cells, items, one_memory(), instances);
+    repeat(memories, bytes, cells, items, one_table(), instances)
+}
+
+// And so many segments.
+fn set_up(
+    machine: Machine,
+    bytes: &mut [u8],
+    cells: &mut [u64],
+    items: &mut [u64],
+    instances: u64,
+) -> Machine
+    ensures { λ r. ⌜ held r (now (bytes .exit)) (now (cells .exit)) (now (items .exit)) ≡ setUp instances (held machine (now (bytes .entry)) (now (cells .entry)) (now (items .entry))) ⌝ }
+{
+    let placed = places(machine, bytes, cells, items, instances);
+    repeat(placed, bytes, cells, items, one_segment(), instances)
+}
+
+fn timed_by(
+    machine: Machine,
+    bytes: &mut [u8],
+    cells: &mut [u64],
+    items: &mut [u64],
+    parsed: Parsed,
+    rounds: u64,
+) -> Machine
+    ensures { λ r. ⌜ held r (now (bytes .exit)) (now (cells .exit)) (now (items .exit)) ≡ timedBy rounds (held machine (now (bytes .entry)) (now (cells .entry)) (now (items .entry))) parsed ⌝ }
+{
+    match parsed {
+        Parsed::Good(op) => repeat(machine, bytes, cells, items, op, rounds),
+        Parsed::Malformed => machine,
+    }
+}
+
+fn timed(
+    machine: Machine,
+    bytes: &mut [u8],
+    cells: &mut [u64],
+    items: &mut [u64],
+    line: &[u8],
+    instances: u64,
+    rounds: u64,
+) -> Machine
+    ensures { λ r. ⌜ held r (now (bytes .exit)) (now (cells .exit)) (now (items .exit)) ≡ timedBy rounds (setUp instances (held machine (now (bytes .entry)) (now (cells .entry)) (now (items .entry)))) (readLine (now (line .entry))) ⌝ }
+{
+    let ready = set_up(machine, bytes, cells, items, instances);
+    timed_by(ready, bytes, cells, items, read_line(line), rounds)
+}
+
+// So many rounds of the line's operation, on a machine with so many memories, tables and segments. The result is the fuel left.
+#[no_mangle]
+pub extern "C" fn timing_operate(
+    bytes: &mut [u8],
+    cells: &mut [u64],
+    items: &mut [u64],
+    line: &[u8],
+    instances: u64,
+    rounds: u64,
+) -> u64
+    ensures { λ r. ⌜ Timed (timedBy rounds (setUp instances (held (freshMachine true defaultCosts) (now (bytes .entry)) (now (cells .entry)) (now (items .entry)))) (readLine (now (line .entry)))) r (now (bytes .exit)) (now (cells .exit)) (now (items .exit)) ⌝ }
+{
+    let fresh = Machine::new(true, FuelCosts::default_costs());
+    let last = timed(fresh, bytes, cells, items, line, instances, rounds);
+    let fuel = last.fuel;
+    fuel.remaining
+}
