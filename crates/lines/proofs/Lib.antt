@@ -8,4 +8,7 @@ pub mod HexText
 pub mod FieldText
 pub mod BackLaws
 pub mod Text
+pub mod LineEnds
+pub mod Pieces
+pub mod Runs
 pub mod Unique

@@ -4,6 +4,8 @@ use mathlib.Core.List.{List}
 use Prim.Native.Nat.{ℕ}
 use denote.Ref.{now}
 use Rattle.base.proofs.One.{One, OneWith}
+use Rattle.machine.specs.Machine.{Buffers, buffers}
+use Rattle.lines.specs.Progress.{Progressed}
 use Rattle.lines.specs.Written.{Answered, Wrote}
 use Rattle.lines.proofs.line.read.Reads as read-reads
 use Rattle.lines.proofs.line.read.Kinds as read-kinds
@@ -15,6 +17,10 @@ use Rattle.lines.proofs.code.write_line.Reads as write-line-reads
 use Rattle.lines.proofs.code.write_line.Kinds as write-line-kinds
 use Rattle.lines.proofs.answer_line.write_answer_line.Reads as write-answer-line-reads
 use Rattle.lines.proofs.answer_line.write_answer_line.Kinds as write-answer-line-kinds
+use Rattle.lines.proofs.session.Session.new.Reads as new-reads
+use Rattle.lines.proofs.session.Session.new.Kinds as new-kinds
+use Rattle.lines.proofs.session.piece.Reads as piece-reads
+use Rattle.lines.proofs.session.piece.Kinds as piece-kinds
 
 pub read-one : One 1 read-kinds.ps read-kinds.r read-reads.Pre read-reads.Post
 read-one κs a x x′ s s′ z p q = p ∙ sym q
@@ -31,3 +37,14 @@ write-line-one κs a x x′ s s′ z p q = (ap (λ (o : Wrote). o .size) (p ∙ 
 
 pub write-answer-line-one : OneWith 1 write-answer-line-kinds.ps write-answer-line-kinds.r write-answer-line-reads.Pre write-answer-line-reads.Post (List ℕ) (λ κs s. now (s .0))
 write-answer-line-one κs a x x′ s s′ z p q = (ap (λ (o : Answered). o .done) (p ∙ sym q), ap (λ (o : Answered). o .cells) (p ∙ sym q))
+
+pub session-new-one : One 0 new-kinds.ps new-kinds.r new-reads.Pre new-reads.Post
+session-new-one κs a x x′ s s′ z p q = p ∙ sym q
+
+-- one session, one number of bytes used and written, and one content of the output and of each of the three buffers
+pub piece-one : OneWith 5 piece-kinds.ps piece-kinds.r piece-reads.Pre piece-reads.Post (Buffers × List ℕ)
+    (λ κs s. (buffers (now (s .1 .0)) (now (s .1 .1 .0)) (now (s .1 .1 .1 .0)), now (s .1 .1 .1 .1 .1 .0)))
+piece-one κs a x x′ s s′ z p q = (ap (λ (o : Progressed). o .progress) (p ∙ sym q), ap lent (p ∙ sym q))
+  where
+    lent : Progressed → Buffers × List ℕ
+    lent o = (o .buffers, o .out)

@@ -7,3 +7,4 @@ pub mod Pieces
 pub mod Digits
 pub mod Written
 pub mod Sayable
+pub mod Progress

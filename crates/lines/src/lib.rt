@@ -3,3 +3,4 @@ pub mod answer_line;
 pub mod code;
 pub mod field;
 pub mod line;
+pub mod session;

@@ -1,0 +1,38 @@
+use Rattle.types.specs.Raw.{rawBytes}
+use Rattle.lines.proofs.Runs.{go-closed}
+use borrow.Author.Needs.{needs}
+use Rattle.lines.proofs.session.go_on.Statement.{statement}
+use Rattle.lines.proofs.session.go_on.Tie as tie
+
+whole-lines-requires : tie.Need-whole-lines-requires
+whole-lines-requires c κs = search needs
+
+close-requires : tie.Need-close-requires
+close-requires c κs = search needs
+
+same-length : tie.Need-same-length
+same-length c = search needs
+
+same-length-2 : tie.Need-same-length-2
+same-length-2 c = search needs
+
+same-length-3 : tie.Need-same-length-3
+same-length-3 c = search needs
+
+same-length-4 : tie.Need-same-length-4
+same-length-4 c = search needs
+
+returns : tie.Need-returns
+returns c = go-closed rawBytes _ _ _ _ (c .before .before .before .before .before .before .before .before .before .whole-lines .ensures) (c .close .ensures)
+
+pub go-on-spec : {M : Type 1} → statement M
+go-on-spec =
+    tie.close
+    (tie.spec
+    whole-lines-requires
+    close-requires
+    same-length
+    same-length-2
+    same-length-3
+    same-length-4
+    returns)
