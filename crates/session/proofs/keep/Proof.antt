@@ -1,0 +1,68 @@
+-- `session::keep` meets its contract. Assumes nothing.
+use Prim.Native.Nat.{_-_, _≤_}
+use mathlib.Core.Path.{_≡_, refl}
+use native.Mathlib.Omega.{arith}
+use lib.ListN.{length}
+use borrow.Author.Needs.{needs}
+use Rattle.session.proofs.keep.Statement.{statement}
+use Rattle.session.proofs.keep.Tie as tie
+use Rattle.session.proofs.keep.Reads as reads
+use Rattle.session.proofs.keep.Lts as lts
+
+abbrev Inv-loop : tie.InvT-loop
+Inv-loop input₀ from end to₀ at₀ input to at =
+    (length input ≡ length input₀) × (to ≤ at)
+
+abbrev μ-loop : tie.MeasureT-loop
+μ-loop input₀ from end to₀ at₀ input to at = end - at
+
+loop-holds : tie.Need-loop-holds Inv-loop μ-loop
+loop-holds c = (refl, omega arith)
+
+same-length : tie.Need-same-length Inv-loop μ-loop
+same-length c = search needs
+
+returns : tie.Need-returns Inv-loop μ-loop
+returns c = tt
+
+slice-read-input : tie.Need-slice-read-input Inv-loop μ-loop
+slice-read-input c = search needs
+
+slice-write-input : tie.Need-slice-write-input Inv-loop μ-loop
+slice-write-input c = search needs
+
+add-to : tie.Need-add-to Inv-loop μ-loop
+add-to c = search needs
+
+add-at : tie.Need-add-at Inv-loop μ-loop
+add-at c = search needs
+
+loop-less : tie.Need-loop-less Inv-loop μ-loop
+loop-less c = search needs
+
+loop-again : tie.Need-loop-again Inv-loop μ-loop
+loop-again c = (search needs, omega arith)
+
+same-length-2 : tie.Need-same-length-2 Inv-loop μ-loop
+same-length-2 c = search needs
+
+returns-2 : tie.Need-returns-2 Inv-loop μ-loop
+returns-2 c = tt
+
+pub keep-spec : {M : Type 1} → statement M
+keep-spec =
+    tie.close
+    (tie.spec
+    Inv-loop
+    μ-loop
+    loop-holds
+    same-length
+    returns
+    slice-read-input
+    slice-write-input
+    add-to
+    add-at
+    loop-less
+    loop-again
+    same-length-2
+    returns-2)
