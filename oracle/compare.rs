@@ -2,6 +2,7 @@
 
 use files::{KINDS, Short};
 use std::collections::BTreeMap;
+use std::fmt::Display;
 use std::fs::{self, File};
 use std::path::{Path, PathBuf};
 use std::process::{Command, ExitCode};
@@ -11,9 +12,26 @@ usage: compare SESSION ORACLE FOLDER COUNT
 runs SESSION and ORACLE on the same operation files, written in FOLDER, until COUNT operations are compared
 ";
 
-/// The lines of a random file: from FEWEST on, SPREAD different counts.
+/// The lines of a file by chance: from FEWEST on, SPREAD different counts; one file in LONG_EACH has LONG lines.
 const FEWEST: u64 = 200;
 const SPREAD: u64 = 1800;
+const LONG_EACH: u64 = 100;
+const LONG: u64 = 20_000;
+
+/// Why a comparison ends early.
+enum End {
+    Difference(String),
+    /// A file or program that cannot be used.
+    Broken(String),
+}
+
+fn broken(what: impl Display, error: impl Display) -> End {
+    End::Broken(format!("{what}: {error}"))
+}
+
+fn length_of(seed: u64) -> u64 {
+    if seed % LONG_EACH == 0 { LONG } else { FEWEST + seed * 7919 % SPREAD }
+}
 
 /// How often each answer number came for each code, both as text; malformed lines stand under `--`.
 #[derive(Default)]
@@ -46,7 +64,7 @@ impl Tally {
     }
 }
 
-fn list<'a, T: std::fmt::Display + 'a>(counts: impl Iterator<Item = (T, &'a u64)>) -> String {
+fn list<'a, T: Display + 'a>(counts: impl Iterator<Item = (T, &'a u64)>) -> String {
     counts.map(|(number, count)| format!("{number}: {count}")).collect::<Vec<_>>().join(", ")
 }
 
@@ -67,25 +85,26 @@ struct Comparison {
 }
 
 impl Comparison {
-    fn answers(&self, program: &Path, file: &Path) -> Result<Vec<u8>, String> {
-        let shown = program.display();
-        let input = File::open(file).map_err(|error| format!("{}: {error}", file.display()))?;
-        let done = Command::new(program).stdin(input).output().map_err(|error| format!("{shown}: {error}"))?;
+    fn answers(&self, program: &Path, file: &Path) -> Result<Vec<u8>, End> {
+        let input = File::open(file).map_err(|error| broken(file.display(), error))?;
+        let done = Command::new(program).stdin(input).output().map_err(|error| broken(program.display(), error))?;
         if done.status.success() {
             return Ok(done.stdout);
         }
-        Err(format!("{shown} on {}: {}\n{}", file.display(), done.status, text(&done.stderr)))
+        let said = format!("{}, {}", done.status, text(&done.stderr));
+        Err(End::Difference(format!("{}: {} ended with {said}", file.display(), program.display())))
     }
 
     /// Compares one file, which stays in the folder if there is a difference.
-    fn compare(&mut self, short: &Short) -> Result<(), String> {
+    fn compare(&mut self, short: &Short) -> Result<(), End> {
         let file = self.folder.join(&short.name);
-        fs::write(&file, &short.text).map_err(|error| format!("{}: {error}", file.display()))?;
+        fs::write(&file, &short.text).map_err(|error| broken(file.display(), error))?;
         let session = self.answers(&self.session, &file)?;
         let oracle = self.answers(&self.oracle, &file)?;
-        self.compare_answers(short, &session, &oracle).map_err(|what| format!("{}, {what}", file.display()))?;
+        self.compare_answers(short, &session, &oracle)
+            .map_err(|what| End::Difference(format!("{}, {what}", file.display())))?;
         self.tally.files += 1;
-        fs::remove_file(&file).map_err(|error| format!("{}: {error}", file.display()))
+        fs::remove_file(&file).map_err(|error| broken(file.display(), error))
     }
 
     fn compare_answers(&mut self, short: &Short, session: &[u8], oracle: &[u8]) -> Result<(), String> {
@@ -109,7 +128,7 @@ impl Comparison {
     }
 
     /// First all short inputs, then files by chance for seeds from 1 on.
-    fn run(&mut self, count: u64) -> Result<(), String> {
+    fn run(&mut self, count: u64) -> Result<(), End> {
         for short in files::sessions() {
             if self.tally.compared < count {
                 self.compare(&short)?;
@@ -119,7 +138,7 @@ impl Comparison {
         while self.tally.compared < count {
             seed += 1;
             let (name, kind) = KINDS[(seed % KINDS.len() as u64) as usize];
-            let length = FEWEST + seed * 7919 % SPREAD;
+            let length = length_of(seed);
             let text = files::file(seed, length as usize, kind);
             self.compare(&Short { name: format!("{name}-{seed}-{length}"), text })?;
         }
@@ -138,9 +157,13 @@ fn run(session: &str, oracle: &str, folder: &str, count: u64) -> ExitCode {
             println!("no difference");
             ExitCode::SUCCESS
         }
-        Err(what) => {
+        Err(End::Difference(what)) => {
             println!("first difference: {what}");
             ExitCode::FAILURE
+        }
+        Err(End::Broken(what)) => {
+            eprintln!("compare: {what}");
+            ExitCode::from(2)
         }
     }
 }

@@ -8,7 +8,7 @@ pub use machine::hush_expected_panics;
 pub use short::{Short, sessions};
 
 use chance::Chance;
-use machine::{BYTES, CELLS, DEFAULT_COST, LONGEST_LINE, MemoryView, SegmentView, Session, TableView};
+use machine::{BYTES, CELLS, DEFAULT_COST, INSTANCES, LONGEST_LINE, MemoryView, SegmentView, Session, TableView};
 use wasmi_core::RefType;
 
 /// What a file leans to.
@@ -123,7 +123,7 @@ const BITS: [u64; 10] = [
     0x0123_4567_89ab_cdef, 0xfedc_ba98_7654_3210,
 ];
 
-const COSTS: [u64; 16] = [0, 0, 1, 1, 2, 3, 4, 8, 63, 64, 64, 65, 1000, 0x1_0000, 0x8000_0000, 0xffff_ffff];
+const COSTS: [u64; 16] = [0, 0, 1, 1, 2, 3, 4, 5, 8, 16, 63, 64, 65, 1000, 0x1_0000, 0xffff_ffff];
 
 /// Bytes that each load kind reads, and each store kind writes.
 const LOADED: [u64; 14] = [4, 8, 4, 8, 1, 1, 2, 2, 1, 1, 2, 2, 4, 4];
@@ -131,6 +131,10 @@ const STORED: [u64; 9] = [4, 8, 4, 8, 1, 2, 1, 2, 4];
 
 /// Bytes that a reference counts.
 const REFERENCE: u64 = 4;
+
+/// How often an instance is looked for: any, or one that is not empty.
+const ANY: u64 = 1;
+const FULL: u64 = 5;
 
 struct Writer {
     chance: Chance,
@@ -173,16 +177,16 @@ impl Writer {
 
     fn first_line(&mut self) {
         match self.chance.below(16) {
-            0..9 => {
+            0..11 => {
                 let metering = u64::from(!self.chance.one_in(8));
                 let cost = self.chance.of(&COSTS);
                 self.metering = metering == 1;
                 self.cost = cost;
                 self.say(0x00, &[metering, cost]);
             }
-            9 => self.say(0x00, &[2, 64]),
-            10 => self.say(0x00, &[1, 1 << 32]),
-            11 => self.spoiled(),
+            11 => self.say(0x00, &[2, 64]),
+            12 => self.say(0x00, &[1, 1 << 32]),
+            13 => self.spoiled(),
             _ => {}
         }
     }
@@ -199,27 +203,39 @@ impl Writer {
 
     // ---- what is there
 
-    fn memory(&mut self) -> Option<(u64, MemoryView)> {
+    fn memory(&mut self, tries: u64) -> Option<(u64, MemoryView)> {
         let views: Vec<MemoryView> = self.session.machine.memory_views().collect();
-        self.one(views)
+        self.one(views, |view| view.pages, tries)
     }
 
-    fn table(&mut self) -> Option<(u64, TableView)> {
+    fn table(&mut self, tries: u64) -> Option<(u64, TableView)> {
         let views: Vec<TableView> = self.session.machine.table_views().collect();
-        self.one(views)
+        self.one(views, |view| view.size, tries)
     }
 
     fn segment(&mut self) -> Option<(u64, SegmentView)> {
         let views: Vec<SegmentView> = self.session.machine.segment_views().collect();
-        self.one(views)
+        self.one(views, |view| view.size, FULL)
     }
 
-    fn one<T>(&mut self, mut views: Vec<T>) -> Option<(u64, T)> {
+    /// One of what is there, looked for so often until it is not empty.
+    fn one<T>(&mut self, mut views: Vec<T>, size: impl Fn(&T) -> u64, tries: u64) -> Option<(u64, T)> {
         if views.is_empty() {
             return None;
         }
-        let place = self.chance.below(views.len() as u64);
+        let mut place = 0;
+        for _ in 0..tries {
+            place = self.chance.below(views.len() as u64);
+            if size(&views[place as usize]) > 0 {
+                break;
+            }
+        }
         Some((place, views.swap_remove(place as usize)))
+    }
+
+    /// Whether a creation would only be told that all numbers are in use, which is worth showing now and then.
+    fn full(&mut self, instances: usize) -> bool {
+        instances == INSTANCES && !self.chance.one_in(8)
     }
 
     /// The number itself, or now and then one that is unknown.
@@ -410,12 +426,16 @@ impl Writer {
     }
 
     fn new_memory(&mut self) {
+        if self.full(self.session.machine.memory_views().count()) {
+            return self.grow_memory();
+        }
         let exponent = self.exponent();
         let free = self.session.machine.bytes_free();
         let room = if exponent == 16 && self.chance.one_in(2) { self.near(free) } else { self.room(free, BYTES) };
         let [bounded, minimum, maximum] = match self.chance.below(12) {
-            // the maximum at which the crate panics
+            // the maximum at which the crate panics, and the minimum of 2^64 bytes
             0 if exponent == 16 => [1, 0, 1 << 48],
+            1 | 2 if exponent == 16 => [0, self.chance.of(&[1 << 48, 1 << 48, (1 << 48) - 1, (1 << 48) + 1]), 0],
             _ => self.limits(room.checked_shr(exponent as u32).unwrap_or(0)),
         };
         let wide = self.yes_no();
@@ -423,7 +443,7 @@ impl Writer {
     }
 
     fn grow_memory(&mut self) {
-        let Some((number, view)) = self.memory() else { return self.new_memory() };
+        let Some((number, view)) = self.memory(ANY) else { return self.new_memory() };
         let exponent = u32::from(view.ty.page_size_log2());
         let bound = (if view.ty.is_64() { u64::MAX } else { 1 << 32 }) >> exponent;
         let room = view.room >> exponent;
@@ -441,7 +461,7 @@ impl Writer {
     }
 
     fn memory_size(&mut self) {
-        let number = self.memory().map_or(0, |(number, _)| number);
+        let number = self.memory(ANY).map_or(0, |(number, _)| number);
         let number = self.number(number);
         self.say(0x12, &[number]);
     }
@@ -471,7 +491,7 @@ impl Writer {
     }
 
     fn load(&mut self) {
-        let Some((number, view)) = self.memory() else { return self.new_memory() };
+        let Some((number, view)) = self.memory(FULL) else { return self.new_memory() };
         let kind = self.chance.below(14);
         let [pointer, offset] = self.address(view.pages << view.ty.page_size_log2(), LOADED[kind as usize]);
         let number = self.number(number);
@@ -479,7 +499,7 @@ impl Writer {
     }
 
     fn store(&mut self) {
-        let Some((number, view)) = self.memory() else { return self.new_memory() };
+        let Some((number, view)) = self.memory(FULL) else { return self.new_memory() };
         let kind = self.chance.below(9);
         let [pointer, offset] = self.address(view.pages << view.ty.page_size_log2(), STORED[kind as usize]);
         let bits = if matches!(kind, 0 | 2 | 4 | 5) { self.bits() & 0xffff_ffff } else { self.bits() };
@@ -492,7 +512,7 @@ impl Writer {
     }
 
     fn link(&mut self) {
-        let Some((number, view)) = self.memory() else { return self.new_memory() };
+        let Some((number, view)) = self.memory(ANY) else { return self.new_memory() };
         let ty = view.ty;
         let wide = if self.chance.one_in(8) { self.yes_no() } else { u64::from(ty.is_64()) };
         let exponent = if self.chance.one_in(8) { self.exponent() } else { u64::from(ty.page_size_log2()) };
@@ -513,6 +533,9 @@ impl Writer {
     }
 
     fn new_table(&mut self) {
+        if self.full(self.session.machine.table_views().count()) {
+            return self.grow_table();
+        }
         let free = self.session.machine.cells_free();
         let room = self.room(free, CELLS);
         let [bounded, minimum, maximum] = self.limits(room);
@@ -523,7 +546,7 @@ impl Writer {
     }
 
     fn grow_table(&mut self) {
-        let Some((number, view)) = self.table() else { return self.new_table() };
+        let Some((number, view)) = self.table(ANY) else { return self.new_table() };
         let bound = if view.ty.is_64() { u64::MAX } else { u64::from(u32::MAX) };
         let cells = match self.chance.below(12) {
             0 | 1 => self.near(view.room - view.size),
@@ -542,26 +565,26 @@ impl Writer {
     }
 
     fn table_size(&mut self) {
-        let number = self.table().map_or(0, |(number, _)| number);
+        let number = self.table(ANY).map_or(0, |(number, _)| number);
         let number = self.number(number);
         self.say(0x22, &[number]);
     }
 
     fn get(&mut self) {
-        let Some((number, view)) = self.table() else { return self.new_table() };
+        let Some((number, view)) = self.table(FULL) else { return self.new_table() };
         let (index, number) = (self.index(view.size), self.number(number));
         self.say(0x23, &[number, index]);
     }
 
     fn set(&mut self) {
-        let Some((number, view)) = self.table() else { return self.new_table() };
+        let Some((number, view)) = self.table(FULL) else { return self.new_table() };
         let index = self.index(view.size);
         let (kind, bits, number) = (self.kind(view.ty.element()), self.bits(), self.number(number));
         self.say(0x24, &[number, index, kind, bits]);
     }
 
     fn fill(&mut self) {
-        let Some((number, view)) = self.table() else { return self.new_table() };
+        let Some((number, view)) = self.table(FULL) else { return self.new_table() };
         let start = self.index(view.size);
         let length = self.length(view.size.saturating_sub(start));
         self.fuel_for(length.saturating_mul(REFERENCE));
@@ -570,9 +593,9 @@ impl Writer {
     }
 
     fn copy(&mut self) {
-        let Some((to_table, target)) = self.table() else { return self.new_table() };
+        let Some((to_table, target)) = self.table(FULL) else { return self.new_table() };
         let within = self.chance.one_in(2);
-        let (from_table, source) = self.table().filter(|_| !within).map_or((to_table, target.size), |(n, view)| (n, view.size));
+        let (from_table, source) = self.table(FULL).filter(|_| !within).map_or((to_table, target.size), |(n, view)| (n, view.size));
         let to = self.index(target.size);
         let from = match self.chance.below(3) {
             0 => self.near(to),
@@ -590,8 +613,11 @@ impl Writer {
     }
 
     fn init(&mut self) {
-        let Some((number, view)) = self.table() else { return self.new_table() };
+        let Some((number, view)) = self.table(FULL) else { return self.new_table() };
         let Some((segment, from_view)) = self.segment() else { return self.new_segment() };
+        if from_view.kind != view.ty.element() && !self.chance.one_in(8) {
+            return self.fill();
+        }
         let to = self.index(view.size);
         let from = match self.chance.below(8) {
             0 => self.edge() & 0xffff_ffff,
@@ -612,6 +638,9 @@ impl Writer {
     }
 
     fn new_segment(&mut self) {
+        if self.full(self.session.machine.segment_views().count()) {
+            return self.drop_segment();
+        }
         let kind = u64::from(self.chance.one_in(4));
         let count = self.chance.below(5);
         let mut fields = vec![kind, count];

@@ -1,0 +1,21 @@
+-- What is left of lines that are read, answered and run for the benches.
+use Prim.Native.Nat.{ℕ}
+use mathlib.Core.Path.{_≡_}
+use mathlib.Core.List.{List}
+use Rattle.base.specs.Answer.{refuse, accept}
+use Rattle.base.specs.declared.answer.Answer.{Answer}
+use Rattle.machine.specs.Machine.{buffers}
+use Rattle.lines.specs.Progress.{Progressed}
+use Rattle.lines.specs.declared.code.Parsed.{Parsed}
+use Rattle.lines.specs.declared.code.Parsed.the-variants.{Good, Malformed}
+
+-- whether a line is an operation's
+unfoldable pub echoOf : Parsed → Answer
+echoOf (Good op) = accept 0
+echoOf Malformed = refuse 18 0
+
+-- of a session: how many bytes it wrote, its buffers and its output
+pub record Sent (z : Progressed) (result : ℕ) (bytes cells items out : List ℕ) : Type 0 where
+  pub number : result ≡ z .progress .wrote
+  pub left : z .buffers ≡ buffers bytes cells items
+  pub text : z .out ≡ out
