@@ -4,9 +4,8 @@
 //! addresses and buffers. In every round the sides take turns, and each side's best run counts. What both sides answer is
 //! compared too. Everything is warm: what a row touches fits the second-level cache, but for tables of 2^20 cells.
 
-#[cfg(operate)]
+mod lines;
 mod operate;
-#[cfg(tables)]
 mod tables;
 
 use std::ffi::c_void;
@@ -54,7 +53,6 @@ enum Shown {
     /// 10^9 bytes a second, of so many bytes a call.
     Bytes(usize),
     /// The same of cells, which have 4 bytes in the crate and 8 here; a second line has 10^6 cells a second.
-    #[cfg_attr(not(tables), allow(dead_code))]
     Cells(usize),
 }
 
@@ -773,7 +771,6 @@ fn main() {
     let sizes = [1, 16, 256, KIB, 4 * KIB, 16 * KIB, 64 * KIB, MIB];
     host_rows(&mut rows, ["host read", "host write"], room(MIB), &sizes);
     host_rows(&mut rows, ["host read, L1", "host write, L1"], room(16 * KIB), &sizes[..6]);
-    #[cfg(tables)]
     tables::rows(&mut rows);
     for _ in 0..passes() {
         for row in &mut rows {
@@ -795,6 +792,6 @@ fn main() {
     } else {
         println!("below the goal: {}", missed.join("; "));
     }
-    #[cfg(operate)]
     operate::print();
+    lines::print();
 }

@@ -1,7 +1,7 @@
 // Operation lines on standard input, one answer line for each on standard output.
 use base::fuel::FuelCosts;
-use lines::session::piece;
 use lines::session::Session;
+use lines::session::piece;
 ghost use Prim.Native.Nat.{_≤_};
 ghost use lib.ListN.{length};
 
@@ -260,5 +260,12 @@ fn main() {
     let mut items = [0u64; 32];
     let mut input = [0u8; 65536];
     let mut out = [0u8; 65536];
-    run(host, &mut bytes, &mut cells, &mut items, &mut input, &mut out);
+    run(
+        host,
+        &mut bytes,
+        &mut cells,
+        &mut items,
+        &mut input,
+        &mut out,
+    );
 }
