@@ -2,13 +2,14 @@
 //! The writer runs the oracle's own session beside the text, so that it can aim at the edges of what is there.
 
 mod chance;
+mod malformed;
 mod short;
 
 pub use machine::hush_expected_panics;
 pub use short::{Short, sessions};
 
 use chance::Chance;
-use machine::{BYTES, CELLS, DEFAULT_COST, INSTANCES, LONGEST_LINE, MemoryView, SegmentView, Session, TableView};
+use machine::{BYTES, CELLS, DEFAULT_COST, INSTANCES, MemoryView, SegmentView, Session, TableView};
 use wasmi_core::RefType;
 
 /// What a file leans to.
@@ -84,6 +85,7 @@ enum Act {
 use Act::*;
 
 /// How often each act comes, as parts of the sum.
+#[rustfmt::skip]
 fn weights(kind: Kind) -> &'static [(Act, u64)] {
     match kind {
         Kind::Mixed => &[
@@ -92,7 +94,8 @@ fn weights(kind: Kind) -> &'static [(Act, u64)] {
             (Fill, 8), (Copy, 10), (Init, 8), (Drop, 1), (NewSegment, 1), (Spoiled, 2), (OutOfRange, 2),
         ],
         Kind::Memories => &[
-            (SetFuel, 4), (Script, 2), (NewMemory, 5), (GrowMemory, 12), (MemorySize, 3), (Load, 30), (Store, 30), (Link, 15),
+            (SetFuel, 4), (Script, 2), (NewMemory, 5), (GrowMemory, 12), (MemorySize, 3), (Load, 30), (Store, 30),
+            (Link, 15),
         ],
         Kind::Tables => &[
             (SetFuel, 4), (Script, 2), (NewTable, 3), (GrowTable, 10), (TableSize, 3), (Get, 25), (Set, 12), (Fill, 12),
@@ -106,21 +109,52 @@ fn weights(kind: Kind) -> &'static [(Act, u64)] {
             (SetFuel, 8), (Script, 16), (NewMemory, 10), (GrowMemory, 28), (NewTable, 10), (GrowTable, 28),
         ],
         Kind::Malformed => &[
-            (Spoiled, 40), (OutOfRange, 40), (GetFuel, 2), (SetFuel, 2), (Load, 4), (Store, 4), (Get, 4), (Script, 2), (GrowMemory, 2),
+            (Spoiled, 40), (OutOfRange, 40), (GetFuel, 2), (SetFuel, 2), (Load, 4), (Store, 4), (Get, 4), (Script, 2),
+            (GrowMemory, 2),
         ],
     }
 }
 
 /// Numbers at which something changes.
 const EDGES: [u64; 24] = [
-    0, 1, 2, 3, 7, 8, 0xff, 0x100, 0xffff, 0x1_0000, 0x1_0001, 0x7fff_ffff, 0x8000_0000, 0xffff_fffe, 0xffff_ffff,
-    0x1_0000_0000, 0x1_0000_0001, (1 << 48) - 1, 1 << 48, (1 << 48) + 1, (1 << 63) - 1, 1 << 63, u64::MAX - 1, u64::MAX,
+    0,
+    1,
+    2,
+    3,
+    7,
+    8,
+    0xff,
+    0x100,
+    0xffff,
+    0x1_0000,
+    0x1_0001,
+    0x7fff_ffff,
+    0x8000_0000,
+    0xffff_fffe,
+    0xffff_ffff,
+    0x1_0000_0000,
+    0x1_0000_0001,
+    (1 << 48) - 1,
+    1 << 48,
+    (1 << 48) + 1,
+    (1 << 63) - 1,
+    1 << 63,
+    u64::MAX - 1,
+    u64::MAX,
 ];
 
 /// Bits whose sign, width or NaN payload may get lost.
 const BITS: [u64; 10] = [
-    0x80, 0xff, 0x8000, 0xffff, 0x7fa0_0001, 0xffc0_0000, 0x7ff4_0000_0000_0001, 0xfff8_0000_0000_0000,
-    0x0123_4567_89ab_cdef, 0xfedc_ba98_7654_3210,
+    0x80,
+    0xff,
+    0x8000,
+    0xffff,
+    0x7fa0_0001,
+    0xffc0_0000,
+    0x7ff4_0000_0000_0001,
+    0xfff8_0000_0000_0000,
+    0x0123_4567_89ab_cdef,
+    0xfedc_ba98_7654_3210,
 ];
 
 const COSTS: [u64; 16] = [0, 0, 1, 1, 2, 3, 4, 5, 8, 16, 63, 64, 65, 1000, 0x1_0000, 0xffff_ffff];
@@ -240,7 +274,11 @@ impl Writer {
 
     /// The number itself, or now and then one that is unknown.
     fn number(&mut self, known: u64) -> u64 {
-        if self.chance.one_in(40) { self.chance.of(&[known + 1, 7, 8, 1 << 32, known + (1 << 32), u64::MAX]) } else { known }
+        if self.chance.one_in(40) {
+            self.chance.of(&[known + 1, 7, 8, 1 << 32, known + (1 << 32), u64::MAX])
+        } else {
+            known
+        }
     }
 
     // ---- numbers
@@ -595,7 +633,8 @@ impl Writer {
     fn copy(&mut self) {
         let Some((to_table, target)) = self.table(FULL) else { return self.new_table() };
         let within = self.chance.one_in(2);
-        let (from_table, source) = self.table(FULL).filter(|_| !within).map_or((to_table, target.size), |(n, view)| (n, view.size));
+        let (from_table, source) =
+            self.table(FULL).filter(|_| !within).map_or((to_table, target.size), |(n, view)| (n, view.size));
         let to = self.index(target.size);
         let from = match self.chance.below(3) {
             0 => self.near(to),
@@ -648,94 +687,5 @@ impl Writer {
             fields.push(self.bits());
         }
         self.say(0x29, &fields);
-    }
-
-    // ---- malformed lines
-
-    /// A well-formed line of some operation, whatever its fields say.
-    fn plausible(&mut self) -> Vec<u8> {
-        let number = self.chance.below(3);
-        let text = match self.chance.below(8) {
-            0 => line(0x02, &[]),
-            1 => line(0x01, &[self.chance.next()]),
-            2 => line(0x12, &[number]),
-            3 => line(0x13, &[number, self.chance.below(14), self.chance.below(300), 0]),
-            4 => line(0x24, &[number, self.chance.below(9), 0, 0xabcdef]),
-            5 => line(0x20, &[1, 0, 0, 0, 0, 0, 0, 0xabcdef]),
-            6 => line(0x29, &[0, 2, 0xa, 0xb]),
-            _ => line(0x11, &[number, self.chance.below(4)]),
-        };
-        text.into_bytes()
-    }
-
-    /// A line whose text is wrong in one place.
-    fn spoiled(&mut self) {
-        let mut text = self.plausible();
-        let place = self.chance.below(text.len() as u64) as usize;
-        match self.chance.below(20) {
-            0 => text.clear(),
-            1 => text.push(b' '),
-            2 => text.push(b'\r'),
-            3 => text.insert(0, b' '),
-            4 => text.insert(place, b' '),
-            5 => text[place] = b'\t',
-            6 => text[place] = 0,
-            7 => text[place] = 0x80 | self.chance.below(128) as u8,
-            8 => text.make_ascii_uppercase(),
-            9 => text[place] = self.chance.of(&[b'g', b'/', b':', b'@', b'`', b'A', b'F', b'x', b'-', b'+'].map(u64::from)) as u8,
-            10 => text.truncate(place),
-            11 => drop(text.remove(place)),
-            12 => text.insert(place, b'0'),
-            13 => text.extend(b" 0000000000000000"),
-            14 => text.extend(b"0000000000000000"),
-            15 => text.truncate(text.len().saturating_sub(17)),
-            16 => text = vec![b'0'; LONGEST_LINE - 1 + self.chance.below(3) as usize],
-            17 => text = text.repeat(1 + self.chance.below(200) as usize),
-            18 => text[place] = if text[place] == b' ' { b'0' } else { b' ' },
-            _ => {
-                let code = self.chance.below(256);
-                text.splice(..2, format!("{code:02x}").into_bytes());
-            }
-        }
-        self.put(&text);
-    }
-
-    /// A line with a field out of its range, or `00` out of its place.
-    fn out_of_range(&mut self) {
-        let bad = match self.chance.below(3) {
-            0 => 2,
-            1 => 1 << 32,
-            _ => self.edge().max(2),
-        };
-        let large = self.edge().max(1 << 32);
-        match self.chance.below(20) {
-            0 => self.say(0x00, &[1, 64]),
-            1 => self.say(0x04, &[bad.max(17), 0]),
-            2 => self.say(0x04, &[1, 3 << 60]),
-            3 => self.say(0x04, &[2, 1 << 52]),
-            4 => self.say(0x10, &[1, bad, 0, 0, 0, 0]),
-            5 => self.say(0x10, &[1, 0, bad, 0, 0, 0]),
-            6 => self.say(0x10, &[1, 0, 0, 0, bad, 0]),
-            7 => self.say(0x10, &[1, 0, 0, 0, 0, bad.max(256)]),
-            8 => self.say(0x13, &[0, bad.max(14), 0, 0]),
-            9 => self.say(0x14, &[0, bad.max(9), 0, 0, 0]),
-            10 => {
-                let kind = self.chance.of(&[0, 2, 4, 5]);
-                self.say(0x14, &[0, kind, 0, 0, large])
-            }
-            11 => self.say(0x20, &[1, bad, 0, 0, 0, 0, 0, 0]),
-            12 => self.say(0x20, &[1, 0, 0, 0, 0, bad, 0, 0]),
-            13 => self.say(0x20, &[1, 0, bad, 0, 0, 0, 0, 0]),
-            14 => self.say(0x20, &[1, 0, 0, 0, 0, 0, bad, 0]),
-            15 => self.say(0x21, &[9, 0, bad, 0]),
-            16 => self.say(0x25, &[0, 0, bad, 0, 0]),
-            17 => self.say(0x27, &[0, 0, 0, large, 0]),
-            18 => self.say(0x27, &[0, 0, 0, 0, large]),
-            _ => {
-                let items = self.chance.below(6) as usize;
-                let count = self.chance.of(&[0, 1, 2, 3, 4, 5, 6, 1 << 32]);
-                self.say(0x29, &[&[0, count], &[7; 6][..items]].concat())
-            }
-        }
     }
 }

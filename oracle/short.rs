@@ -38,11 +38,12 @@ pub fn sessions() -> Vec<Short> {
 
 // ---------------------------------------------------------------- scripts
 
-/// Creations and growths that ask and notice: accepted, and refused at each place.
-const ASKING: [(u8, &[u64]); 14] = [
+/// Creations and growths: accepted, refused at each place where the limiter is asked or told, and by 0.
+const ASKING: [(u8, &[u64]); 16] = [
     (0x10, &[8, 0, 0, 1, 0, 0]),
     (0x10, &[8, 0, 0, 9, 0, 0]),
     (0x10, &[8, 0, 1, 2, 1, 0]),
+    (0x11, &[0, 0]),
     (0x11, &[0, 1]),
     (0x11, &[0, 64]),
     (0x11, &[0, 300]),
@@ -50,6 +51,7 @@ const ASKING: [(u8, &[u64]); 14] = [
     (0x20, &[8, 0, 0, 0, 1, 0, 0, 5]),
     (0x20, &[8, 0, 0, 0, 9, 0, 0, 5]),
     (0x20, &[8, 0, 0, 0, 1, 0, 1, 5]),
+    (0x21, &[0, 0, 1, 6]),
     (0x21, &[0, 1, 0, 6]),
     (0x21, &[0, 16, 0, 6]),
     (0x21, &[0, 100, 0, 6]),
@@ -237,8 +239,37 @@ const GOOD: [(u8, &[u64]); 21] = [
 ];
 
 const VALUES: [u64; 31] = [
-    0, 1, 2, 3, 4, 5, 7, 8, 9, 13, 14, 15, 16, 17, 63, 64, 65, 255, 256, 65_535, 65_536, 65_537, 0xffff_fffe, 0xffff_ffff,
-    1 << 32, 0x1_0000_0001, 1 << 48, 1 << 60, 3 << 60, 1 << 63, u64::MAX,
+    0,
+    1,
+    2,
+    3,
+    4,
+    5,
+    7,
+    8,
+    9,
+    13,
+    14,
+    15,
+    16,
+    17,
+    63,
+    64,
+    65,
+    255,
+    256,
+    65_535,
+    65_536,
+    65_537,
+    0xffff_fffe,
+    0xffff_ffff,
+    1 << 32,
+    0x1_0000_0001,
+    1 << 48,
+    1 << 60,
+    3 << 60,
+    1 << 63,
+    u64::MAX,
 ];
 
 /// Each field of a good line at each value, the rest as it was; a fresh session for each field.
@@ -321,8 +352,21 @@ fn around(price: u64) -> [u64; 3] {
 // ---------------------------------------------------------------- types
 
 const LIMITS: [u64; 15] = [
-    0, 1, 2, 65_535, 65_536, 65_537, 0xffff_ffff, 1 << 32, 0x1_0000_0001, (1 << 48) - 1, 1 << 48, (1 << 48) + 1, 1 << 63,
-    u64::MAX - 1, u64::MAX,
+    0,
+    1,
+    2,
+    65_535,
+    65_536,
+    65_537,
+    0xffff_ffff,
+    1 << 32,
+    0x1_0000_0001,
+    (1 << 48) - 1,
+    1 << 48,
+    (1 << 48) + 1,
+    1 << 63,
+    u64::MAX - 1,
+    u64::MAX,
 ];
 
 /// A limiter that always says no, so that a good type is told as 3 and takes no number.
