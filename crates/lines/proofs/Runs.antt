@@ -11,14 +11,22 @@ use borrow.Author.Tests.{ltb-true, ltb-false, lt-ltb, le-ltb, le-leb, lt-leb}
 use Rattle.base.specs.Pick.{pick, both}
 use Rattle.base.specs.Answer.{refuse}
 use Rattle.base.specs.Span.{over}
+use Rattle.types.specs.Raw.{rawBytes}
+use Rattle.machine.specs.Machine.{Buffers}
+use Rattle.machine.specs.Step.{Stepped, step}
+use Rattle.machine.specs.declared.records.Machine.{Machine}
+use Rattle.machine.specs.declared.operation.Operation.{Operation}
 use Rattle.base.proofs.Picks.{pick-true, pick-false, both-2, either}
 use Rattle.base.proofs.Spans.{over-nil, over-over, length-over}
-use Rattle.lines.specs.Line.{at}
+use Rattle.lines.specs.Line.{lineOf, at}
+use Rattle.lines.specs.Code.{operationOf}
 use Rattle.lines.specs.AnswerLine.{answerLine}
-use Rattle.lines.specs.Session.{Held, Turn, makes, turnOf, textOf}
+use Rattle.lines.specs.Session.{Held, Turn, turned, makes, operated, turnBy, turnOf, textOf}
 use Rattle.lines.specs.Pieces.{lfAt, overlong, Run, still, ahead, wholeLines, closeOf, pieceOf}
 use Rattle.lines.specs.Progress.{Progressed, sessionAs, skipping, endOf, progressOf, WholeRan, closedOf}
 use Rattle.lines.specs.declared.line.Line.{Line}
+use Rattle.lines.specs.declared.code.Parsed.{Parsed}
+use Rattle.lines.specs.declared.code.Parsed.the-variants.{Good, Malformed}
 use Rattle.lines.specs.declared.session.Progress.{Progress}
 use Rattle.lines.proofs.Pieces.{length-text, piece-used, piece-wrote, piece-moves}
 
@@ -26,6 +34,25 @@ use Rattle.lines.proofs.Pieces.{length-text, piece-used, piece-wrote, p
 pub made-room : (t : Bool) (w : Line) {b : Bool} → b ≡ both t (makes w) → b ≡ true → at w 1 < 2 ^ 32
 unfolding makes
 made-room t w d e = ltb-true _ _ (both-2 _ _ (both-2 _ _ (both-2 _ _ (both-2 _ _ (both-2 _ _ (sym d ∙ e))))))
+
+-- a line that is an operation, and one that is none
+pub turn-good : (m : Machine) (first : Bool) (b : Buffers) (w : Line) (op : Operation) {p : Parsed} {s : Stepped} {t : Bool} → t ≡ both first (makes w) → t ≡ false →
+    p ≡ operationOf w → p ≡ Good op → s ≡ step rawBytes m b op → turned (s .answer) (s .machine) (s .buffers) ≡ turnBy rawBytes (record { machine = m; first = first; buffers = b }) w
+unfolding turnBy operated
+turn-good m first b w op d e q g h =
+    ap (λ (y : Stepped). turned (y .answer) (y .machine) (y .buffers)) h
+    ∙ ap (operated rawBytes m b) (sym g ∙ q)
+    ∙ sym (pick-false _ _ _ (sym d ∙ e))
+
+pub turn-bad : (m : Machine) (first : Bool) (b : Buffers) (w : Line) {p : Parsed} {t : Bool} → t ≡ both first (makes w) → t ≡ false →
+    p ≡ operationOf w → p ≡ Malformed → turned (refuse 18 0) m b ≡ turnBy rawBytes (record { machine = m; first = first; buffers = b }) w
+unfolding turnBy operated
+turn-bad m first b w d e q g = ap (operated rawBytes m b) (sym g ∙ q) ∙ sym (pick-false _ _ _ (sym d ∙ e))
+
+-- a turn on what a line was read as
+pub turned-line : (h : Held) (l : List ℕ) {w : Line} {y : Turn} → w ≡ lineOf l → y ≡ turnBy rawBytes h w → y ≡ turnOf rawBytes h l
+unfolding turnOf
+turned-line h l e q = q ∙ ap (turnBy rawBytes h) e
 
 -- how far a run is, when it stops
 abbrev pub reached : ℕ → ℕ → List ℕ → Held → Progressed

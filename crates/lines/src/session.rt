@@ -15,15 +15,12 @@ ghost use mathlib.Core.Path.{_≡_};
 ghost use mathlib.Core.Bool.{true, false};
 ghost use lib.ListN.{length, drop};
 ghost use Rattle.base.specs.Pick.{both};
-ghost use Rattle.base.specs.Answer.{refuse, accept};
-ghost use Rattle.base.specs.Span.{over};
 ghost use Rattle.types.specs.Raw.{rawBytes};
-ghost use Rattle.machine.specs.Machine.{buffers, freshMachine};
+ghost use Rattle.machine.specs.Machine.{freshMachine};
 ghost use Rattle.machine.specs.Operation.{yes};
 ghost use Rattle.lines.specs.Digits.{digitTable};
 ghost use Rattle.lines.specs.Line.{at};
-ghost use Rattle.lines.specs.AnswerLine.{answerLine};
-ghost use Rattle.lines.specs.Session.{makes, costsOf, operated, turnBy, turnOf};
+ghost use Rattle.lines.specs.Session.{makes, costsOf, turnBy};
 ghost use Rattle.lines.specs.Pieces.{lfAt, pieceOf};
 ghost use Rattle.lines.specs.Progress.{heldOn, heldBy, turnedBy, progressed, progressOf, WholeRan, closedOf};
 
@@ -101,30 +98,7 @@ fn made(line: Line) -> Machine
     )
 }
 
-// One operation, or 18.
-fn operated(
-    machine: Machine,
-    bytes: &mut [u8],
-    cells: &mut [u64],
-    items: &mut [u64],
-    parsed: Parsed,
-) -> Operated
-    ensures { λ r. ⌜ turnedBy r (now (bytes .exit)) (now (cells .exit)) (now (items .exit))
-        ≡ operated rawBytes machine (buffers (now (bytes .entry)) (now (cells .entry)) (now (items .entry))) parsed ⌝ }
-{
-    match parsed {
-        Parsed::Good(op) => machine.operate(bytes, cells, items, op),
-        Parsed::Malformed => Operated {
-            answer: Answer::Refusal(Refusal {
-                number: 18,
-                amount: 0,
-            }),
-            machine,
-        },
-    }
-}
-
-// What a line's numbers give.
+// What a line's numbers give: a machine made anew, one operation, or 18.
 fn turn(
     machine: Machine,
     first: bool,
@@ -144,35 +118,16 @@ fn turn(
         };
     }
     let parsed = code::operation_of(line);
-    operated(machine, bytes, cells, items, parsed)
-}
-
-// What a line of text gives.
-fn turn_of(
-    t: &[u8; 256],
-    machine: Machine,
-    first: bool,
-    bytes: &mut [u8],
-    cells: &mut [u64],
-    items: &mut [u64],
-    s: &[u8],
-) -> Operated
-    requires { ⌜ now t ≡ digitTable ⌝ }
-    ensures { λ r. ⌜ turnedBy r (now (bytes .exit)) (now (cells .exit)) (now (items .exit))
-        ≡ turnOf rawBytes (heldOn machine first (now (bytes .entry)) (now (cells .entry)) (now (items .entry))) (now (s .entry)) ⌝ }
-{
-    let line = line::read_by_table(t, s);
-    turn(machine, first, bytes, cells, items, line)
-}
-
-// The answer of a line, at a place.
-fn put_turn(out: &mut [u8], put: usize, x: Operated)
-    requires { ⌜ put + 37 ≤ length (now out) ⌝ }
-    ensures { λ r. ⌜ now (out .exit) ≡ over (now (out .entry)) put (answerLine (x .answer) (x .machine .fuel)) ⌝ }
-{
-    let answer = x.answer;
-    let fuel = x.machine.fuel;
-    answer_line::put_answer(out, put, answer, fuel);
+    match parsed {
+        Parsed::Good(op) => machine.operate(bytes, cells, items, op),
+        Parsed::Malformed => Operated {
+            answer: Answer::Refusal(Refusal {
+                number: 18,
+                amount: 0,
+            }),
+            machine,
+        },
+    }
 }
 
 // The first line's end from a place on, or the length.
@@ -188,6 +143,22 @@ fn find_lf(s: &[u8], from: usize) -> usize
         i += 1;
     }
     i
+}
+
+// How far a run is, when it stops.
+fn stopped(last: Operated, first: bool, used: usize, wrote: usize) -> Progress
+    ensures { λ r. ⌜ r ≡ record { session = record { machine = last .machine; first = first; skip = false }; used = used; wrote = wrote } ⌝ }
+{
+    let machine = last.machine;
+    Progress {
+        session: Session {
+            machine,
+            first,
+            skip: false,
+        },
+        used,
+        wrote,
+    }
 }
 
 // The whole lines of a piece from a place on, while there is room for their answers.
@@ -207,7 +178,11 @@ fn whole_lines(
     ensures { λ r. ⌜ WholeRan (progressed r (now (bytes .exit)) (now (cells .exit)) (now (items .exit)) (now (out .exit)))
         from put rawBytes (heldOn start begun (now (bytes .entry)) (now (cells .entry)) (now (items .entry))) (now (out .entry)) (now (input .entry)) ⌝ }
 {
-    let mut machine = start;
+    // what the last line gave, so that the machine is moved once a line
+    let mut last = Operated {
+        answer: Answer::Value(Value::Number(0)),
+        machine: start,
+    };
     let mut first = begun;
     let mut used = from;
     let mut wrote = put;
@@ -215,33 +190,19 @@ fn whole_lines(
     while room > 0 {
         let e = find_lf(input, used);
         if input.len() <= e {
-            return Progress {
-                session: Session {
-                    machine,
-                    first,
-                    skip: false,
-                },
-                used,
-                wrote,
-            };
+            return stopped(last, first, used, wrote);
         }
-        let x = turn_of(t, machine, first, bytes, cells, items, &input[used..e]);
-        put_turn(out, wrote, x);
-        machine = x.machine;
+        let line = line::read_by_table(t, &input[used..e]);
+        last = turn(last.machine, first, bytes, cells, items, line);
+        let answer = last.answer;
+        let fuel = last.machine.fuel;
+        answer_line::put_answer(out, wrote, answer, fuel);
         first = false;
         used = e + 1;
         wrote += 37;
         room -= 1;
     }
-    Progress {
-        session: Session {
-            machine,
-            first,
-            skip: false,
-        },
-        used,
-        wrote,
-    }
+    stopped(last, first, used, wrote)
 }
 
 // A run is over: what it left, if that is a line that is too long already, is passed over.
@@ -332,14 +293,12 @@ fn skip_on(
             wrote: 0,
         };
     }
-    let x = Operated {
-        answer: Answer::Refusal(Refusal {
-            number: 18,
-            amount: 0,
-        }),
-        machine,
-    };
-    put_turn(out, 0, x);
+    let answer = Answer::Refusal(Refusal {
+        number: 18,
+        amount: 0,
+    });
+    let fuel = machine.fuel;
+    answer_line::put_answer(out, 0, answer, fuel);
     let p = whole_lines(
         t,
         machine,

@@ -1,3 +1,4 @@
+-- `lines::session::skip_on` meets its contract. Assumes nothing.
 use denote.Ref.{now}
 use Rattle.types.specs.Raw.{rawBytes}
 use Rattle.lines.specs.Progress.{heldBy}
@@ -17,11 +18,10 @@ find-lf-requires c κs = search needs
 returns-2 : tie.Need-returns-2
 returns-2 c =
     let a = c .before .before .before .before .before .before .before .before .before .args in
-    skip-none rawBytes (heldBy (a .session) (now (a .bytes)) (now (a .cells)) (now (a .items))) _ (now (a .input)) (now (a .out))
-    (c .before .before .if1 .left) (c .before .find-lf .ensures) (c .if2 .taken)
+    skip-none rawBytes (heldBy (a .session) (now (a .bytes)) (now (a .cells)) (now (a .items))) _ (now (a .input)) (now (a .out)) (c .before .before .if1 .left) (c .before .find-lf .ensures) (c .if2 .taken)
 
-put-turn-requires : tie.Need-put-turn-requires
-put-turn-requires c κs = search needs
+put-answer-requires : tie.Need-put-answer-requires
+put-answer-requires c κs = search needs
 
 add-whole-lines : tie.Need-add-whole-lines
 add-whole-lines c = search needs
@@ -46,11 +46,10 @@ same-length-4 c = search needs
 
 returns-3 : tie.Need-returns-3
 returns-3 c =
-    let w = c .before .before .before .before .before .before .before .before .before in
-    let d = w .before .before .before .before .before .before .before .before .before in
+    let d = c .before .before .before .before .before .before .before .before .before .before .before .before .before .before .before .before .before .before .before in
     let a = d .before .before .before .before .before .before .before .before .before .args in
     skip-closed rawBytes (heldBy (a .session) (now (a .bytes)) (now (a .cells)) (now (a .items))) _ (now (a .input)) (now (a .out)) _ _ (d .before .before .if1 .left)
-    (d .before .find-lf .ensures) (d .if2 .left) (w .before .before .before .before .before .before .before .put-turn .ensures) (w .whole-lines .ensures) (c .close .ensures)
+    (d .before .find-lf .ensures) (d .if2 .left) (c .before .before .before .before .before .before .before .before .before .before .before .before .before .before .before .before .put-answer .ensures) (c .before .before .before .before .before .before .before .before .before .whole-lines .ensures) (c .close .ensures)
 
 pub skip-on-spec : {M : Type 1} → statement M
 skip-on-spec =
@@ -59,7 +58,7 @@ skip-on-spec =
     returns
     find-lf-requires
     returns-2
-    put-turn-requires
+    put-answer-requires
     add-whole-lines
     whole-lines-requires
     close-requires
