@@ -3,12 +3,12 @@
 
 use std::time::Instant;
 
-// Archive libtiming.a: crates/timing/src/text.rt.
+// Archive librounds.a: crates/rounds/src/text.rt.
 unsafe extern "C" {
     /// Reads a line and writes an answer line, where there is room for its 37 bytes.
-    fn timing_line(line: *const u8, length: usize, out: *mut u8, room: usize) -> bool;
+    fn rounds_line(line: *const u8, length: usize, out: *mut u8, room: usize) -> bool;
     /// A session on a fresh machine over the whole lines of the input; how many bytes it wrote.
-    fn timing_session(
+    fn rounds_session(
         bytes: *mut u8,
         byte_count: usize,
         cells: *mut u64,
@@ -98,7 +98,7 @@ fn read_and_answer(lines: &[&[u8]], out: &mut [u8]) {
     });
     let port = best(|| {
         for (line, place) in lines.iter().zip(out.chunks_exact_mut(ANSWER)) {
-            assert!(unsafe { timing_line(line.as_ptr(), line.len(), place.as_mut_ptr(), ANSWER) });
+            assert!(unsafe { rounds_line(line.as_ptr(), line.len(), place.as_mut_ptr(), ANSWER) });
         }
     });
     show("one line read and answered", lines.len(), rust, port);
@@ -123,7 +123,7 @@ fn whole_session(input: &[u8], lines: &[&[u8]], out: &mut [u8]) {
     let port = best(|| {
         let (mut bytes, mut cells, mut items) = (vec![0u8; 65536], vec![0u64; 1024], vec![0u64; 32]);
         wrote = unsafe {
-            timing_session(
+            rounds_session(
                 bytes.as_mut_ptr(),
                 bytes.len(),
                 cells.as_mut_ptr(),

@@ -3,10 +3,10 @@
 
 use std::time::Instant;
 
-// Archive libtiming.a: crates/timing/src/operate.rt.
+// Archive librounds.a: crates/rounds/src/operate.rt.
 unsafe extern "C" {
     /// So many rounds of the line's operation on a machine with so many memories, tables and segments; the fuel left.
-    fn timing_operate(
+    fn rounds_operate(
         bytes: *mut u8,
         byte_count: usize,
         cells: *mut u64,
@@ -56,7 +56,7 @@ struct Buffers {
 fn spent(b: &mut Buffers, line: &str, instances: u64, rounds: u64) -> f64 {
     let start = Instant::now();
     let left = unsafe {
-        timing_operate(
+        rounds_operate(
             b.bytes.as_mut_ptr(),
             b.bytes.len(),
             b.cells.as_mut_ptr(),

@@ -1,3 +1,1 @@
 pub mod Timing
-pub mod Rounds
-pub mod Text

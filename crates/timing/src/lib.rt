@@ -1,6 +1,4 @@
 // Exports for the benches only: each builds the records of one operation from numbers, and leaves what a host would keep.
-pub mod operate;
-pub mod text;
 
 use base::fuel::Fuel;
 use base::fuel::FuelCosts;

@@ -1,14 +1,14 @@
--- `timing::text::timing_line` meets its contract. Assumes nothing.
+-- `rounds::text::rounds_line` meets its contract. Assumes nothing.
 use mathlib.Core.Path.{ap, _∙_}
 use mathlib.Core.Bool.{true}
 use Rattle.base.specs.Fuel.{newFuel, defaultCosts}
 use Rattle.base.specs.declared.answer.Answer.{Answer}
 use Rattle.base.specs.declared.fuel.Fuel.{Fuel}
-use Rattle.timing.specs.Text.{echoOf}
-use Rattle.timing.proofs.Written.{answered-as}
+use Rattle.rounds.specs.Text.{echoOf}
+use Rattle.rounds.proofs.Written.{answered-as}
 use borrow.Author.Needs.{needs}
-use Rattle.timing.proofs.text.timing_line.Statement.{statement}
-use Rattle.timing.proofs.text.timing_line.Tie as tie
+use Rattle.rounds.proofs.text.rounds_line.Statement.{statement}
+use Rattle.rounds.proofs.text.rounds_line.Tie as tie
 
 read-line-requires : tie.Need-read-line-requires
 read-line-requires c κs = search needs
@@ -33,8 +33,8 @@ returns c =
     answered-as _ (c .before .before .write-answer-line .ensures) (c .before .before .before .before .before .before .echo .ensures ∙ ap echoOf (c .before .before .before .before .before .before .before .read-line .ensures))
     (c .before .before .before .before .new .ensures ∙ ap (newFuel true) (c .before .before .before .before .before .«default-costs» .ensures))
 
-pub timing-line-spec : {M : Type 1} → statement M
-timing-line-spec =
+pub rounds-line-spec : {M : Type 1} → statement M
+rounds-line-spec =
     tie.close
     (tie.spec
     read-line-requires

@@ -1,10 +1,10 @@
--- `timing::operate::places` meets its contract. Assumes nothing.
+-- `rounds::operate::places` meets its contract. Assumes nothing.
 use mathlib.Core.Path.{refl}
-use Rattle.timing.specs.Rounds.{places}
-use Rattle.timing.proofs.Again.{rounds}
+use Rattle.rounds.specs.Rounds.{places}
+use Rattle.rounds.proofs.Again.{rounds}
 use borrow.Author.Needs.{needs}
-use Rattle.timing.proofs.operate.places.Statement.{statement}
-use Rattle.timing.proofs.operate.places.Tie as tie
+use Rattle.rounds.proofs.operate.places.Statement.{statement}
+use Rattle.rounds.proofs.operate.places.Tie as tie
 
 one-memory-requires : tie.Need-one-memory-requires
 one-memory-requires c κs = search needs

@@ -1,14 +1,14 @@
--- `timing::text::timing_session` meets its contract. Assumes nothing.
+-- `rounds::text::rounds_session` meets its contract. Assumes nothing.
 use mathlib.Core.Path.{sym, ap, _∙_}
 use mathlib.Core.Bool.{true}
 use Rattle.machine.specs.Machine.{freshMachine}
 use Rattle.base.specs.Fuel.{defaultCosts}
 use Rattle.base.specs.declared.fuel.FuelCosts.{FuelCosts}
 use Rattle.lines.specs.Progress.{Progressed}
-use Rattle.timing.proofs.Written.{started, pieced}
+use Rattle.rounds.proofs.Written.{started, pieced}
 use borrow.Author.Needs.{needs}
-use Rattle.timing.proofs.text.timing_session.Statement.{statement}
-use Rattle.timing.proofs.text.timing_session.Tie as tie
+use Rattle.rounds.proofs.text.rounds_session.Statement.{statement}
+use Rattle.rounds.proofs.text.rounds_session.Tie as tie
 
 default-costs-requires : tie.Need-default-costs-requires
 default-costs-requires c κs = search needs
@@ -36,8 +36,8 @@ returns c =
     let all = pieced _ _ _ _ _ (c .before .before .before .before .before .before .before .before .piece .ensures) (started (c .before .before .before .before .before .before .before .before .before .before .before .before .before .new .ensures) (c .before .before .before .before .before .before .before .before .before .before .before .before .before .before .«default-costs» .ensures)) in
     record { number = ap (λ (z : Progressed). z .progress .wrote) all; left = sym (ap (λ (z : Progressed). z .buffers) all); text = sym (ap (λ (z : Progressed). z .out) all) }
 
-pub timing-session-spec : {M : Type 1} → statement M
-timing-session-spec =
+pub rounds-session-spec : {M : Type 1} → statement M
+rounds-session-spec =
     tie.close
     (tie.spec
     default-costs-requires

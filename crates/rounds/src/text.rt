@@ -20,7 +20,7 @@ ghost use Rattle.lines.specs.Code.{readLine};
 ghost use Rattle.lines.specs.Pieces.{pieceOf};
 ghost use Rattle.lines.specs.Progress.{heldOn, progressOf};
 ghost use Rattle.lines.specs.Written.{answered, answeredOf};
-ghost use Rattle.timing.specs.Text.{echoOf, Sent};
+ghost use Rattle.rounds.specs.Text.{echoOf, Sent};
 
 // Whether a line is an operation's.
 fn echo(parsed: Parsed) -> Answer
@@ -37,7 +37,7 @@ fn echo(parsed: Parsed) -> Answer
 
 // A line is read, and an answer line written.
 #[no_mangle]
-pub extern "C" fn timing_line(line: &[u8], out: &mut [u8]) -> bool
+pub extern "C" fn rounds_line(line: &[u8], out: &mut [u8]) -> bool
     ensures { λ r. ⌜ answered r (now (out .exit)) ≡ answeredOf (now (out .entry)) (echoOf (readLine (now (line .entry)))) (newFuel true defaultCosts) ⌝ }
 {
     let parsed = read_line(line);
@@ -48,7 +48,7 @@ pub extern "C" fn timing_line(line: &[u8], out: &mut [u8]) -> bool
 
 // A session on a fresh machine over one piece: how many bytes of answers it wrote.
 #[no_mangle]
-pub extern "C" fn timing_session(
+pub extern "C" fn rounds_session(
     bytes: &mut [u8],
     cells: &mut [u64],
     items: &mut [u64],

@@ -6,7 +6,7 @@ use native.Mathlib.Omega.{arith}
 use Rattle.machine.specs.declared.records.Machine.{Machine}
 use Rattle.machine.specs.declared.operation.Operation.{Operation}
 use Rattle.lines.specs.declared.code.Parsed.{Parsed}
-use Rattle.timing.specs.Rounds.{Held, held, again, setUp, timedBy}
+use Rattle.rounds.specs.Rounds.{Held, held, again, setUp, timedBy}
 
 -- one round, then the rest
 pub round : (n : ℕ) (h : Held) (op : Operation) → 0 < n → again (n - 1) (again 1 h op) op ≡ again n h op

@@ -1,9 +1,9 @@
--- `timing::operate::set_up` meets its contract. Assumes nothing.
-use Rattle.timing.specs.Rounds.{setUp}
-use Rattle.timing.proofs.Again.{rounds}
+-- `rounds::operate::set_up` meets its contract. Assumes nothing.
+use Rattle.rounds.specs.Rounds.{setUp}
+use Rattle.rounds.proofs.Again.{rounds}
 use borrow.Author.Needs.{needs}
-use Rattle.timing.proofs.operate.set_up.Statement.{statement}
-use Rattle.timing.proofs.operate.set_up.Tie as tie
+use Rattle.rounds.proofs.operate.set_up.Statement.{statement}
+use Rattle.rounds.proofs.operate.set_up.Tie as tie
 
 places-requires : tie.Need-places-requires
 places-requires c κs = search needs

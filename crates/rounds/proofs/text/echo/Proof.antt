@@ -1,9 +1,9 @@
--- `timing::text::echo` meets its contract. Assumes nothing.
+-- `rounds::text::echo` meets its contract. Assumes nothing.
 use mathlib.Core.Path.{refl}
-use Rattle.timing.specs.Text.{echoOf}
+use Rattle.rounds.specs.Text.{echoOf}
 use borrow.Author.Needs.{needs}
-use Rattle.timing.proofs.text.echo.Statement.{statement}
-use Rattle.timing.proofs.text.echo.Tie as tie
+use Rattle.rounds.proofs.text.echo.Statement.{statement}
+use Rattle.rounds.proofs.text.echo.Tie as tie
 
 enum-told : tie.Need-enum-told
 enum-told c = search needs

@@ -1,12 +1,12 @@
--- `timing::operate::timing_operate` meets its contract. Assumes nothing.
+-- `rounds::operate::rounds_operate` meets its contract. Assumes nothing.
 use mathlib.Core.Path.{sym, ap, _∙_}
 use mathlib.Core.Bool.{true}
 use Rattle.machine.specs.Machine.{freshMachine}
-use Rattle.timing.specs.Rounds.{Held}
-use Rattle.timing.proofs.Again.{timed-from}
+use Rattle.rounds.specs.Rounds.{Held}
+use Rattle.rounds.proofs.Again.{timed-from}
 use borrow.Author.Needs.{needs}
-use Rattle.timing.proofs.operate.timing_operate.Statement.{statement}
-use Rattle.timing.proofs.operate.timing_operate.Tie as tie
+use Rattle.rounds.proofs.operate.rounds_operate.Statement.{statement}
+use Rattle.rounds.proofs.operate.rounds_operate.Tie as tie
 
 default-costs-requires : tie.Need-default-costs-requires
 default-costs-requires c κs = search needs
@@ -32,8 +32,8 @@ returns c =
     let all = timed-from (c .before .before .before .before .before .before .before .before .before .before .before .before .before .before .before .before .before .args .rounds) (c .before .before .before .before .before .before .before .before .before .before .before .before .before .before .before .before .before .args .instances) _ _ _ _ (c .before .before .before .before .before .before .before .timed .ensures) fresh in
     record { fuel = ap (λ (h : Held). h .machine .fuel .remaining) all; left = sym (ap (λ (h : Held). h .buffers) all) }
 
-pub timing-operate-spec : {M : Type 1} → statement M
-timing-operate-spec =
+pub rounds-operate-spec : {M : Type 1} → statement M
+rounds-operate-spec =
     tie.close
     (tie.spec
     default-costs-requires

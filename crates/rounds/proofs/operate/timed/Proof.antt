@@ -1,8 +1,8 @@
--- `timing::operate::timed` meets its contract. Assumes nothing.
-use Rattle.timing.proofs.Again.{timed-rounds}
+-- `rounds::operate::timed` meets its contract. Assumes nothing.
+use Rattle.rounds.proofs.Again.{timed-rounds}
 use borrow.Author.Needs.{needs}
-use Rattle.timing.proofs.operate.timed.Statement.{statement}
-use Rattle.timing.proofs.operate.timed.Tie as tie
+use Rattle.rounds.proofs.operate.timed.Statement.{statement}
+use Rattle.rounds.proofs.operate.timed.Tie as tie
 
 set-up-requires : tie.Need-set-up-requires
 set-up-requires c κs = search needs

@@ -1,9 +1,9 @@
--- `timing::operate::timed_by` meets its contract. Assumes nothing.
+-- `rounds::operate::timed_by` meets its contract. Assumes nothing.
 use mathlib.Core.Path.{refl}
-use Rattle.timing.specs.Rounds.{timedBy}
+use Rattle.rounds.specs.Rounds.{timedBy}
 use borrow.Author.Needs.{needs}
-use Rattle.timing.proofs.operate.timed_by.Statement.{statement}
-use Rattle.timing.proofs.operate.timed_by.Tie as tie
+use Rattle.rounds.proofs.operate.timed_by.Statement.{statement}
+use Rattle.rounds.proofs.operate.timed_by.Tie as tie
 
 enum-known-parsed : tie.Need-enum-known-parsed
 enum-known-parsed c = search needs

@@ -1,12 +1,12 @@
--- `timing::operate::repeat` meets its contract. Assumes nothing.
+-- `rounds::operate::repeat` meets its contract. Assumes nothing.
 use Prim.Native.Nat.{_-_}
 use mathlib.Core.Path.{_≡_, refl, ap, _∙_}
 use lib.ListN.{length}
 use borrow.Author.Needs.{needs}
-use Rattle.timing.specs.Rounds.{Held, held, again}
-use Rattle.timing.proofs.Again.{round, none}
-use Rattle.timing.proofs.operate.repeat.Statement.{statement}
-use Rattle.timing.proofs.operate.repeat.Tie as tie
+use Rattle.rounds.specs.Rounds.{Held, held, again}
+use Rattle.rounds.proofs.Again.{round, none}
+use Rattle.rounds.proofs.operate.repeat.Statement.{statement}
+use Rattle.rounds.proofs.operate.repeat.Tie as tie
 
 abbrev Inv-loop : tie.InvT-loop
 Inv-loop bytes₀ cells₀ items₀ op rounds next₀ left₀ bytes cells items next left =

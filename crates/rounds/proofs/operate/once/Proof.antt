@@ -1,10 +1,10 @@
--- `timing::operate::once` meets its contract. Assumes nothing.
+-- `rounds::operate::once` meets its contract. Assumes nothing.
 use mathlib.Core.Path.{ap}
 use Rattle.machine.specs.Step.{Stepped}
-use Rattle.timing.specs.Rounds.{behind, again}
+use Rattle.rounds.specs.Rounds.{behind, again}
 use borrow.Author.Needs.{needs}
-use Rattle.timing.proofs.operate.once.Statement.{statement}
-use Rattle.timing.proofs.operate.once.Tie as tie
+use Rattle.rounds.proofs.operate.once.Statement.{statement}
+use Rattle.rounds.proofs.operate.once.Tie as tie
 
 operate-requires : tie.Need-operate-requires
 operate-requires c κs = search needs

@@ -9,7 +9,7 @@ ghost use Rattle.machine.specs.Machine.{freshMachine};
 ghost use Rattle.base.specs.Fuel.{defaultCosts};
 ghost use Rattle.lines.specs.Code.{readLine};
 ghost use mathlib.Core.Bool.{true};
-ghost use Rattle.timing.specs.Rounds.{oneMemory, oneTable, oneSegment, held, again, places, setUp, timedBy, Timed};
+ghost use Rattle.rounds.specs.Rounds.{oneMemory, oneTable, oneSegment, held, again, places, setUp, timedBy, Timed};
 
 // Pages of one byte, 64 of them at first.
 fn one_memory() -> Operation
@@ -147,7 +147,7 @@ fn timed(
 
 // So many rounds of the line's operation, on a machine with so many memories, tables and segments. The result is the fuel left.
 #[no_mangle]
-pub extern "C" fn timing_operate(
+pub extern "C" fn rounds_operate(
     bytes: &mut [u8],
     cells: &mut [u64],
     items: &mut [u64],
