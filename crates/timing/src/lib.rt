@@ -1,5 +1,4 @@
 // Exports for the benches only: each builds the records of one operation from numbers, and leaves what a host would keep.
-
 use base::fuel::Fuel;
 use base::fuel::FuelCosts;
 use base::fuel::FuelStep;
