@@ -1,0 +1,28 @@
+-- The claims hold. Assumes nothing.
+use Rattle.machine.proofs.Kept.{step-sound, fresh-sound}
+use Rattle.machine.proofs.Apart.{others-stay, only-sizes}
+use Rattle.claims.specs.Claims.{Claims}
+use Rattle.claims.proofs.Exits.{answer-or-refusal, refusal-leaves, accepted-when, accepted-does}
+use Rattle.claims.proofs.Bound.{byte-bound}
+use Rattle.claims.proofs.Reached.{bound-reached}
+use Rattle.claims.proofs.Ledger.{ledger}
+use Rattle.claims.proofs.Alike.{alike}
+use Rattle.claims.proofs.Never.{never-unsound}
+
+pub claims : Claims
+claims =
+    record {
+      answer-or-refusal = answer-or-refusal;
+      refusal-leaves = refusal-leaves;
+      accepted-when = accepted-when;
+      accepted-does = accepted-does;
+      byte-bound = byte-bound;
+      bound-reached = bound-reached;
+      ledger = ledger;
+      others-stay = others-stay;
+      only-sizes = only-sizes;
+      alike = alike;
+      fresh-sound = fresh-sound;
+      stays-sound = step-sound;
+      never-unsound = never-unsound;
+    }

@@ -1,0 +1,15 @@
+pub mod Exit
+pub mod Exiting
+pub mod MemoryExits
+pub mod TableExiting
+pub mod TableGrowth
+pub mod TableExits
+pub mod Exits
+pub mod Never
+pub mod Bound
+pub mod Reached
+pub mod Growing
+pub mod Beside
+pub mod Ledger
+pub mod Alike
+pub mod Claims

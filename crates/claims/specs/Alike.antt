@@ -1,0 +1,64 @@
+-- Document 01, "The machine": an operation's answer depends on the instances that it names, and on others only through fuel, script, room, numbers and segments.
+use Prim.Native.Nat.{ℕ, _-_}
+use mathlib.Core.Path.{_≡_}
+use lib.ListN.{length}
+use Rattle.base.specs.Span.{cut}
+use Rattle.machine.specs.Machine.{Buffers, memoryAt, tableAt, nextByte, nextCell, nextItem}
+use Rattle.machine.specs.Step.{Stepped}
+use Rattle.machine.specs.declared.records.Machine.{Machine}
+use Rattle.machine.specs.declared.operation.Operation.{Operation}
+use Rattle.machine.specs.declared.operation.Operation.the-variants.{Make, SetFuel, GetFuel, Charge, SetLimiter, NewMemory, GrowMemory, MemorySize, Load, Store, NewTable, GrowTable, TableSize, TableGet, TableSet, TableFill, TableCopy, TableInit, DropSegment, NewSegment, LinkCheck}
+
+-- a memory of two machines: its type, room, size and bytes, wherever it stands
+pub record SameMemory (m : Machine) (b : Buffers) (m′ : Machine) (b′ : Buffers) (i : ℕ) : Type 0 where
+  pub ty : memoryAt m i .ty ≡ memoryAt m′ i .ty
+  pub room : memoryAt m i .room ≡ memoryAt m′ i .room
+  pub size : memoryAt m i .size ≡ memoryAt m′ i .size
+  pub bytes : cut (b .bytes) (memoryAt m i .start) (memoryAt m i .size) ≡ cut (b′ .bytes) (memoryAt m′ i .start) (memoryAt m′ i .size)
+
+-- a table of two machines
+pub record SameTable (m : Machine) (b : Buffers) (m′ : Machine) (b′ : Buffers) (i : ℕ) : Type 0 where
+  pub ty : tableAt m i .ty ≡ tableAt m′ i .ty
+  pub room : tableAt m i .room ≡ tableAt m′ i .room
+  pub size : tableAt m i .size ≡ tableAt m′ i .size
+  pub cells : cut (b .cells) (tableAt m i .start) (tableAt m i .size) ≡ cut (b′ .cells) (tableAt m′ i .start) (tableAt m′ i .size)
+
+-- fuel, script, numbers, room left, segments
+pub record SameRest (m : Machine) (b : Buffers) (m′ : Machine) (b′ : Buffers) : Type 0 where
+  pub fuel : m .fuel ≡ m′ .fuel
+  pub limiter : m .limiter ≡ m′ .limiter
+  pub counts : m .counts ≡ m′ .counts
+  pub bytes : length (b .bytes) - nextByte m ≡ length (b′ .bytes) - nextByte m′
+  pub cells : length (b .cells) - nextCell m ≡ length (b′ .cells) - nextCell m′
+  pub segments : m .segments ≡ m′ .segments
+  pub items : b .items ≡ b′ .items
+
+-- the instances that an operation names are the same: of a copy both tables
+unfoldable pub SameNamed : Machine → Buffers → Machine → Buffers → Operation → Type 0
+SameNamed m b m′ b′ (Make metering copied) = Unit
+SameNamed m b m′ b′ (SetFuel amount) = Unit
+SameNamed m b m′ b′ GetFuel = Unit
+SameNamed m b m′ b′ (Charge units) = Unit
+SameNamed m b m′ b′ (SetLimiter count digits) = Unit
+SameNamed m b m′ b′ (NewMemory room wide bounded minimum maximum exponent) = Unit
+SameNamed m b m′ b′ (GrowMemory memory pages) = SameMemory m b m′ b′ memory
+SameNamed m b m′ b′ (MemorySize memory) = SameMemory m b m′ b′ memory
+SameNamed m b m′ b′ (Load memory kind pointer offset) = SameMemory m b m′ b′ memory
+SameNamed m b m′ b′ (Store memory kind pointer offset bits) = SameMemory m b m′ b′ memory
+SameNamed m b m′ b′ (NewTable room kind wide bounded minimum maximum initial bits) = Unit
+SameNamed m b m′ b′ (GrowTable table cells kind bits) = SameTable m b m′ b′ table
+SameNamed m b m′ b′ (TableSize table) = SameTable m b m′ b′ table
+SameNamed m b m′ b′ (TableGet table index) = SameTable m b m′ b′ table
+SameNamed m b m′ b′ (TableSet table index kind bits) = SameTable m b m′ b′ table
+SameNamed m b m′ b′ (TableFill table start kind bits len) = SameTable m b m′ b′ table
+SameNamed m b m′ b′ (TableCopy into to source from len) = SameTable m b m′ b′ into × SameTable m b m′ b′ source
+SameNamed m b m′ b′ (TableInit table segment to from len) = SameTable m b m′ b′ table
+SameNamed m b m′ b′ (DropSegment segment) = Unit
+SameNamed m b m′ b′ (NewSegment kind count first second third fourth) = Unit
+SameNamed m b m′ b′ (LinkCheck memory wide bounded minimum maximum exponent) = SameMemory m b m′ b′ memory
+
+-- two outcomes that a host cannot tell apart: answer, fuel and script
+pub record SameOutcome (s s′ : Stepped) : Type 0 where
+  pub answer : s .answer ≡ s′ .answer
+  pub fuel : s .machine .fuel ≡ s′ .machine .fuel
+  pub limiter : s .machine .limiter ≡ s′ .machine .limiter

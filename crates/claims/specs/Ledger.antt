@@ -1,0 +1,114 @@
+-- Demand 3's ledger: the amount last set and the charges since, from the operations, their answers and the limiter's alone.
+use Prim.Native.Nat.{ℕ, _+_, _-_, _*_, _^_}
+use mathlib.Core.Bool.{Bool, true, false}
+use mathlib.Core.List.{List, [], _∷_, _++_}
+use lib.Dec.{eqb, leb, ltb}
+use lib.ListN.{getD, set}
+use Rattle.base.specs.Pick.{pick, both}
+use Rattle.base.specs.Price.{price}
+use Rattle.base.specs.Answer.{numberOf}
+use Rattle.base.specs.Limiter.{saysOf}
+use Rattle.base.specs.declared.answer.Answer.{Answer}
+use Rattle.types.specs.Limits.{admitsOf}
+use Rattle.types.specs.declared.limits.Limits.{Limits}
+use Rattle.machine.specs.Machine.{Buffers, noLimits}
+use Rattle.machine.specs.Operation.{limitsOf}
+use Rattle.machine.specs.Step.{step}
+use Rattle.machine.specs.declared.records.Machine.{Machine}
+use Rattle.machine.specs.declared.operation.Operation.{Operation}
+use Rattle.machine.specs.declared.operation.Operation.the-variants.{Make, SetFuel, GetFuel, Charge, SetLimiter, NewMemory, GrowMemory, MemorySize, Load, Store, NewTable, GrowTable, TableSize, TableGet, TableSet, TableFill, TableCopy, TableInit, DropSegment, NewSegment, LinkCheck}
+use Rattle.claims.specs.Answers.{accepted}
+use Rattle.claims.specs.Metered.{grants}
+
+-- what the accepted creations and growths say of a table: its limits as asked for, and its size
+pub record Row : Type 0 where
+  pub limits : Limits
+  pub size : ℕ
+
+-- the amount last set, the charges since, the bytes of a page of each memory made so far, and the tables
+pub record Book : Type 0 where
+  pub set : ℕ
+  pub since : ℕ
+  pub pages : List ℕ
+  pub tables : List Row
+
+abbrev pub blank : Book
+blank = record { set = 0; since = 0; pages = []; tables = [] }
+
+-- what is left by the book
+abbrev pub left : Book → ℕ
+left k = k .set - k .since
+
+abbrev pub charged : Book → ℕ → Book
+charged k n = record { set = k .set; since = k .since + n; pages = k .pages; tables = k .tables }
+
+abbrev pub withPages : Book → List ℕ → Book
+withPages k pages = record { set = k .set; since = k .since; pages = pages; tables = k .tables }
+
+abbrev pub withTables : Book → List Row → Book
+withTables k rows = record { set = k .set; since = k .since; pages = k .pages; tables = rows }
+
+abbrev pub rowAt : Book → ℕ → Row
+rowAt k i = getD (k .tables) i (record { limits = noLimits; size = 0 })
+
+-- a growth refused with 4 had paid where the limiter granted it, the type admits the size and the price was there
+unfoldable pub erred : Book → ℕ → Bool → ℕ → Bool
+erred k said admits p = both (grants said) (both admits (leb p (left k)))
+
+-- what a growth took: its price where it is accepted, at 8, and at 4 in the notice after 8
+unfoldable pub growthCharge : Book → Answer → ℕ → Bool → ℕ → ℕ
+growthCharge k a said admits p =
+    pick (accepted a) p
+    (pick (eqb (numberOf a) 8) p (pick (both (eqb (numberOf a) 4) (erred k said admits p)) p 0))
+
+-- a table after an accepted growth by n
+unfoldable pub grown : Book → ℕ → ℕ → Answer → Book
+grown k i n a =
+    pick (accepted a) (withTables k (set (k .tables) i (record { limits = rowAt k i .limits; size = rowAt k i .size + n }))) k
+
+-- the book after one operation of which the answer, and the limiter's answer to its question, are told
+unfoldable pub entry : ℕ → ℕ → Book → Operation → Answer → ℕ → Book
+entry r b k (Make metering copied) a said = k
+entry r b k (SetFuel amount) a said = pick (accepted a) (record { set = amount; since = 0; pages = k .pages; tables = k .tables }) k
+entry r b k GetFuel a said = k
+entry r b k (Charge units) a said = pick (accepted a) (charged k units) k
+entry r b k (SetLimiter count digits) a said = k
+entry r b k (NewMemory room wide bounded minimum maximum exponent) a said =
+    pick (accepted a) (withPages k (k .pages ++ (2 ^ exponent ∷ []))) k
+entry r b k (GrowMemory memory pages) a said =
+    pick (ltb 0 pages) (charged k (growthCharge k a said true (price b (pages * getD (k .pages) memory 0)))) k
+entry r b k (MemorySize memory) a said = k
+entry r b k (Load memory kind pointer offset) a said = k
+entry r b k (Store memory kind pointer offset bits) a said = k
+entry r b k (NewTable room kind wide bounded minimum maximum initial bits) a said =
+    pick (accepted a) (withTables k (k .tables ++ (record { limits = limitsOf bounded minimum maximum; size = minimum } ∷ []))) k
+entry r b k (GrowTable table cells kind bits) a said =
+    pick (ltb 0 cells)
+    (grown
+    (charged k (growthCharge k a said (admitsOf (rowAt k table .limits) (rowAt k table .size + cells)) (price b (cells * r))))
+    table
+    cells
+    a)
+    k
+entry r b k (TableSize table) a said = k
+entry r b k (TableGet table index) a said = k
+entry r b k (TableSet table index kind bits) a said = k
+entry r b k (TableFill table start kind bits len) a said = pick (accepted a) (charged k (price b (len * r))) k
+entry r b k (TableCopy into to source from len) a said = pick (accepted a) (charged k (price b (len * r))) k
+entry r b k (TableInit table segment to from len) a said =
+    pick (both (ltb 0 len) (accepted a)) (charged k (price b (len * r))) k
+entry r b k (DropSegment segment) a said = k
+entry r b k (NewSegment kind count first second third fourth) a said = k
+entry r b k (LinkCheck memory wide bounded minimum maximum exponent) a said = k
+
+-- the limiter's answers to the questions of a run's operations
+unfoldable pub saidTo : ℕ → Machine → Buffers → List Operation → List ℕ
+saidTo r m b [] = []
+saidTo r m b (op ∷ ops) = saysOf (m .limiter) ∷ saidTo r (step r m b op .machine) (step r m b op .buffers) ops
+
+-- the whole book: R, B, the operations, their answers and the limiter's, and nothing of the machine
+unfoldable pub book : ℕ → ℕ → Book → List Operation → List Answer → List ℕ → Book
+book r b k [] answers said = k
+book r b k (op ∷ ops) [] said = k
+book r b k (op ∷ ops) (a ∷ answers) [] = k
+book r b k (op ∷ ops) (a ∷ answers) (s ∷ said) = book r b (entry r b k op a s) ops answers said

@@ -1,0 +1,9 @@
+pub mod Answers
+pub mod Metered
+pub mod Refused
+pub mod Occasions
+pub mod Effects
+pub mod Bound
+pub mod Ledger
+pub mod Alike
+pub mod Claims

@@ -1,0 +1,110 @@
+-- Document 01, "Fuel" and "First check wins": which operations meet the fuel step, the bytes and the price of each, and which pass it.
+use Prim.Native.Nat.{ℕ, _*_}
+use mathlib.Core.Bool.{Bool, true, false}
+use lib.Dec.{eqb, leb, ltb}
+use Rattle.base.specs.Pick.{pick, both}
+use Rattle.base.specs.Price.{price}
+use Rattle.base.specs.Answer.{numberOf}
+use Rattle.base.specs.Limiter.{noLimiter, saysOf}
+use Rattle.types.specs.MemoryType.{pageBytes}
+use Rattle.machine.specs.Machine.{Buffers, memoryAt}
+use Rattle.machine.specs.Outcome.{metered}
+use Rattle.machine.specs.Step.{step}
+use Rattle.machine.specs.declared.records.Machine.{Machine}
+use Rattle.machine.specs.declared.operation.Operation.{Operation}
+use Rattle.machine.specs.declared.operation.Operation.the-variants.{Make, SetFuel, GetFuel, Charge, SetLimiter, NewMemory, GrowMemory, MemorySize, Load, Store, NewTable, GrowTable, TableSize, TableGet, TableSet, TableFill, TableCopy, TableInit, DropSegment, NewSegment, LinkCheck}
+use Rattle.claims.specs.Answers.{accepted}
+
+-- what an operation has to do with fuel
+pub data Metering : Type 0 where
+  Free : Metering
+  Sets : ℕ → Metering
+  Charges : ℕ → Metering
+  GrowsPages : ℕ → ℕ → Metering
+  GrowsCells : ℕ → ℕ → Metering
+  Spans : ℕ → Metering
+  Inits : ℕ → Metering
+
+unfoldable pub meteringOf : Operation → Metering
+meteringOf (Make metering copied) = Free
+meteringOf (SetFuel amount) = Sets amount
+meteringOf GetFuel = Free
+meteringOf (Charge units) = Charges units
+meteringOf (SetLimiter count digits) = Free
+meteringOf (NewMemory room wide bounded minimum maximum exponent) = Free
+meteringOf (GrowMemory memory pages) = GrowsPages memory pages
+meteringOf (MemorySize memory) = Free
+meteringOf (Load memory kind pointer offset) = Free
+meteringOf (Store memory kind pointer offset bits) = Free
+meteringOf (NewTable room kind wide bounded minimum maximum initial bits) = Free
+meteringOf (GrowTable table cells kind bits) = GrowsCells table cells
+meteringOf (TableSize table) = Free
+meteringOf (TableGet table index) = Free
+meteringOf (TableSet table index kind bits) = Free
+meteringOf (TableFill table start kind bits len) = Spans len
+meteringOf (TableCopy into to source from len) = Spans len
+meteringOf (TableInit table segment to from len) = Inits len
+meteringOf (DropSegment segment) = Free
+meteringOf (NewSegment kind count first second third fourth) = Free
+meteringOf (LinkCheck memory wide bounded minimum maximum exponent) = Free
+
+-- growths, fills, copies and inits meet the fuel step, but for a growth by 0 and an init of length 0
+unfoldable pub meets : Metering → Bool
+meets Free = false
+meets (Sets amount) = false
+meets (Charges units) = false
+meets (GrowsPages memory pages) = ltb 0 pages
+meets (GrowsCells table cells) = ltb 0 cells
+meets (Spans len) = true
+meets (Inits len) = ltb 0 len
+
+unfoldable pub grows : Metering → Bool
+grows Free = false
+grows (Sets amount) = false
+grows (Charges units) = false
+grows (GrowsPages memory pages) = true
+grows (GrowsCells table cells) = true
+grows (Spans len) = false
+grows (Inits len) = false
+
+-- the byte length: a reference counts R bytes, a page those of its memory
+unfoldable pub lengthOf : ℕ → Machine → Metering → ℕ
+lengthOf r m Free = 0
+lengthOf r m (Sets amount) = 0
+lengthOf r m (Charges units) = 0
+lengthOf r m (GrowsPages memory pages) = pages * pageBytes (memoryAt m memory .ty .page)
+lengthOf r m (GrowsCells table cells) = cells * r
+lengthOf r m (Spans len) = len * r
+lengthOf r m (Inits len) = len * r
+
+abbrev pub bytesOf : ℕ → Machine → Operation → ℕ
+bytesOf r m op = lengthOf r m (meteringOf op)
+
+abbrev pub priceOf : ℕ → Machine → Operation → ℕ
+priceOf r m op = price (m .fuel .costs .copied) (bytesOf r m op)
+
+-- what is left pays a price; with metering off every price is paid
+unfoldable pub affords : Machine → ℕ → Bool
+affords m p = pick (m .fuel .enabled) (leb p (m .fuel .remaining)) true
+
+-- the limiter's answer to a question: neither no nor its own error
+unfoldable pub grants : ℕ → Bool
+grants said = pick (eqb said 1) false (pick (eqb said 2) false true)
+
+-- the same machine without a limiter
+abbrev pub unlimited : Machine → Machine
+unlimited m = metered m (m .fuel) noLimiter
+
+-- 4 in the notice after 8: the limiter granted the growth, and without a limiter the answer is 8
+unfoldable pub erredAfter8 : ℕ → Machine → Buffers → Operation → Bool
+erredAfter8 r m b op =
+    both (eqb (numberOf (step r m b op .answer)) 4)
+    (both (grants (saysOf (m .limiter))) (eqb (numberOf (step r (unlimited m) b op .answer)) 8))
+
+-- a growth that paid and is refused: at 8, or at 4 in the notice after 8
+unfoldable pub paidRefusal : ℕ → Machine → Buffers → Operation → Bool
+paidRefusal r m b op = both (grows (meteringOf op)) (pick (eqb (numberOf (step r m b op .answer)) 8) true (erredAfter8 r m b op))
+
+-- it passes the fuel step: accepted, or refused after it had paid
+unfoldable pub passes : ℕ → Machine → Buffers → Operation → Bool
+passes r m b op = both (meets (meteringOf op)) (pick (accepted (step r m b op .answer)) true (paidRefusal r m b op))
