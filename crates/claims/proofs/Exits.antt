@@ -23,11 +23,12 @@ use Rattle.machine.specs.declared.records.Machine.{Machine}
 use Rattle.machine.specs.declared.operation.Operation.{Operation}
 use Rattle.machine.specs.declared.operation.Operation.the-variants.{Make, SetFuel, GetFuel, Charge, SetLimiter, NewMemory, GrowMemory, MemorySize, Load, Store, NewTable, GrowTable, TableSize, TableGet, TableSet, TableFill, TableCopy, TableInit, DropSegment, NewSegment, LinkCheck}
 use Rattle.claims.specs.Answers.{accepted, listed, valueOrListed}
-use Rattle.claims.specs.Metered.{meteringOf, grows, priceOf, erredAfter8, paidRefusal}
+use Rattle.claims.specs.Metered.{priceOf, paidRefusal}
 use Rattle.claims.specs.Refused.{Leaves}
 use Rattle.claims.specs.Occasions.{occasion, acceptedWhen}
 use Rattle.claims.specs.Effects.{worth, does}
 use Rattle.claims.proofs.Exit.{Exit, accepts, refuses}
+use Rattle.claims.proofs.Exiting.{unpaid}
 use Rattle.claims.proofs.MemoryExits.{make-exit, set-fuel-exit, get-fuel-exit, charge-exit, set-limiter-exit, new-memory-exit, grow-memory-exit, memory-size-exit, load-exit, store-exit, link-check-exit}
 use Rattle.claims.proofs.TableExits.{new-table-exit, grow-table-exit, table-size-exit, table-get-exit, table-set-exit, table-fill-exit, table-copy-exit, table-init-exit, drop-segment-exit, new-segment-exit}
 
@@ -73,13 +74,6 @@ pub record Refusals (r : ℕ) (m : Machine) (b : Buffers) (op : Operation) (x : 
 pub data Ending (r : ℕ) (m : Machine) (b : Buffers) (op : Operation) : Type 0 where
   accepting : acceptedWhen r m b op ≡ true → step r m b op ≡ does r m b op → Ending r m b op
   refusing : (x : Refusal) (f : Fuel) (l : Limiter) → Refusals r m b op x f l → Ending r m b op
-
--- a refusal with another number than 8 and 4 has not paid
-unpaid : (r : ℕ) (m : Machine) (b : Buffers) (op : Operation) (n : ℕ) → numberOf (step r m b op .answer) ≡ n → eqb n 8 ≡ false → eqb n 4 ≡ false
-    → paidRefusal r m b op ≡ false
-unfolding paidRefusal erredAfter8
-unpaid r m b op n e p q =
-    both-right _ _ (pick-false _ _ _ (ap (λ (k : ℕ). eqb k 8) e ∙ p) ∙ both-left _ _ (ap (λ (k : ℕ). eqb k 4) e ∙ q))
 
 -- 18 and 19 leave everything
 refused-first : (r : ℕ) (m : Machine) (b : Buffers) (op : Operation) (n : ℕ) → decide r m b op ≡ answers m b (refuse n 0)
