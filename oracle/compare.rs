@@ -8,8 +8,9 @@ use std::path::{Path, PathBuf};
 use std::process::{Command, ExitCode};
 
 const USAGE: &str = "\
-usage: compare SESSION ORACLE FOLDER COUNT
+usage: compare [--cells] SESSION ORACLE FOLDER COUNT
 runs SESSION and ORACLE on the same operation files, written in FOLDER, until COUNT operations are compared
+with --cells, ORACLE is told to write the final cells after the answers, SESSION must do so, and they are compared too
 ";
 
 /// The lines of a file by chance: from FEWEST on, SPREAD different counts; one file in LONG_EACH has LONG lines.
@@ -17,6 +18,8 @@ const FEWEST: u64 = 200;
 const SPREAD: u64 = 1800;
 const LONG_EACH: u64 = 100;
 const LONG: u64 = 20_000;
+/// The most bytes that a program which writes final cells takes; longer files are left out of that comparison.
+const MOST_BYTES: usize = 262_144;
 
 /// Why a comparison ends early.
 enum End {
@@ -29,8 +32,8 @@ fn broken(what: impl Display, error: impl Display) -> End {
     End::Broken(format!("{what}: {error}"))
 }
 
-fn length_of(seed: u64) -> u64 {
-    if seed % LONG_EACH == 0 { LONG } else { FEWEST + seed * 7919 % SPREAD }
+fn length_of(seed: u64, cells: bool) -> u64 {
+    if seed % LONG_EACH == 0 && !cells { LONG } else { FEWEST + seed * 7919 % SPREAD }
 }
 
 /// How often each answer number came for each code, both as text; malformed lines stand under `--`.
@@ -39,6 +42,10 @@ struct Tally {
     compared: u64,
     skipped: u64,
     files: u64,
+    /// The last seed of a file by chance.
+    seed: u64,
+    bytes: u64,
+    references: u64,
     came: BTreeMap<String, BTreeMap<String, u64>>,
 }
 
@@ -50,8 +57,14 @@ impl Tally {
         self.compared += 1;
     }
 
-    fn print(&self) {
-        println!("{} operations compared in {} files, {} not compared", self.compared, self.files, self.skipped);
+    fn print(&self, cells: bool) {
+        println!(
+            "{} operations compared in {} files (seeds to {}), {} not compared",
+            self.compared, self.files, self.seed, self.skipped
+        );
+        if cells {
+            println!("{} bytes of memories and {} cells of tables compared after them", self.bytes, self.references);
+        }
         let mut totals: BTreeMap<&str, u64> = BTreeMap::new();
         println!("code: how often (answer number: how often); -- are malformed lines");
         for (code, numbers) in &self.came {
@@ -78,6 +91,7 @@ fn lines(text: &[u8]) -> impl Iterator<Item = &[u8]> {
 }
 
 struct Comparison {
+    cells: bool,
     session: PathBuf,
     oracle: PathBuf,
     folder: PathBuf,
@@ -85,9 +99,10 @@ struct Comparison {
 }
 
 impl Comparison {
-    fn answers(&self, program: &Path, file: &Path) -> Result<Vec<u8>, End> {
+    fn answers(&self, program: &Path, arguments: &[&str], file: &Path) -> Result<Vec<u8>, End> {
         let input = File::open(file).map_err(|error| broken(file.display(), error))?;
-        let done = Command::new(program).stdin(input).output().map_err(|error| broken(program.display(), error))?;
+        let done = Command::new(program).args(arguments).stdin(input).output();
+        let done = done.map_err(|error| broken(program.display(), error))?;
         if done.status.success() {
             return Ok(done.stdout);
         }
@@ -97,10 +112,13 @@ impl Comparison {
 
     /// Compares one file, which stays in the folder if there is a difference.
     fn compare(&mut self, short: &Short) -> Result<(), End> {
+        if self.cells && short.text.len() > MOST_BYTES {
+            return Ok(());
+        }
         let file = self.folder.join(&short.name);
         fs::write(&file, &short.text).map_err(|error| broken(file.display(), error))?;
-        let session = self.answers(&self.session, &file)?;
-        let oracle = self.answers(&self.oracle, &file)?;
+        let session = self.answers(&self.session, &[], &file)?;
+        let oracle = self.answers(&self.oracle, if self.cells { &["cells"] } else { &[] }, &file)?;
         self.compare_answers(short, &session, &oracle)
             .map_err(|what| End::Difference(format!("{}, {what}", file.display())))?;
         self.tally.files += 1;
@@ -121,8 +139,38 @@ impl Comparison {
                 return Err(format!("line {}: {shown}\n  session {}\n  oracle  {}", place + 1, text(our), text(their)));
             }
         }
+        if self.cells {
+            self.compare_cells(&mut ours, &mut theirs)?;
+        }
         if ours.next().is_some() || (session.last() != oracle.last()) {
             return Err("after the last line: more answers than lines, or a last answer without LF".to_string());
+        }
+        Ok(())
+    }
+
+    /// What follows the answers: a head for each memory and table, and its cells.
+    fn compare_cells<'a>(
+        &mut self,
+        ours: &mut impl Iterator<Item = &'a [u8]>,
+        theirs: &mut impl Iterator<Item = &'a [u8]>,
+    ) -> Result<(), String> {
+        let mut head = String::new();
+        let mut place = 0;
+        for their in theirs {
+            let our = ours.next().unwrap_or(b"(nothing)");
+            place += 1;
+            let is_head = their.starts_with(b"memory") || their.starts_with(b"table");
+            if is_head {
+                (head, place) = (text(their), 0);
+            }
+            if our != their {
+                return Err(format!("{head}, line {place}\n  session {}\n  oracle  {}", text(our), text(their)));
+            }
+            if head.starts_with('m') && !is_head {
+                self.tally.bytes += their.len() as u64 / 2;
+            } else if !is_head {
+                self.tally.references += 1;
+            }
         }
         Ok(())
     }
@@ -134,11 +182,11 @@ impl Comparison {
                 self.compare(&short)?;
             }
         }
-        let mut seed = 0;
         while self.tally.compared < count {
-            seed += 1;
+            self.tally.seed += 1;
+            let seed = self.tally.seed;
             let (name, kind) = KINDS[(seed % KINDS.len() as u64) as usize];
-            let length = length_of(seed);
+            let length = length_of(seed, self.cells);
             let text = files::file(seed, length as usize, kind);
             self.compare(&Short { name: format!("{name}-{seed}-{length}"), text })?;
         }
@@ -146,12 +194,12 @@ impl Comparison {
     }
 }
 
-fn run(session: &str, oracle: &str, folder: &str, count: u64) -> ExitCode {
+fn run(cells: bool, session: &str, oracle: &str, folder: &str, count: u64) -> ExitCode {
     files::hush_expected_panics();
-    let mut comparison =
-        Comparison { session: session.into(), oracle: oracle.into(), folder: folder.into(), tally: Tally::default() };
+    let [session, oracle, folder] = [session, oracle, folder].map(PathBuf::from);
+    let mut comparison = Comparison { cells, session, oracle, folder, tally: Tally::default() };
     let result = comparison.run(count);
-    comparison.tally.print();
+    comparison.tally.print(cells);
     match result {
         Ok(()) => {
             println!("no difference");
@@ -170,7 +218,11 @@ fn run(session: &str, oracle: &str, folder: &str, count: u64) -> ExitCode {
 
 fn main() -> ExitCode {
     let arguments: Vec<String> = std::env::args().skip(1).collect();
-    let arguments: Vec<&str> = arguments.iter().map(String::as_str).collect();
+    let mut arguments: Vec<&str> = arguments.iter().map(String::as_str).collect();
+    let cells = arguments.first() == Some(&"--cells");
+    if cells {
+        arguments.remove(0);
+    }
     match arguments[..] {
         ["-h" | "--help"] => {
             print!("{USAGE}");
@@ -178,7 +230,7 @@ fn main() -> ExitCode {
         }
         [session, oracle, folder, count] => {
             if let Ok(count) = count.parse() {
-                return run(session, oracle, folder, count);
+                return run(cells, session, oracle, folder, count);
             }
         }
         _ => {}

@@ -189,7 +189,8 @@ fn low(value: i32) -> u64 {
     u64::from(value as u32)
 }
 
-fn load(bytes: &[u8], kind: u64, pointer: u64, offset: u64) -> Result<u64, TrapCode> {
+/// The crate's load of a kind, as the bits of its value.
+pub fn load(bytes: &[u8], kind: u64, pointer: u64, offset: u64) -> Result<u64, TrapCode> {
     Ok(match kind {
         0 => u64::from(wasm::load_u32(bytes, pointer, offset)?),
         1 => wasm::load_u64(bytes, pointer, offset)?,
@@ -208,7 +209,8 @@ fn load(bytes: &[u8], kind: u64, pointer: u64, offset: u64) -> Result<u64, TrapC
     })
 }
 
-fn store(bytes: &mut [u8], kind: u64, pointer: u64, offset: u64, bits: u64) -> Result<(), TrapCode> {
+/// The crate's store of a kind.
+pub fn store(bytes: &mut [u8], kind: u64, pointer: u64, offset: u64, bits: u64) -> Result<(), TrapCode> {
     match kind {
         0 => wasm::store32(bytes, pointer, offset, bits as u32),
         1 => wasm::store64(bytes, pointer, offset, bits),
@@ -322,6 +324,27 @@ impl Machine {
 
     pub fn segment_views(&self) -> impl Iterator<Item = SegmentView> {
         self.segments.iter().map(|it| SegmentView { size: u64::from(it.size()), kind: it.ty() })
+    }
+
+    /// The cells of every memory and table as lines: a head with number and size, then 32 bytes a line or a reference a line.
+    pub fn cell_lines(&self) -> String {
+        let mut text = String::new();
+        for (number, place) in self.memories.iter().enumerate() {
+            let bytes = place.live().data();
+            text += &format!("memory {number:x} {:016x}\n", bytes.len());
+            for line in bytes.chunks(32) {
+                line.iter().for_each(|byte| text += &format!("{byte:02x}"));
+                text += "\n";
+            }
+        }
+        for (number, place) in self.tables.iter().enumerate() {
+            let size = place.table.size();
+            text += &format!("table {number:x} {size:016x}\n");
+            for cell in (0..size).map(|index| place.table.get(index).expect("below the size")) {
+                text += &format!("{:016x}\n", self.references.bits(cell.raw()));
+            }
+        }
+        text
     }
 
     pub fn bytes_free(&self) -> u64 {
