@@ -1,5 +1,5 @@
 -- Laws of a run over a piece: what its loop keeps, and its ways out. Assumes nothing.
-use mathlib.Core.Path.{_≡_, refl, sym, ap, _∙_}
+use mathlib.Core.Path.{_≡_, refl, sym, ap, subst, _∙_}
 use mathlib.Core.Bool.{Bool, true, false}
 use mathlib.Core.List.{List, [], _∷_, _++_}
 use Prim.Native.Nat.{ℕ, zero, suc, _+_, _-_, _*_, _/_, _^_, _<_, _≤_}
@@ -9,50 +9,72 @@ use lib.ListN.{length, take, drop, length-append, length-drop}
 use lib.Seq.{drop-drop}
 use borrow.Author.Tests.{ltb-true, ltb-false, lt-ltb, le-ltb, le-leb, lt-leb}
 use Rattle.base.specs.Pick.{pick, both}
-use Rattle.base.specs.Answer.{refuse}
+use Rattle.base.specs.Answer.{refuse, accept}
 use Rattle.base.specs.Span.{over}
 use Rattle.types.specs.Raw.{rawBytes}
-use Rattle.machine.specs.Machine.{Buffers}
-use Rattle.machine.specs.Step.{Stepped, step}
+use Rattle.machine.specs.Machine.{Buffers, freshMachine}
+use Rattle.machine.specs.Operation.{yes, wellFormed}
+use Rattle.machine.specs.Outcome.{changed, settled}
+use Rattle.machine.specs.Step.{Stepped, decide, step}
 use Rattle.machine.specs.declared.records.Machine.{Machine}
 use Rattle.machine.specs.declared.operation.Operation.{Operation}
-use Rattle.base.proofs.Picks.{pick-true, pick-false, both-2, either}
+use Rattle.base.proofs.Picks.{pick-true, pick-false, both-left, both-then, both-2, either}
 use Rattle.base.proofs.Spans.{over-nil, over-over, length-over}
 use Rattle.lines.specs.Line.{lineOf, at}
 use Rattle.lines.specs.Code.{operationOf}
 use Rattle.lines.specs.AnswerLine.{answerLine}
-use Rattle.lines.specs.Session.{Held, Turn, turned, makes, operated, turnBy, turnOf, textOf}
+use Rattle.lines.specs.Session.{Held, Turn, turned, makes, costsOf, madeOf, operated, turnBy, turnOf, textOf}
 use Rattle.lines.specs.Pieces.{lfAt, overlong, Run, still, ahead, wholeLines, closeOf, pieceOf}
-use Rattle.lines.specs.Progress.{Progressed, sessionAs, skipping, endOf, progressOf, WholeRan, closedOf}
+use Rattle.lines.specs.Progress.{orMake, operationIn, Progressed, sessionAs, skipping, endOf, progressOf, WholeRan, closedOf}
 use Rattle.lines.specs.declared.line.Line.{Line}
 use Rattle.lines.specs.declared.code.Parsed.{Parsed}
 use Rattle.lines.specs.declared.code.Parsed.the-variants.{Good, Malformed}
 use Rattle.lines.specs.declared.session.Progress.{Progress}
 use Rattle.lines.proofs.Pieces.{length-text, piece-used, piece-wrote, piece-moves}
 
--- a line that makes a machine has its fields in range
-pub made-room : (t : Bool) (w : Line) {b : Bool} → b ≡ both t (makes w) → b ≡ true → at w 1 < 2 ^ 32
-unfolding makes
-made-room t w d e = ltb-true _ _ (both-2 _ _ (both-2 _ _ (both-2 _ _ (both-2 _ _ (both-2 _ _ (sym d ∙ e))))))
-
--- a line that is an operation, and one that is none
-pub turn-good : (m : Machine) (first : Bool) (b : Buffers) (w : Line) (op : Operation) {p : Parsed} {s : Stepped} {t : Bool} → t ≡ both first (makes w) → t ≡ false →
-    p ≡ operationOf w → p ≡ Good op → s ≡ step rawBytes m b op → turned (s .answer) (s .machine) (s .buffers) ≡ turnBy rawBytes (record { machine = m; first = first; buffers = b }) w
-unfolding turnBy operated
-turn-good m first b w op d e q g h =
-    ap (λ (y : Stepped). turned (y .answer) (y .machine) (y .buffers)) h
-    ∙ ap (operated rawBytes m b) (sym g ∙ q)
-    ∙ sym (pick-false _ _ _ (sym d ∙ e))
-
-pub turn-bad : (m : Machine) (first : Bool) (b : Buffers) (w : Line) {p : Parsed} {t : Bool} → t ≡ both first (makes w) → t ≡ false →
-    p ≡ operationOf w → p ≡ Malformed → turned (refuse 18 0) m b ≡ turnBy rawBytes (record { machine = m; first = first; buffers = b }) w
-unfolding turnBy operated
-turn-bad m first b w d e q g = ap (operated rawBytes m b) (sym g ∙ q) ∙ sym (pick-false _ _ _ (sym d ∙ e))
-
 -- a turn on what a line was read as
 pub turned-line : (h : Held) (l : List ℕ) {w : Line} {y : Turn} → w ≡ lineOf l → y ≡ turnBy rawBytes h w → y ≡ turnOf rawBytes h l
 unfolding turnOf
 turned-line h l e q = q ∙ ap (turnBy rawBytes h) e
+
+-- a line that makes a machine has its fields in range
+pub made-room : (w : Line) {b : Bool} → b ≡ makes w → b ≡ true → at w 1 < 2 ^ 32
+unfolding makes
+made-room w d e = ltb-true _ _ (both-2 _ _ (both-2 _ _ (both-2 _ _ (both-2 _ _ (sym d ∙ e)))))
+
+-- 00 on the first line
+pub turn-makes : (m n : Machine) (b : Buffers) (w : Line) {t : Bool} → t ≡ makes w → t ≡ true → n ≡ freshMachine (yes (at w 0)) (costsOf (at w 1)) →
+    turned (accept 0) n b ≡ turnBy rawBytes (record { machine = m; first = true; buffers = b }) w
+unfolding turnBy madeOf
+turn-makes m n b w d e q =
+    ap (λ (i : Machine). turned (accept 0) i b) q ∙ sym (pick-true _ _ _ (both-then true _ refl ∙ sym d ∙ e))
+
+-- what an operation gave
+abbrev pub turnedAs : Stepped → Turn
+turnedAs s = turned (s .answer) (s .machine) (s .buffers)
+
+-- a line without an operation gives what the operation that stands for it gives
+in-place : (m : Machine) (b : Buffers) (p : Parsed) → turnedAs (step rawBytes m b (orMake p)) ≡ operated rawBytes m b p
+unfolding orMake operated step decide settled changed wellFormed pick
+in-place m b (Good op) = refl
+in-place m b Malformed = refl
+
+-- any other line is its operation
+step-turn : (m : Machine) (first : Bool) (b : Buffers) (w : Line) (op : Operation) (s : Stepped) → both first (makes w) ≡ false → op ≡ operationIn w →
+    s ≡ step rawBytes m b op → turnedAs s ≡ turnBy rawBytes (record { machine = m; first = first; buffers = b }) w
+unfolding turnBy operationIn
+step-turn m first b w op s d q h =
+    ap turnedAs (h ∙ ap (step rawBytes m b) q) ∙ in-place m b (operationOf w) ∙ sym (pick-false _ _ _ d)
+
+-- on the first line
+pub turn-first : (m : Machine) (b : Buffers) (w : Line) (op : Operation) (s : Stepped) {t : Bool} → t ≡ makes w → t ≡ false → op ≡ operationIn w →
+    s ≡ step rawBytes m b op → turnedAs s ≡ turnBy rawBytes (record { machine = m; first = true; buffers = b }) w
+turn-first m b w op s d e = step-turn m true b w op s (both-then true _ refl ∙ sym d ∙ e)
+
+-- on a later line
+pub turn-more : (m : Machine) (b : Buffers) (l : List ℕ) (w : Line) (op : Operation) (s : Stepped) → w ≡ lineOf l → op ≡ operationIn w →
+    s ≡ step rawBytes m b op → turnedAs s ≡ turnOf rawBytes (record { machine = m; first = false; buffers = b }) l
+turn-more m b l w op s e q h = turned-line _ l e (step-turn m false b w op s (both-left false _ refl) q h)
 
 -- how far a run is, when it stops
 abbrev pub reached : ℕ → ℕ → List ℕ → Held → Progressed
@@ -130,6 +152,26 @@ run-full r h used w room l o g f =
     let j : room ≡ 0 = omega arith in
     let u : wholeLines room r h (drop used l) ≡ still h = ap (λ (i : ℕ). wholeLines i r h (drop used l)) j in
     sym (end-still h used w o) ∙ ap (λ (i : Run). endOf used w o i) (sym u) ∙ f
+
+-- the first line, and a run behind it
+pub first-on : (r : ℕ) (h : Held) (from put e : ℕ) (l o p : List ℕ) (y : Turn) (z : Progressed) → 37 ≤ length o - put → from ≤ length l →
+    e ≡ from + lfAt (drop from l) → e < length l → y ≡ turnOf r h (take (e - from) (drop from l)) →
+    p ≡ over o put (answerLine (y .answer) (y .held .machine .fuel)) → WholeRan z (e + 1) (put + 37) r (y .held) p l → WholeRan z from put r h o l
+first-on r h from put e l o p y z g k d m c q w =
+    let room = (length o - put) / 37 in
+    let t : length (textOf y) ≡ 37 = length-text y in
+    let n : length p ≡ length o = ap length (text-put o p put y q) ∙ length-over o put (textOf y) (omega arith) in
+    let less : (length p - (put + 37)) / 37 ≡ room - 1 = omega arith in
+    record {
+      is = w .is ∙ ap (λ (i : ℕ). endOf (e + 1) (put + 37) p (wholeLines i r (y .held) (drop (e + 1) l))) less
+          ∙ turn-on r h from put room e l o p y (omega arith) (omega arith) k d m c q refl;
+      used = w .used;
+    }
+
+-- a run from the first line on, or from a later one
+pub by-begun : (t u : Bool) (m : Machine) (b : Buffers) (from put r : ℕ) (z : Progressed) (o l : List ℕ) → t ≡ u →
+    WholeRan z from put r (record { machine = m; first = u; buffers = b }) o l → WholeRan z from put r (record { machine = m; first = t; buffers = b }) o l
+by-begun t u m b from put r z o l e w = subst (λ (v : Bool). WholeRan z from put r (record { machine = m; first = v; buffers = b }) o l) (sym e) w
 
 -- the ways out of `close`
 pub closed-in : (l : List ℕ) (p : Progress) (e : ℕ) → e ≡ p .used + lfAt (drop (p .used) l) → e < length l → p ≡ closedOf l p

@@ -9,9 +9,15 @@ use Rattle.base.specs.Pick.{pick}
 use Rattle.base.specs.Span.{over}
 use Rattle.machine.specs.Machine.{Buffers, buffers}
 use Rattle.machine.specs.declared.records.Machine.{Machine}
+use Rattle.machine.specs.declared.operation.Operation.{Operation}
+use Rattle.machine.specs.declared.operation.Operation.the-variants.{Make}
+use Rattle.lines.specs.Code.{operationOf}
 use Rattle.lines.specs.Session.{Held, Turn, turned}
 use Rattle.lines.specs.Pieces.{lfAt, Run, wholeLines, pieceOf}
 use Rattle.machine.specs.declared.operate.Operated.{Operated}
+use Rattle.lines.specs.declared.line.Line.{Line}
+use Rattle.lines.specs.declared.code.Parsed.{Parsed}
+use Rattle.lines.specs.declared.code.Parsed.the-variants.{Good, Malformed}
 use Rattle.lines.specs.declared.session.Session.{Session}
 use Rattle.lines.specs.declared.session.Progress.{Progress}
 
@@ -25,6 +31,14 @@ heldBy s bytes cells items = heldOn (s .machine) (s .first) bytes cells items
 -- what a line gave, and the buffers after it
 abbrev pub turnedBy : Operated → List ℕ → List ℕ → List ℕ → Turn
 turnedBy x bytes cells items = turned (x .answer) (x .machine) (buffers bytes cells items)
+
+-- the operation of a line; one that has none is as 00 after the first line
+unfoldable pub orMake : Parsed → Operation
+orMake (Good op) = op
+orMake Malformed = Make 0 0
+
+unfoldable pub operationIn : Line → Operation
+operationIn w = orMake (operationOf w)
 
 -- how far a run came, and what it was lent
 pub record Progressed : Type 0 where

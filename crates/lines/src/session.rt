@@ -9,12 +9,12 @@ use base::answer::Refusal;
 use base::answer::Value;
 use base::fuel::FuelCosts;
 use machine::operate::Operated;
+use machine::operation::Operation;
 use machine::records::Machine;
 ghost use Prim.Native.Nat.{_+_, _/_, _^_, _≤_, _<_};
 ghost use mathlib.Core.Path.{_≡_};
 ghost use mathlib.Core.Bool.{true, false};
 ghost use lib.ListN.{length, drop};
-ghost use Rattle.base.specs.Pick.{both};
 ghost use Rattle.types.specs.Raw.{rawBytes};
 ghost use Rattle.machine.specs.Machine.{freshMachine};
 ghost use Rattle.machine.specs.Operation.{yes};
@@ -22,7 +22,7 @@ ghost use Rattle.lines.specs.Digits.{digitTable};
 ghost use Rattle.lines.specs.Line.{at};
 ghost use Rattle.lines.specs.Session.{makes, costsOf, turnBy};
 ghost use Rattle.lines.specs.Pieces.{lfAt, pieceOf};
-ghost use Rattle.lines.specs.Progress.{heldOn, heldBy, turnedBy, progressed, progressOf, WholeRan, closedOf};
+ghost use Rattle.lines.specs.Progress.{heldOn, heldBy, turnedBy, operationIn, progressed, progressOf, WholeRan, closedOf};
 
 // A machine, whether the next line is the first, and whether the input is inside a line that is too long already.
 pub struct Session {
@@ -71,16 +71,6 @@ fn makes(line: Line) -> bool
     line.list[1] < 4294967296
 }
 
-// Whether a line makes the machine anew: only the first one can.
-fn begins(first: bool, line: Line) -> bool
-    ensures { λ r. ⌜ r ≡ both first (makes line) ⌝ }
-{
-    if first {
-        return makes(line);
-    }
-    false
-}
-
 // The machine that 00 makes.
 fn made(line: Line) -> Machine
     requires { ⌜ at line 1 < 2 ^ 32 ⌝ }
@@ -98,36 +88,40 @@ fn made(line: Line) -> Machine
     )
 }
 
-// What a line's numbers give: a machine made anew, one operation, or 18.
+// The operation of a line. A malformed one is as 00 after the first line: 18, and nothing changes.
+fn operation_in(line: Line) -> Operation
+    ensures { λ r. ⌜ r ≡ operationIn line ⌝ }
+{
+    let parsed = code::operation_of(line);
+    match parsed {
+        Parsed::Good(op) => op,
+        Parsed::Malformed => Operation::Make {
+            metering: 0,
+            copied: 0,
+        },
+    }
+}
+
+// What the first line's numbers give: a machine made anew, one operation, or 18.
 fn turn(
     machine: Machine,
-    first: bool,
     bytes: &mut [u8],
     cells: &mut [u64],
     items: &mut [u64],
     line: Line,
 ) -> Operated
     ensures { λ r. ⌜ turnedBy r (now (bytes .exit)) (now (cells .exit)) (now (items .exit))
-        ≡ turnBy rawBytes (heldOn machine first (now (bytes .entry)) (now (cells .entry)) (now (items .entry))) line ⌝ }
+        ≡ turnBy rawBytes (heldOn machine true (now (bytes .entry)) (now (cells .entry)) (now (items .entry))) line ⌝ }
 {
-    if begins(first, line) {
+    if makes(line) {
         let fresh = made(line);
         return Operated {
             answer: Answer::Value(Value::Number(0)),
             machine: fresh,
         };
     }
-    let parsed = code::operation_of(line);
-    match parsed {
-        Parsed::Good(op) => machine.operate(bytes, cells, items, op),
-        Parsed::Malformed => Operated {
-            answer: Answer::Refusal(Refusal {
-                number: 18,
-                amount: 0,
-            }),
-            machine,
-        },
-    }
+    let op = operation_in(line);
+    machine.operate(bytes, cells, items, op)
 }
 
 // The first line's end from a place on, or the length.
@@ -146,10 +140,9 @@ fn find_lf(s: &[u8], from: usize) -> usize
 }
 
 // How far a run is, when it stops.
-fn stopped(last: Operated, first: bool, used: usize, wrote: usize) -> Progress
-    ensures { λ r. ⌜ r ≡ record { session = record { machine = last .machine; first = first; skip = false }; used = used; wrote = wrote } ⌝ }
+fn stopped(machine: Machine, first: bool, used: usize, wrote: usize) -> Progress
+    ensures { λ r. ⌜ r ≡ record { session = record { machine = machine; first = first; skip = false }; used = used; wrote = wrote } ⌝ }
 {
-    let machine = last.machine;
     Progress {
         session: Session {
             machine,
@@ -159,6 +152,80 @@ fn stopped(last: Operated, first: bool, used: usize, wrote: usize) -> Progress
         used,
         wrote,
     }
+}
+
+// The whole lines of a piece behind the first line, from a place on, while there is room for their answers.
+fn more_lines(
+    t: &[u8; 256],
+    start: Machine,
+    bytes: &mut [u8],
+    cells: &mut [u64],
+    items: &mut [u64],
+    input: &[u8],
+    out: &mut [u8],
+    from: usize,
+    put: usize,
+) -> Progress
+    requires { ⌜ (now t ≡ digitTable) × (from ≤ length (now input)) × (put ≤ length (now out)) ⌝ }
+    ensures { λ r. ⌜ WholeRan (progressed r (now (bytes .exit)) (now (cells .exit)) (now (items .exit)) (now (out .exit)))
+        from put rawBytes (heldOn start false (now (bytes .entry)) (now (cells .entry)) (now (items .entry))) (now (out .entry)) (now (input .entry)) ⌝ }
+{
+    // what the last line gave: every line changes it in one way, so that the machine is moved as a whole
+    let mut last = Operated {
+        answer: Answer::Value(Value::Number(0)),
+        machine: start,
+    };
+    let mut used = from;
+    let mut wrote = put;
+    let mut room = (out.len() - put) / 37;
+    while room > 0 {
+        let e = find_lf(input, used);
+        if input.len() <= e {
+            return stopped(last.machine, false, used, wrote);
+        }
+        let line = line::read_by_table(t, &input[used..e]);
+        let op = operation_in(line);
+        last = last.machine.operate(bytes, cells, items, op);
+        let answer = last.answer;
+        let fuel = last.machine.fuel;
+        answer_line::put_answer(out, wrote, answer, fuel);
+        used = e + 1;
+        wrote += 37;
+        room -= 1;
+    }
+    stopped(last.machine, false, used, wrote)
+}
+
+// The first line, which alone can make the machine anew, and the whole lines behind it.
+fn first_line(
+    t: &[u8; 256],
+    start: Machine,
+    bytes: &mut [u8],
+    cells: &mut [u64],
+    items: &mut [u64],
+    input: &[u8],
+    out: &mut [u8],
+    from: usize,
+    put: usize,
+) -> Progress
+    requires { ⌜ (now t ≡ digitTable) × (from ≤ length (now input)) × (put ≤ length (now out)) ⌝ }
+    ensures { λ r. ⌜ WholeRan (progressed r (now (bytes .exit)) (now (cells .exit)) (now (items .exit)) (now (out .exit)))
+        from put rawBytes (heldOn start true (now (bytes .entry)) (now (cells .entry)) (now (items .entry))) (now (out .entry)) (now (input .entry)) ⌝ }
+{
+    if out.len() - put < 37 {
+        return stopped(start, true, from, put);
+    }
+    let e = find_lf(input, from);
+    if input.len() <= e {
+        return stopped(start, true, from, put);
+    }
+    let line = line::read_by_table(t, &input[from..e]);
+    let last = turn(start, bytes, cells, items, line);
+    let answer = last.answer;
+    let machine = last.machine;
+    let fuel = machine.fuel;
+    answer_line::put_answer(out, put, answer, fuel);
+    more_lines(t, machine, bytes, cells, items, input, out, e + 1, put + 37)
 }
 
 // The whole lines of a piece from a place on, while there is room for their answers.
@@ -178,31 +245,10 @@ fn whole_lines(
     ensures { λ r. ⌜ WholeRan (progressed r (now (bytes .exit)) (now (cells .exit)) (now (items .exit)) (now (out .exit)))
         from put rawBytes (heldOn start begun (now (bytes .entry)) (now (cells .entry)) (now (items .entry))) (now (out .entry)) (now (input .entry)) ⌝ }
 {
-    // what the last line gave, so that the machine is moved once a line
-    let mut last = Operated {
-        answer: Answer::Value(Value::Number(0)),
-        machine: start,
-    };
-    let mut first = begun;
-    let mut used = from;
-    let mut wrote = put;
-    let mut room = (out.len() - put) / 37;
-    while room > 0 {
-        let e = find_lf(input, used);
-        if input.len() <= e {
-            return stopped(last, first, used, wrote);
-        }
-        let line = line::read_by_table(t, &input[used..e]);
-        last = turn(last.machine, first, bytes, cells, items, line);
-        let answer = last.answer;
-        let fuel = last.machine.fuel;
-        answer_line::put_answer(out, wrote, answer, fuel);
-        first = false;
-        used = e + 1;
-        wrote += 37;
-        room -= 1;
+    if begun {
+        return first_line(t, start, bytes, cells, items, input, out, from, put);
     }
-    stopped(last, first, used, wrote)
+    more_lines(t, start, bytes, cells, items, input, out, from, put)
 }
 
 // A run is over: what it left, if that is a line that is too long already, is passed over.

@@ -1,0 +1,149 @@
+-- `lines::session::first_line` meets its contract. Assumes nothing.
+use mathlib.Core.Path.{_≡_, refl, ap, _∙_}
+use mathlib.Core.Bool.{true}
+use Prim.Native.Nat.{_-_, _/_}
+use native.Mathlib.Omega.{arith}
+use denote.Ref.{now}
+use lib.ListN.{length}
+use borrow.Author.Needs.{needs}
+use Rattle.types.specs.Raw.{rawBytes}
+use Rattle.lines.specs.Progress.{heldOn, progressed}
+use Rattle.lines.specs.declared.session.Progress.{Progress}
+use Rattle.lines.proofs.Runs.{turned-line, run-stop, run-full, first-on}
+use Rattle.lines.proofs.session.first_line.Statement.{statement}
+use Rattle.lines.proofs.session.first_line.Tie as tie
+
+sub-if1 : tie.Need-sub-if1
+sub-if1 c = search needs
+
+stopped-requires : tie.Need-stopped-requires
+stopped-requires c κs = search needs
+
+returns : tie.Need-returns
+returns c =
+    let a = c .before .before .before .before .before .before .before .args in
+    let h = heldOn (a .start) true (now (a .bytes)) (now (a .cells)) (now (a .items)) in
+    let room = (length (now (a .out)) - a .put) / 37 in
+    let stop = c .stopped .ensures in
+    record {
+      is = ap (λ (p : Progress). progressed p (now (a .bytes)) (now (a .cells)) (now (a .items)) (now (a .out))) stop
+          ∙ run-full rawBytes h (a .from) (a .put) room (now (a .input)) (now (a .out)) (omega (arith, c .before .if1 .taken)) refl;
+      used = omega (arith, ap (λ (p : Progress). p .used) stop, c .before .before .before .before .before .before .before .pre .1);
+    }
+
+find-lf-requires : tie.Need-find-lf-requires
+find-lf-requires c κs = search needs
+
+stopped-requires-2 : tie.Need-stopped-requires-2
+stopped-requires-2 c κs = search needs
+
+returns-2 : tie.Need-returns-2
+returns-2 c =
+    let s = c .before .before .before .before .before .before .before .before .before in
+    let a = s .args in
+    let h = heldOn (a .start) true (now (a .bytes)) (now (a .cells)) (now (a .items)) in
+    let room = (length (now (a .out)) - a .put) / 37 in
+    let stop = c .stopped2 .ensures in
+    record {
+      is = ap (λ (p : Progress). progressed p (now (a .bytes)) (now (a .cells)) (now (a .items)) (now (a .out))) stop
+          ∙ run-stop rawBytes h (a .from) (a .put) room _ (now (a .input)) (now (a .out)) (omega (arith, c .before .before .before .if1 .left)) (s .pre .1)
+          (c .before .before .find-lf .ensures) (c .before .if2 .taken) refl;
+      used = omega (arith, ap (λ (p : Progress). p .used) stop, s .pre .1);
+    }
+
+sub-read-by-table : tie.Need-sub-read-by-table
+sub-read-by-table c = search needs
+
+part-read-by-table-start : tie.Need-part-read-by-table-start
+part-read-by-table-start c = search needs
+
+part-read-by-table-end : tie.Need-part-read-by-table-end
+part-read-by-table-end c = search needs
+
+read-by-table-requires : tie.Need-read-by-table-requires
+read-by-table-requires c κs = search needs
+
+turn-requires : tie.Need-turn-requires
+turn-requires c κs = search needs
+
+put-answer-requires : tie.Need-put-answer-requires
+put-answer-requires c κs = search needs
+
+add-more-lines : tie.Need-add-more-lines
+add-more-lines c =
+    let near = c .before .before .before .before .before .before .before .before .before .before .before .before .before .before in
+    let d = near .before .before .before .before .before .before .before .before in
+    omega (arith, d .if2 .left, d .before .before .before .before .before .before .before .before .good .1 .1 .1 .1 .1 .0 .0)
+
+add-more-lines-2 : tie.Need-add-more-lines-2
+add-more-lines-2 c =
+    let near = c .before .before .before .before .before .before .before .before .before .before .before .before .before .before in
+    let d = near .before .before .before .before .before .before .before .before .before .before in
+    omega (arith, d .if1 .left, d .before .before .before .before .before .before .good .1 .1 .1 .1 .1 .1 .0 .0)
+
+more-lines-requires : tie.Need-more-lines-requires
+more-lines-requires c κs =
+    let near = c .before .before .before .before .before .before .before .before .before .before .before .before .before .before in
+    let d = near .before .before .before .before .before .before .before .before in
+    let s = d .before .before .before .before .before .before .before .before in
+    (s .pre .0, omega (arith, d .if2 .left), omega (arith, d .before .before .if1 .left, c .before .before .before .before .before .out .given))
+
+same-length : tie.Need-same-length
+same-length c =
+    let near = c .before .before .before .before .before .before .before .before .before .before .before .before .before .before in
+    let d = near .before .before .before .before .before .before .before .before .before .before in
+    omega (arith, c .before .before .before .before .before .before .before .bytes2 .given, d .bytes .given)
+
+same-length-2 : tie.Need-same-length-2
+same-length-2 c =
+    let near = c .before .before .before .before .before .before .before .before .before .before .before .before .before .before in
+    let d = near .before .before .before .before .before .before .before .before in
+    omega (arith, c .before .before .before .before .before .cells2 .given, d .cells .given)
+
+same-length-3 : tie.Need-same-length-3
+same-length-3 c =
+    let near = c .before .before .before .before .before .before .before .before .before .before .before .before .before .before in
+    let d = near .before .before .before .before .before .before in
+    omega (arith, c .before .before .before .items2 .given, d .items .given)
+
+same-length-4 : tie.Need-same-length-4
+same-length-4 c =
+    let d = c .before .before .before .before .before .before .before .before .before .before .before .before .before .before in
+    omega (arith, c .before .out2 .given, d .out .given)
+
+returns-3 : tie.Need-returns-3
+returns-3 c =
+    let wrote = c .before .before .before .before .before .before .before .before .before .before .before .before .before .before .before in
+    let y = wrote .before .before .before .before .before .before .before .before .before .before in
+    let d = y .before .before .before .before .before .before in
+    let s = d .before .before .before .before .before .before .before .before in
+    let a = s .args in
+    let h = heldOn (a .start) true (now (a .bytes)) (now (a .cells)) (now (a .items)) in
+    first-on rawBytes h (a .from) (a .put) _ (now (a .input)) (now (a .out)) _ _ _ (d .before .before .if1 .left) (s .pre .1) (d .before .find-lf .ensures)
+    (d .if2 .left) (turned-line h _ (y .before .before .before .before .read-by-table .ensures) (y .turn .ensures))
+    (wrote .put-answer .ensures) (c .before .before .before .before .before .before .before .before .more-lines .ensures)
+
+pub first-line-spec : {M : Type 1} → statement M
+first-line-spec =
+    tie.close
+    (tie.spec
+    sub-if1
+    stopped-requires
+    returns
+    find-lf-requires
+    stopped-requires-2
+    returns-2
+    sub-read-by-table
+    part-read-by-table-start
+    part-read-by-table-end
+    read-by-table-requires
+    turn-requires
+    put-answer-requires
+    add-more-lines
+    add-more-lines-2
+    more-lines-requires
+    same-length
+    same-length-2
+    same-length-3
+    same-length-4
+    returns-3)
