@@ -8,6 +8,7 @@ use Rattle.claims.proofs.Reached.{bound-reached}
 use Rattle.claims.proofs.Ledger.{ledger}
 use Rattle.claims.proofs.Alike.{alike}
 use Rattle.claims.proofs.Never.{never-unsound}
+use Rattle.claims.proofs.Cases.{worked-cases}
 
 pub claims : Claims
 claims =
@@ -25,4 +26,5 @@ claims =
       fresh-sound = fresh-sound;
       stays-sound = step-sound;
       never-unsound = never-unsound;
+      worked-cases = worked-cases;
     }

@@ -12,4 +12,5 @@ pub mod Growing
 pub mod Beside
 pub mod Ledger
 pub mod Alike
+pub mod Cases
 pub mod Claims

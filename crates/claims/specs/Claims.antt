@@ -17,6 +17,7 @@ use Rattle.claims.specs.Occasions.{acceptedWhen}
 use Rattle.claims.specs.Effects.{does}
 use Rattle.claims.specs.Bound.{Sums, sums, most, reaching, zeros, bytesPerUnit}
 use Rattle.claims.specs.Ledger.{Book, blank, saidTo, book}
+use Rattle.claims.specs.Cases.{allHold, cases}
 use Rattle.claims.specs.Alike.{SameRest, SameNamed, SameOutcome}
 
 -- R, the bytes that a reference counts, is a number of its own in every claim; the machine's is 4
@@ -58,3 +59,5 @@ pub record Claims : Type 0 where
   pub never-unsound : (r : ℕ) (metering : Bool) (costs : FuelCosts) (b : Buffers) (ops : List Operation)
       → soundReferences (length (b .cells)) (length (b .items)) ≡ true
       → never 19 (run r (freshMachine metering costs) b ops .answers) ≡ true
+  -- The worked cases P1 to P11 of document 01, computed.
+  pub worked-cases : allHold cases ≡ true

@@ -6,4 +6,5 @@ pub mod Effects
 pub mod Bound
 pub mod Ledger
 pub mod Alike
+pub mod Cases
 pub mod Claims

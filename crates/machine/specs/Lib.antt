@@ -4,4 +4,3 @@ pub mod Operation
 pub mod Outcome
 pub mod Step
 pub mod Frame
-pub mod Cases

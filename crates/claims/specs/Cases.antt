@@ -110,7 +110,3 @@ cases =
     ∷ eqb (pick (ltb (2 ^ 32 - 2 + 1) (maxSize I32)) 0 6) 0
     ∷ eqb (pick (ltb (2 ^ 32 - 2 + 2) (maxSize I32)) 0 6) 6
     ∷ []
-
-pub casesHold : allHold cases ≡ true
-unfolding allHold cases builtNumber shown answered same price capped buildMemory validMemory validLimits validMaximum admitsOf pageBound byteSize minimumBytes tableBound validTable elementMatches rawBytes inside cut over bitsOf float32 float64 numberOf shownOf setFuel padded noLimiter saysOf moved heardOf leBytes leValue addressOf extend loadedOf loadFound loadAt storeFound storeAt pagesOf soundRoom soundSize soundMemory loadMemory storeMemory newMemory table.soundSize soundBuffer soundTable newTable soundSegment newSegment copyWithin initTable nextByte nextCell nextItem freshMachine follow soundList soundMemories soundTables soundSegments soundReferences soundMachine binary absentAsZero limitFields memoryFields kindFields tableFields narrowStore storeFields itemField itemFields segmentFields initFields wellFormed kindOf narrowLoad wideLoad wholeLoad loadKindOf narrowStoreOf wholeStore storeKindOf changed settled setting madeMemory newMemoryOn loadOn storeOn madeTable newTableOn copyKnown copyOn initOn madeSegment newSegmentOn perform decide step run pick both
-casesHold = refl
