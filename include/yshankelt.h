@@ -1,4 +1,4 @@
-/* Yshankelt: loads and stores of a WebAssembly memory's bytes, and the price of copying, for hosts in C.
+/* Yshankelt: loads and stores of a WebAssembly memory's bytes, the price of copying, and whole machines, for hosts in C.
  *
  * Every function takes every input. The result of a load or a store is document 01's number: 0 accepted, 9 outside
  * (pointer plus offset passes 2^64-1, or some byte lies past the end). A refusal leaves `out` and every byte alone.
@@ -8,6 +8,7 @@
 #ifndef YSHANKELT_H
 #define YSHANKELT_H
 
+#include <stdbool.h>
 #include <stddef.h>
 #include <stdint.h>
 
@@ -118,6 +119,43 @@ uint64_t ysh_price(uint64_t len, uint32_t per_unit);
 /* The price in fuel of copying `len` values of `size` bytes: the byte length is capped at 2^64-1 and then priced.
  * A table's reference counts 4 bytes. */
 uint64_t ysh_price_values(uint64_t len, uint64_t size, uint32_t per_unit);
+
+/* Machines: up to 8 memories, 8 tables and 8 element segments with fuel and a limiter, in a row of words that the host owns.
+ * Words past the first YSH_MACHINE_WORDS are left alone. A refusal changes no buffer and no size; fuel that a growth paid stays paid, and
+ * an answer that the limiter gave stays heard. A row that no machine is written as, or of fewer words, is 19 before all else: nothing
+ * changes then, `value` and `fuel` neither. `words`, `bytes`, `cells`, `items`, `fields`, `value` and `fuel` are places of their own; a
+ * pointer may be null where its length is 0, but `value` and `fuel` must not be null.
+ * In order, with 1 for yes, 64-bit, 64 KiB pages or external, else 0:
+ *   0    8 memories: 64-bit, 64 KiB pages, minimum, bounded, maximum, start, room and size in bytes
+ *   64   8 tables: external, 64-bit, minimum, bounded, maximum, start, room and size in cells
+ *   128  8 segments: external, start, places, size
+ *   160  how many memories, tables and segments there are
+ *   163  fuel left, metering, bytes copied a unit (below 2^32), units a byte translated, units a byte validated (likewise)
+ *   168  limiter: answers in the script, answers heard, and the script's 16 places (each below 256) */
+#define YSH_MACHINE_WORDS 186
+
+/* How many words a machine takes.
+ * Always YSH_MACHINE_WORDS. */
+size_t ysh_machine_words(void);
+
+/* A fresh machine: fuel 0, no limiter, no instances; `copied` bytes copied cost one unit of fuel.
+ * 0 and the machine's words, or 19 and every word as it was where there are fewer than YSH_MACHINE_WORDS. */
+uint8_t ysh_machine_new(uint64_t *words, size_t words_len, bool metering, uint32_t copied);
+
+/* One operation, answered as a session answers a line with this code and these fields that is not its first line.
+ * The number; *value is the value's bits, or a refusal's amount (0 but for 7), and *fuel the fuel left, 0 with metering off.
+ * `bytes`, `cells` and `items` hold the memories, tables and segments: the same ones, as the last operation left them, at each call. */
+uint8_t ysh_operate(uint64_t *words, size_t words_len, uint8_t *bytes, size_t bytes_len, uint64_t *cells, size_t cells_len,
+                    uint64_t *items, size_t items_len, uint8_t code, const uint64_t *fields, size_t fields_len,
+                    uint64_t *value, uint64_t *fuel);
+
+/* A memory's size in pages, by the row alone: the buffers are not needed, and are not looked at.
+ * 0 and the size in *value, or 16 for an unknown number, 19 for a row not in form, and *value as it was. */
+uint8_t ysh_memory_pages(const uint64_t *words, size_t words_len, uint64_t memory, uint64_t *value);
+
+/* A table's size in cells, by the row alone: the buffers are not needed, and are not looked at.
+ * 0 and the size in *value, or 16 for an unknown number, 19 for a row not in form, and *value as it was. */
+uint8_t ysh_table_cells(const uint64_t *words, size_t words_len, uint64_t table, uint64_t *value);
 
 #ifdef __cplusplus
 }

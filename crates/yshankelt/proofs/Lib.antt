@@ -1,1 +1,5 @@
+pub mod Rows
+pub mod Lengths
+pub mod Tells
+pub mod Back
 pub mod Unique

@@ -1,9 +1,11 @@
 -- Uniqueness: each public function's contract names one answer, and one content of what it is lent to write, for each input. Assumes nothing.
-use mathlib.Core.Path.{sym, _∙_}
+use mathlib.Core.Path.{sym, ap, _∙_}
 use mathlib.Core.List.{List}
 use Prim.Native.Nat.{ℕ}
 use denote.Ref.{now}
 use Rattle.base.proofs.One.{One, OneWith}
+use Rattle.machine.specs.Machine.{Buffers, buffers}
+use Rattle.yshankelt.specs.Whole.{Rowed, Call}
 use Rattle.yshankelt.proofs.ysh_load_i32.Reads as ysh-load-i32-reads
 use Rattle.yshankelt.proofs.ysh_load_i32.Kinds as ysh-load-i32-kinds
 use Rattle.yshankelt.proofs.ysh_load_i64.Reads as ysh-load-i64-reads
@@ -54,6 +56,16 @@ use Rattle.yshankelt.proofs.ysh_price.Reads as ysh-price-reads
 use Rattle.yshankelt.proofs.ysh_price.Kinds as ysh-price-kinds
 use Rattle.yshankelt.proofs.ysh_price_values.Reads as ysh-price-values-reads
 use Rattle.yshankelt.proofs.ysh_price_values.Kinds as ysh-price-values-kinds
+use Rattle.yshankelt.proofs.whole.ysh_machine_words.Reads as ysh-machine-words-reads
+use Rattle.yshankelt.proofs.whole.ysh_machine_words.Kinds as ysh-machine-words-kinds
+use Rattle.yshankelt.proofs.whole.ysh_machine_new.Reads as ysh-machine-new-reads
+use Rattle.yshankelt.proofs.whole.ysh_machine_new.Kinds as ysh-machine-new-kinds
+use Rattle.yshankelt.proofs.whole.ysh_operate.Reads as ysh-operate-reads
+use Rattle.yshankelt.proofs.whole.ysh_operate.Kinds as ysh-operate-kinds
+use Rattle.yshankelt.proofs.whole.ysh_memory_pages.Reads as ysh-memory-pages-reads
+use Rattle.yshankelt.proofs.whole.ysh_memory_pages.Kinds as ysh-memory-pages-kinds
+use Rattle.yshankelt.proofs.whole.ysh_table_cells.Reads as ysh-table-cells-reads
+use Rattle.yshankelt.proofs.whole.ysh_table_cells.Kinds as ysh-table-cells-kinds
 
 pub ysh-load-i32-one : OneWith 2 ysh-load-i32-kinds.ps ysh-load-i32-kinds.r ysh-load-i32-reads.Pre ysh-load-i32-reads.Post (ℕ) (λ κs s. now (s .1 .1 .1 .0))
 ysh-load-i32-one κs a x x′ s s′ z p q = (p .number ∙ sym (q .number), p .out ∙ sym (q .out))
@@ -129,3 +141,22 @@ ysh-price-one κs a x x′ s s′ z p q = p ∙ sym q
 
 pub ysh-price-values-one : One 0 ysh-price-values-kinds.ps ysh-price-values-kinds.r ysh-price-values-reads.Pre ysh-price-values-reads.Post
 ysh-price-values-one κs a x x′ s s′ z p q = p ∙ sym q
+
+pub ysh-machine-words-one : One 0 ysh-machine-words-kinds.ps ysh-machine-words-kinds.r ysh-machine-words-reads.Pre ysh-machine-words-reads.Post
+ysh-machine-words-one κs a x x′ s s′ z p q = p ∙ sym q
+
+pub ysh-machine-new-one : OneWith 1 ysh-machine-new-kinds.ps ysh-machine-new-kinds.r ysh-machine-new-reads.Pre ysh-machine-new-reads.Post (List ℕ) (λ κs s. now (s .0))
+ysh-machine-new-one κs a x x′ s s′ z p q = (ap (λ (o : Rowed). o .number) (p ∙ sym q), ap (λ (o : Rowed). o .words) (p ∙ sym q))
+
+pub ysh-operate-one : OneWith 7 ysh-operate-kinds.ps ysh-operate-kinds.r ysh-operate-reads.Pre ysh-operate-reads.Post (ℕ × ℕ × List ℕ × Buffers)
+    (λ κs s. (now (s .1 .1 .1 .1 .1 .1 .0), now (s .1 .1 .1 .1 .1 .1 .1 .0), now (s .0), buffers (now (s .1 .0)) (now (s .1 .1 .0)) (now (s .1 .1 .1 .0))))
+ysh-operate-one κs a x x′ s s′ z p q = (ap (λ (o : Call). o .number) (p ∙ sym q), ap lent (p ∙ sym q))
+  where
+    lent : Call → ℕ × ℕ × List ℕ × Buffers
+    lent o = (o .value, o .fuel, o .words, o .buffers)
+
+pub ysh-memory-pages-one : OneWith 2 ysh-memory-pages-kinds.ps ysh-memory-pages-kinds.r ysh-memory-pages-reads.Pre ysh-memory-pages-reads.Post (ℕ) (λ κs s. now (s .1 .1 .0))
+ysh-memory-pages-one κs a x x′ s s′ z p q = (p .number ∙ sym (q .number), p .out ∙ sym (q .out))
+
+pub ysh-table-cells-one : OneWith 2 ysh-table-cells-kinds.ps ysh-table-cells-kinds.r ysh-table-cells-reads.Pre ysh-table-cells-reads.Post (ℕ) (λ κs s. now (s .1 .1 .0))
+ysh-table-cells-one κs a x x′ s s′ z p q = (p .number ∙ sym (q .number), p .out ∙ sym (q .out))

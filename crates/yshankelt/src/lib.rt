@@ -1,4 +1,7 @@
-// What C calls: the typed loads and stores on a memory's bytes, and the price. The result is document 01's number.
+// What C calls: the typed loads and stores on a memory's bytes, and the price; `whole` has machines. The result is document 01's number.
+pub mod whole;
+mod words;
+
 use base::answer::Answer;
 use base::fuel::FuelCosts;
 use memory::access;
