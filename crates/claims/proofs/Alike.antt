@@ -67,15 +67,15 @@ use Rattle.table.specs.declared.element.MadeSegment.the-variants as made-segmen
 use Rattle.table.proofs.Readings.{grow-reads, new-reads}
 use Rattle.machine.specs.Machine.{Buffers, buffers, noTable, memoryAt, tableAt, segmentAt, nextByte, nextCell, nextItem}
 use Rattle.machine.specs.Sound.{soundTables, soundReferences, soundOver}
-use Rattle.machine.specs.Operation.{wellFormed, yes, limitsOf, exponentOf, kindOf, referenceOf, loadKindOf, storeKindOf, itemsOf}
+use Rattle.operations.specs.Operation.{wellFormed, yes, limitsOf, exponentOf, kindOf, referenceOf, loadKindOf, storeKindOf, itemsOf}
 use Rattle.machine.specs.Outcome.{keeps, settled}
 use Rattle.machine.specs.Step.{Done, Performed, after, grownMemory, grownTable, spannedOut, setting, charging, madeMemory, newMemoryOn, growMemoryOn, memorySize, loadOn, storeOn, linked, linkCheck, madeTable, newTableOn, growTableOn, tableSize, getOn, setOn, fillOn, copyKnown, copyOn, initOn, dropOn, madeSegment, newSegmentOn, perform, decide, step}
 use Rattle.machine.specs.declared.records.Machine.{Machine}
 use Rattle.machine.specs.declared.records.Counts.{Counts}
 use Rattle.machine.specs.declared.outcome.Outcome.{Outcome}
 use Rattle.machine.specs.declared.outcome.Change.{Change}
-use Rattle.machine.specs.declared.operation.Operation.{Operation}
-use Rattle.machine.specs.declared.operation.Operation.the-variants.{Make, SetFuel, GetFuel, Charge, SetLimiter, NewMemory, GrowMemory, MemorySize, Load, Store, NewTable, GrowTable, TableSize, TableGet, TableSet, TableFill, TableCopy, TableInit, DropSegment, NewSegment, LinkCheck}
+use Rattle.operations.specs.declared.operation.Operation.{Operation}
+use Rattle.operations.specs.declared.operation.Operation.the-variants.{Make, SetFuel, GetFuel, Charge, SetLimiter, NewMemory, GrowMemory, MemorySize, Load, Store, NewTable, GrowTable, TableSize, TableGet, TableSet, TableFill, TableCopy, TableInit, DropSegment, NewSegment, LinkCheck}
 use Rattle.machine.proofs.Rooms.{parts, memory-sound, table-sound, segment-sound, next-byte-inside, next-cell-inside}
 use Rattle.machine.proofs.ListLaws as lists
 use Rattle.claims.specs.Alike.{SameMemory, SameTable, SameRest, SameNamed, SameOutcome}

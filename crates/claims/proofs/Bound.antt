@@ -24,8 +24,8 @@ use Rattle.machine.specs.Machine.{Buffers, memoryAt, tableAt, freshMachine}
 use Rattle.machine.specs.Sound.{soundReferences, soundOver}
 use Rattle.machine.specs.Step.{Stepped, step}
 use Rattle.machine.specs.declared.records.Machine.{Machine}
-use Rattle.machine.specs.declared.operation.Operation.{Operation}
-use Rattle.machine.specs.declared.operation.Operation.the-variants.{Make, SetFuel, GetFuel, Charge, SetLimiter, NewMemory, GrowMemory, MemorySize, Load, Store, NewTable, GrowTable, TableSize, TableGet, TableSet, TableFill, TableCopy, TableInit, DropSegment, NewSegment, LinkCheck}
+use Rattle.operations.specs.declared.operation.Operation.{Operation}
+use Rattle.operations.specs.declared.operation.Operation.the-variants.{Make, SetFuel, GetFuel, Charge, SetLimiter, NewMemory, GrowMemory, MemorySize, Load, Store, NewTable, GrowTable, TableSize, TableGet, TableSet, TableFill, TableCopy, TableInit, DropSegment, NewSegment, LinkCheck}
 use Rattle.machine.proofs.Rooms.{parts, table-sound}
 use Rattle.claims.specs.Answers.{accepted}
 use Rattle.claims.specs.Metered.{Metering, Free, Sets, Charges, GrowsPages, GrowsCells, Spans, Inits, meteringOf, meets, lengthOf, bytesOf, priceOf, affords, passes}

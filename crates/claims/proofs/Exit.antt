@@ -12,7 +12,7 @@ use Rattle.machine.specs.Machine.{Buffers}
 use Rattle.machine.specs.Outcome.{metered}
 use Rattle.machine.specs.Step.{Stepped}
 use Rattle.machine.specs.declared.records.Machine.{Machine}
-use Rattle.machine.specs.declared.operation.Operation.{Operation}
+use Rattle.operations.specs.declared.operation.Operation.{Operation}
 use Rattle.claims.specs.Answers.{listed}
 use Rattle.claims.specs.Metered.{priceOf, paidRefusal}
 use Rattle.claims.specs.Occasions.{occasion}

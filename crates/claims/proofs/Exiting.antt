@@ -21,13 +21,13 @@ use Rattle.memory.specs.declared.memory.Memory.{Memory}
 use Rattle.table.specs.declared.table.Table.{Table}
 use Rattle.machine.specs.Machine.{Buffers, memoryAt, tableAt, noMemory, noTable}
 use Rattle.machine.specs.Sound.{soundMachine, soundOver, soundMemories, soundTables, soundSegments}
-use Rattle.machine.specs.Operation.{wellFormed}
+use Rattle.operations.specs.Operation.{wellFormed}
 use Rattle.machine.specs.Outcome.{withMemories, withTables, changed, metered, settled}
 use Rattle.machine.specs.Step.{Performed, Stepped, perform, decide, after, step}
 use Rattle.machine.specs.declared.records.Machine.{Machine}
 use Rattle.machine.specs.declared.outcome.Change.{Change}
 use Rattle.machine.specs.declared.outcome.Change.the-variants as change
-use Rattle.machine.specs.declared.operation.Operation.{Operation}
+use Rattle.operations.specs.declared.operation.Operation.{Operation}
 use Rattle.claims.specs.Answers.{listed}
 use Rattle.claims.specs.Metered.{meteringOf, grows, priceOf, affords, grants, unlimited, erredAfter8, paidRefusal}
 use Rattle.claims.specs.Occasions.{occasion}

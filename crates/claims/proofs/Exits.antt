@@ -16,12 +16,12 @@ use Rattle.base.proofs.Picks.{pick-true, pick-false, both-left, both-right, bot
 use Rattle.memory.specs.Access.{loadedOf}
 use Rattle.machine.specs.Machine.{Buffers}
 use Rattle.machine.specs.Sound.{soundOver}
-use Rattle.machine.specs.Operation.{wellFormed}
+use Rattle.operations.specs.Operation.{wellFormed}
 use Rattle.machine.specs.Outcome.{metered, changed, settled}
 use Rattle.machine.specs.Step.{Stepped, Performed, after, answers, perform, decide, step}
 use Rattle.machine.specs.declared.records.Machine.{Machine}
-use Rattle.machine.specs.declared.operation.Operation.{Operation}
-use Rattle.machine.specs.declared.operation.Operation.the-variants.{Make, SetFuel, GetFuel, Charge, SetLimiter, NewMemory, GrowMemory, MemorySize, Load, Store, NewTable, GrowTable, TableSize, TableGet, TableSet, TableFill, TableCopy, TableInit, DropSegment, NewSegment, LinkCheck}
+use Rattle.operations.specs.declared.operation.Operation.{Operation}
+use Rattle.operations.specs.declared.operation.Operation.the-variants.{Make, SetFuel, GetFuel, Charge, SetLimiter, NewMemory, GrowMemory, MemorySize, Load, Store, NewTable, GrowTable, TableSize, TableGet, TableSet, TableFill, TableCopy, TableInit, DropSegment, NewSegment, LinkCheck}
 use Rattle.claims.specs.Answers.{accepted, listed, valueOrListed}
 use Rattle.claims.specs.Metered.{priceOf, paidRefusal}
 use Rattle.claims.specs.Refused.{Leaves}

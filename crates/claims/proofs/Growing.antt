@@ -25,8 +25,8 @@ use Rattle.machine.specs.Machine.{Buffers, memoryAt}
 use Rattle.machine.specs.Sound.{soundOver}
 use Rattle.machine.specs.Step.{Done, Performed, growMemoryOn, growTableOn, perform, decide, step}
 use Rattle.machine.specs.declared.records.Machine.{Machine}
-use Rattle.machine.specs.declared.operation.Operation.{Operation}
-use Rattle.machine.specs.declared.operation.Operation.the-variants.{GrowMemory, GrowTable}
+use Rattle.operations.specs.declared.operation.Operation.{Operation}
+use Rattle.operations.specs.declared.operation.Operation.the-variants.{GrowMemory, GrowTable}
 use Rattle.claims.specs.Metered.{meteringOf, lengthOf, priceOf, affords}
 use Rattle.claims.proofs.Exiting.{branch}
 

@@ -26,13 +26,13 @@ use Rattle.table.specs.Table.{resized}
 use Rattle.table.specs.declared.table.Table.{Table}
 use Rattle.machine.specs.Machine.{Buffers, noLimits, noMemory, noTable, memoryAt, tableAt, freshMachine}
 use Rattle.machine.specs.Sound.{soundList, soundMemories, soundTables, soundOver}
-use Rattle.machine.specs.Operation.{limitsOf, exponentOf}
+use Rattle.operations.specs.Operation.{limitsOf, exponentOf}
 use Rattle.machine.specs.Outcome.{changed, metered}
 use Rattle.machine.specs.Step.{Stepped, step, run}
 use Rattle.machine.specs.declared.records.Machine.{Machine}
 use Rattle.machine.specs.declared.outcome.Change.the-variants as change
-use Rattle.machine.specs.declared.operation.Operation.{Operation}
-use Rattle.machine.specs.declared.operation.Operation.the-variants.{Make, SetFuel, GetFuel, Charge, SetLimiter, NewMemory, GrowMemory, MemorySize, Load, Store, NewTable, GrowTable, TableSize, TableGet, TableSet, TableFill, TableCopy, TableInit, DropSegment, NewSegment, LinkCheck}
+use Rattle.operations.specs.declared.operation.Operation.{Operation}
+use Rattle.operations.specs.declared.operation.Operation.the-variants.{Make, SetFuel, GetFuel, Charge, SetLimiter, NewMemory, GrowMemory, MemorySize, Load, Store, NewTable, GrowTable, TableSize, TableGet, TableSet, TableFill, TableCopy, TableInit, DropSegment, NewSegment, LinkCheck}
 use Rattle.machine.proofs.Rooms.{parts}
 use Rattle.machine.proofs.ListLaws as lists
 use Rattle.claims.specs.Answers.{accepted}

@@ -37,12 +37,12 @@ use Rattle.memory.specs.declared.memory.Memory.{Memory}
 use Rattle.memory.proofs.Sounds.{sound-is}
 use Rattle.machine.specs.Machine.{Buffers, buffers, memoryAt, nextByte}
 use Rattle.machine.specs.Sound.{soundOver}
-use Rattle.machine.specs.Operation.{wellFormed, limitsOf, exponentOf, loadKindOf, storeKindOf, scriptOf}
+use Rattle.operations.specs.Operation.{wellFormed, limitsOf, exponentOf, loadKindOf, storeKindOf, scriptOf}
 use Rattle.machine.specs.Outcome.{changed}
 use Rattle.machine.specs.Step.{Done, setting, charging, handing, madeMemory, madeOn, newMemoryOn, grownOn, growMemoryOn, memorySize, loadOn, storedOn, storeOn, linked, linkCheck, onNone, onBytes, answers, perform, after, step, Stepped}
 use Rattle.machine.specs.declared.records.Machine.{Machine}
-use Rattle.machine.specs.declared.operation.Operation.{Operation}
-use Rattle.machine.specs.declared.operation.Operation.the-variants.{Make, SetFuel, GetFuel, Charge, SetLimiter, NewMemory, GrowMemory, MemorySize, Load, Store, LinkCheck}
+use Rattle.operations.specs.declared.operation.Operation.{Operation}
+use Rattle.operations.specs.declared.operation.Operation.the-variants.{Make, SetFuel, GetFuel, Charge, SetLimiter, NewMemory, GrowMemory, MemorySize, Load, Store, LinkCheck}
 use Rattle.machine.specs.declared.outcome.Change.the-variants as change
 use Rattle.machine.proofs.Rooms.{memory-sound, next-byte-inside}
 use Rattle.claims.specs.Metered.{meteringOf, grows, lengthOf, priceOf, affords, grants, unlimited, paidRefusal}

@@ -12,7 +12,7 @@ use Rattle.machine.specs.Machine.{Buffers, freshMachine}
 use Rattle.machine.specs.Sound.{soundReferences, soundOver}
 use Rattle.machine.specs.Step.{step, run}
 use Rattle.machine.specs.declared.records.Machine.{Machine}
-use Rattle.machine.specs.declared.operation.Operation.{Operation}
+use Rattle.operations.specs.declared.operation.Operation.{Operation}
 use Rattle.machine.proofs.Kept.{step-sound, fresh-sound}
 use Rattle.claims.specs.Answers.{never}
 use Rattle.claims.proofs.Exits.{not-unsound}

@@ -26,13 +26,13 @@ use Rattle.memory.specs.Memory.{pagesOf}
 use Rattle.memory.specs.Grow.{mayHave}
 use Rattle.machine.specs.Machine.{Buffers, noLimits, noMemory, noTable, noSegment, nextByte, nextCell, freshMachine}
 use Rattle.machine.specs.Sound.{soundReferences, soundOver}
-use Rattle.machine.specs.Operation as operation
-use Rattle.machine.specs.Operation.{kindOf, binary, absentAsZero, limitFields, memoryFields, kindFields, tableFields}
+use Rattle.operations.specs.Operation as operation
+use Rattle.operations.specs.Operation.{kindOf, binary, absentAsZero, limitFields, memoryFields, kindFields, tableFields}
 use Rattle.machine.specs.Outcome.{withTables, changed, metered}
 use Rattle.machine.specs.Step.{Stepped, step}
 use Rattle.machine.specs.declared.records.Machine.{Machine}
-use Rattle.machine.specs.declared.operation.Operation.{Operation}
-use Rattle.machine.specs.declared.operation.Operation.the-variants.{SetFuel, NewMemory, GrowMemory, NewTable, TableFill}
+use Rattle.operations.specs.declared.operation.Operation.{Operation}
+use Rattle.operations.specs.declared.operation.Operation.the-variants.{SetFuel, NewMemory, GrowMemory, NewTable, TableFill}
 use Rattle.machine.proofs.Kept.{fresh-sound, step-sound, step-bytes-long}
 use Rattle.claims.specs.Answers.{accepted}
 use Rattle.claims.specs.Metered.{meteringOf, meets, lengthOf, bytesOf, priceOf, affords, grants, passes}

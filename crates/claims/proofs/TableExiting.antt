@@ -27,12 +27,12 @@ use Rattle.table.specs.Table.{soundBuffer}
 use Rattle.table.specs.Copy.{roomsApart, soundTwo}
 use Rattle.machine.specs.Machine.{Buffers, buffers, tableAt, noTable, tableEnd, nextCell, nextItem}
 use Rattle.machine.specs.Sound.{soundTables, soundReferences, soundOver}
-use Rattle.machine.specs.Operation.{wellFormed}
+use Rattle.operations.specs.Operation.{wellFormed}
 use Rattle.machine.specs.Outcome.{withTables, metered, changed, settled}
 use Rattle.machine.specs.Step.{after, onCells, spannedOn, perform, decide, step}
 use Rattle.machine.specs.declared.records.Machine.{Machine}
 use Rattle.machine.specs.declared.outcome.Change.the-variants as change
-use Rattle.machine.specs.declared.operation.Operation.{Operation}
+use Rattle.operations.specs.declared.operation.Operation.{Operation}
 use Rattle.table.specs.declared.table.Table.{Table}
 use Rattle.machine.proofs.ListLaws.{rooms-apart}
 use Rattle.machine.proofs.Rooms.{parts, table-sound, next-cell-inside, next-item-inside}

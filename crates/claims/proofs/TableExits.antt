@@ -30,14 +30,14 @@ use Rattle.table.specs.Init.{initTable}
 use Rattle.table.specs.Element.{MadeWith, newSegment}
 use Rattle.machine.specs.Machine.{Buffers, buffers, tableAt, segmentAt}
 use Rattle.machine.specs.Sound.{soundMemories, soundTables, soundSegments, soundMachine, soundOver}
-use Rattle.machine.specs.Operation.{wellFormed}
+use Rattle.operations.specs.Operation.{wellFormed}
 use Rattle.machine.specs.Outcome.{metered, changed, settled}
 use Rattle.machine.specs.Step.{Done, Stepped, Performed, after, answers, onNone, onCells, onItems, writtenOn, spannedOn, tableMadeOn, tableGrownOn, growTableOn, segmentMadeOn, madeTable, madeSegment, newTableOn, newSegmentOn, tableSize, getOn, setOn, fillOn, copyKnown, copyOn, initOn, dropOn, perform, decide, step}
 use Rattle.machine.specs.declared.records.Machine.{Machine}
 use Rattle.machine.specs.declared.outcome.Outcome.{Outcome}
 use Rattle.machine.specs.declared.outcome.Change.the-variants as change
-use Rattle.machine.specs.declared.operation.Operation.{Operation}
-use Rattle.machine.specs.declared.operation.Operation.the-variants.{NewTable, GrowTable, TableSize, TableGet, TableSet, TableFill, TableCopy, TableInit, DropSegment, NewSegment}
+use Rattle.operations.specs.declared.operation.Operation.{Operation}
+use Rattle.operations.specs.declared.operation.Operation.the-variants.{NewTable, GrowTable, TableSize, TableGet, TableSet, TableFill, TableCopy, TableInit, DropSegment, NewSegment}
 use Rattle.table.specs.declared.table.Table.{Table}
 use Rattle.machine.proofs.Rooms.{table-sound, segment-sound}
 use Rattle.claims.specs.Metered.{meteringOf, grows, lengthOf, affords, grants, unlimited, erredAfter8, paidRefusal, priceOf}

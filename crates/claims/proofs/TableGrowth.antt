@@ -21,7 +21,7 @@ use Rattle.types.specs.TableType.{elementMatches}
 use Rattle.table.specs.Table.{resized, soundTable}
 use Rattle.table.specs.Grow.{Grown, done, answered, cellsPrice, growTable}
 use Rattle.machine.specs.Machine.{tableAt}
-use Rattle.machine.specs.Operation.{kindOf, referenceOf}
+use Rattle.operations.specs.Operation.{kindOf, referenceOf}
 use Rattle.machine.specs.declared.records.Machine.{Machine}
 use Rattle.claims.specs.Metered.{affords, grants}
 use Rattle.claims.proofs.Exiting.{Named, named, named-7, short-not, affords-all, grants-no, grants-error, grants-yes}

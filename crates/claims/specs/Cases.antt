@@ -33,11 +33,11 @@ use Rattle.table.specs.Copy.{copyWithin}
 use Rattle.table.specs.Init.{initTable}
 use Rattle.machine.specs.Machine.{Buffers, buffers, nextByte, nextCell, nextItem, freshMachine}
 use Rattle.machine.specs.Sound.{follow, soundList, soundMemories, soundTables, soundSegments, soundReferences, soundMachine}
-use Rattle.machine.specs.Operation.{binary, absentAsZero, limitFields, memoryFields, kindFields, tableFields, narrowStore, storeFields, itemField, itemFields, segmentFields, initFields, wellFormed, kindOf, narrowLoad, wideLoad, wholeLoad, loadKindOf, narrowStoreOf, wholeStore, storeKindOf}
+use Rattle.operations.specs.Operation.{binary, absentAsZero, limitFields, memoryFields, kindFields, tableFields, narrowStore, storeFields, itemField, itemFields, segmentFields, initFields, wellFormed, kindOf, narrowLoad, wideLoad, wholeLoad, loadKindOf, narrowStoreOf, wholeStore, storeKindOf}
 use Rattle.machine.specs.Outcome.{changed, settled}
 use Rattle.machine.specs.Step.{setting, madeMemory, newMemoryOn, loadOn, storeOn, madeTable, newTableOn, copyKnown, copyOn, initOn, madeSegment, newSegmentOn, perform, decide, step, run}
-use Rattle.machine.specs.declared.operation.Operation.{Operation}
-use Rattle.machine.specs.declared.operation.Operation.the-variants.{SetFuel, NewMemory, Load, Store, NewTable, TableCopy, TableInit, NewSegment}
+use Rattle.operations.specs.declared.operation.Operation.{Operation}
+use Rattle.operations.specs.declared.operation.Operation.the-variants.{SetFuel, NewMemory, Load, Store, NewTable, TableCopy, TableInit, NewSegment}
 
 -- every test of a list holds
 unfoldable pub allHold : List Bool → Bool

@@ -10,7 +10,7 @@ use Rattle.machine.specs.Sound.{soundReferences, soundOver}
 use Rattle.machine.specs.Step.{step, run}
 use Rattle.machine.specs.Frame.{OthersStay, OnlySizes}
 use Rattle.machine.specs.declared.records.Machine.{Machine}
-use Rattle.machine.specs.declared.operation.Operation.{Operation}
+use Rattle.operations.specs.declared.operation.Operation.{Operation}
 use Rattle.claims.specs.Answers.{accepted, valueOrListed, never}
 use Rattle.claims.specs.Refused.{Leaves}
 use Rattle.claims.specs.Occasions.{acceptedWhen}

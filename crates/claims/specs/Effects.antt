@@ -24,14 +24,14 @@ use Rattle.table.specs.Table as of-table
 use Rattle.table.specs.New.{tableOf}
 use Rattle.table.specs.Element.{dropped}
 use Rattle.machine.specs.Machine.{Buffers, buffers, memoryAt, tableAt, segmentAt, nextByte, nextCell, nextItem}
-use Rattle.machine.specs.Operation.{yes, limitsOf, exponentOf, kindOf, loadKindOf, storeKindOf, scriptOf, itemsOf}
+use Rattle.operations.specs.Operation.{yes, limitsOf, exponentOf, kindOf, loadKindOf, storeKindOf, scriptOf, itemsOf}
 use Rattle.machine.specs.Outcome.{changed, metered}
 use Rattle.machine.specs.Step.{Stepped}
 use Rattle.machine.specs.declared.records.Machine.{Machine}
 use Rattle.machine.specs.declared.outcome.Change.{Change}
 use Rattle.machine.specs.declared.outcome.Change.the-variants as change
-use Rattle.machine.specs.declared.operation.Operation.{Operation}
-use Rattle.machine.specs.declared.operation.Operation.the-variants.{Make, SetFuel, GetFuel, Charge, SetLimiter, NewMemory, GrowMemory, MemorySize, Load, Store, NewTable, GrowTable, TableSize, TableGet, TableSet, TableFill, TableCopy, TableInit, DropSegment, NewSegment, LinkCheck}
+use Rattle.operations.specs.declared.operation.Operation.{Operation}
+use Rattle.operations.specs.declared.operation.Operation.the-variants.{Make, SetFuel, GetFuel, Charge, SetLimiter, NewMemory, GrowMemory, MemorySize, Load, Store, NewTable, GrowTable, TableSize, TableGet, TableSet, TableFill, TableCopy, TableInit, DropSegment, NewSegment, LinkCheck}
 use Rattle.claims.specs.Metered.{Metering, Free, Sets, Charges, GrowsPages, GrowsCells, Spans, Inits, meteringOf, priceOf}
 
 -- what an accepted operation answers: creations the new number, growths and sizes the size before, 02 and 03 the fuel left, others 0

@@ -12,11 +12,11 @@ use Rattle.base.specs.declared.answer.Answer.{Answer}
 use Rattle.types.specs.Limits.{admitsOf}
 use Rattle.types.specs.declared.limits.Limits.{Limits}
 use Rattle.machine.specs.Machine.{Buffers, noLimits}
-use Rattle.machine.specs.Operation.{limitsOf}
+use Rattle.operations.specs.Operation.{limitsOf}
 use Rattle.machine.specs.Step.{step}
 use Rattle.machine.specs.declared.records.Machine.{Machine}
-use Rattle.machine.specs.declared.operation.Operation.{Operation}
-use Rattle.machine.specs.declared.operation.Operation.the-variants.{Make, SetFuel, GetFuel, Charge, SetLimiter, NewMemory, GrowMemory, MemorySize, Load, Store, NewTable, GrowTable, TableSize, TableGet, TableSet, TableFill, TableCopy, TableInit, DropSegment, NewSegment, LinkCheck}
+use Rattle.operations.specs.declared.operation.Operation.{Operation}
+use Rattle.operations.specs.declared.operation.Operation.the-variants.{Make, SetFuel, GetFuel, Charge, SetLimiter, NewMemory, GrowMemory, MemorySize, Load, Store, NewTable, GrowTable, TableSize, TableGet, TableSet, TableFill, TableCopy, TableInit, DropSegment, NewSegment, LinkCheck}
 use Rattle.claims.specs.Answers.{accepted}
 use Rattle.claims.specs.Metered.{grants}
 

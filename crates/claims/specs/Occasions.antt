@@ -21,11 +21,11 @@ use Rattle.memory.specs.New.{wanted, leastBytes}
 use Rattle.memory.specs.Grow.{mayHave, grownSize}
 use Rattle.machine.specs.Machine.{Buffers, buffers, memoryAt, tableAt, segmentAt, nextByte, nextCell, nextItem}
 use Rattle.machine.specs.Sound.{soundOver}
-use Rattle.machine.specs.Operation as operation
-use Rattle.machine.specs.Operation.{yes, limitsOf, exponentOf, kindOf, loadKindOf, storeKindOf, scriptOf, itemsOf}
+use Rattle.operations.specs.Operation as operation
+use Rattle.operations.specs.Operation.{yes, limitsOf, exponentOf, kindOf, loadKindOf, storeKindOf, scriptOf, itemsOf}
 use Rattle.machine.specs.declared.records.Machine.{Machine}
-use Rattle.machine.specs.declared.operation.Operation.{Operation}
-use Rattle.machine.specs.declared.operation.Operation.the-variants.{Make, SetFuel, GetFuel, Charge, SetLimiter, NewMemory, GrowMemory, MemorySize, Load, Store, NewTable, GrowTable, TableSize, TableGet, TableSet, TableFill, TableCopy, TableInit, DropSegment, NewSegment, LinkCheck}
+use Rattle.operations.specs.declared.operation.Operation.{Operation}
+use Rattle.operations.specs.declared.operation.Operation.the-variants.{Make, SetFuel, GetFuel, Charge, SetLimiter, NewMemory, GrowMemory, MemorySize, Load, Store, NewTable, GrowTable, TableSize, TableGet, TableSet, TableFill, TableCopy, TableInit, DropSegment, NewSegment, LinkCheck}
 use Rattle.claims.specs.Metered.{priceOf, affords, grants}
 
 -- the number is one in use

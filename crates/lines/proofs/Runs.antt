@@ -13,11 +13,11 @@ use Rattle.base.specs.Answer.{refuse, accept}
 use Rattle.base.specs.Span.{over}
 use Rattle.types.specs.Raw.{rawBytes}
 use Rattle.machine.specs.Machine.{Buffers, freshMachine}
-use Rattle.machine.specs.Operation.{yes, wellFormed}
+use Rattle.operations.specs.Operation.{yes, wellFormed}
 use Rattle.machine.specs.Outcome.{changed, settled}
 use Rattle.machine.specs.Step.{Stepped, decide, step}
 use Rattle.machine.specs.declared.records.Machine.{Machine}
-use Rattle.machine.specs.declared.operation.Operation.{Operation}
+use Rattle.operations.specs.declared.operation.Operation.{Operation}
 use Rattle.base.proofs.Picks.{pick-true, pick-false, both-left, both-then, both-2, either}
 use Rattle.base.proofs.Spans.{over-nil, over-over, length-over}
 use Rattle.lines.specs.Line.{lineOf, at}

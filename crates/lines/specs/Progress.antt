@@ -9,8 +9,8 @@ use Rattle.base.specs.Pick.{pick}
 use Rattle.base.specs.Span.{over}
 use Rattle.machine.specs.Machine.{Buffers, buffers}
 use Rattle.machine.specs.declared.records.Machine.{Machine}
-use Rattle.machine.specs.declared.operation.Operation.{Operation}
-use Rattle.machine.specs.declared.operation.Operation.the-variants.{Make}
+use Rattle.operations.specs.declared.operation.Operation.{Operation}
+use Rattle.operations.specs.declared.operation.Operation.the-variants.{Make}
 use Rattle.lines.specs.Code.{operationOf}
 use Rattle.lines.specs.Session.{Held, Turn, turned}
 use Rattle.lines.specs.Pieces.{lfAt, Run, wholeLines, pieceOf}

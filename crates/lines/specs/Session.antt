@@ -9,10 +9,10 @@ use Rattle.base.specs.Fuel.{defaultCosts}
 use Rattle.base.specs.declared.answer.Answer.{Answer}
 use Rattle.base.specs.declared.fuel.FuelCosts.{FuelCosts}
 use Rattle.machine.specs.Machine.{Buffers, freshMachine}
-use Rattle.machine.specs.Operation.{binary, yes}
+use Rattle.operations.specs.Operation.{binary, yes}
 use Rattle.machine.specs.Step.{Stepped, step}
 use Rattle.machine.specs.declared.records.Machine.{Machine}
-use Rattle.machine.specs.declared.operation.Operation.{Operation}
+use Rattle.operations.specs.declared.operation.Operation.{Operation}
 use Rattle.lines.specs.Line.{lineOf, at}
 use Rattle.lines.specs.Code.{operationOf}
 use Rattle.lines.specs.AnswerLine.{answerLine}

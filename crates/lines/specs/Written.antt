@@ -8,7 +8,7 @@ use Rattle.base.specs.Pick.{pick}
 use Rattle.base.specs.Span.{over}
 use Rattle.base.specs.declared.answer.Answer.{Answer}
 use Rattle.base.specs.declared.fuel.Fuel.{Fuel}
-use Rattle.machine.specs.declared.operation.Operation.{Operation}
+use Rattle.operations.specs.declared.operation.Operation.{Operation}
 use Rattle.lines.specs.Line.{some, filled}
 use Rattle.lines.specs.Code.{codeOf, fieldsBack}
 use Rattle.lines.specs.AnswerLine.{answerLine}

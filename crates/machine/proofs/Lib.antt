@@ -1,6 +1,5 @@
 pub mod Lists
 pub mod Laws
-pub mod Digits
 pub mod ListLaws
 pub mod Rooms
 pub mod Touched

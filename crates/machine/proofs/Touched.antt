@@ -45,13 +45,13 @@ use Rattle.machine.specs.Machine.{Buffers, buffers, noMemory, noTable, n
 use Rattle.machine.specs.Sound.{soundList, soundMemories, soundTables, soundSegments, soundOver}
 use Rattle.machine.specs.Frame.{InMemory, InTable, InSegment, NewItems, targetOf}
 use Rattle.machine.specs.Outcome.{withMemories, withTables, withSegments, changed, settled}
-use Rattle.machine.specs.Operation.{wellFormed, yes, limitsOf, exponentOf, kindOf, referenceOf, storeKindOf, itemsOf}
+use Rattle.operations.specs.Operation.{wellFormed, yes, limitsOf, exponentOf, kindOf, referenceOf, storeKindOf, itemsOf}
 use Rattle.machine.specs.Step.{Done, Performed, onNone, onBytes, onCells, onItems, setting, charging, madeMemory, newMemoryOn, growMemoryOn, storeOn, madeTable, newTableOn, growTableOn, setOn, fillOn, copyKnown, copyOn, initOn, dropOn, madeSegment, newSegmentOn, perform, decide, step}
 use Rattle.machine.specs.declared.records.Machine.{Machine}
 use Rattle.machine.specs.declared.outcome.Outcome.{Outcome}
 use Rattle.machine.specs.declared.outcome.Change.the-variants as change
-use Rattle.machine.specs.declared.operation.Operation.{Operation}
-use Rattle.machine.specs.declared.operation.Operation.the-variants.{Make, SetFuel, GetFuel, Charge, SetLimiter, NewMemory, GrowMemory, MemorySize, Load, Store, NewTable, GrowTable, TableSize, TableGet, TableSet, TableFill, TableCopy, TableInit, DropSegment, NewSegment, LinkCheck}
+use Rattle.operations.specs.declared.operation.Operation.{Operation}
+use Rattle.operations.specs.declared.operation.Operation.the-variants.{Make, SetFuel, GetFuel, Charge, SetLimiter, NewMemory, GrowMemory, MemorySize, Load, Store, NewTable, GrowTable, TableSize, TableGet, TableSet, TableFill, TableCopy, TableInit, DropSegment, NewSegment, LinkCheck}
 use Rattle.machine.proofs.Rooms.{Parts, parts, memory-sound, table-sound, segment-sound}
 use Rattle.machine.proofs.ListLaws as lists
 

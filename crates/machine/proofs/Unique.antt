@@ -13,17 +13,12 @@ use Rattle.machine.proofs.records.Machine.is_sound.Reads as is-sound-re
 use Rattle.machine.proofs.records.Machine.is_sound.Kinds as is-sound-kinds
 use Rattle.machine.proofs.records.Machine.operate.Reads as operate-reads
 use Rattle.machine.proofs.records.Machine.operate.Kinds as operate-kinds
-use Rattle.machine.proofs.operation.Operation.is_well_formed.Reads as is-well-formed-reads
-use Rattle.machine.proofs.operation.Operation.is_well_formed.Kinds as is-well-formed-kinds
 
 pub machine-new-one : One 0 new-kinds.ps new-kinds.r new-reads.Pre new-reads.Post
 machine-new-one κs a x x′ s s′ z p q = p ∙ sym q
 
 pub machine-is-sound-one : One 0 is-sound-kinds.ps is-sound-kinds.r is-sound-reads.Pre is-sound-reads.Post
 machine-is-sound-one κs a x x′ s s′ z p q = p ∙ sym q
-
-pub operation-is-well-formed-one : One 0 is-well-formed-kinds.ps is-well-formed-kinds.r is-well-formed-reads.Pre is-well-formed-reads.Post
-operation-is-well-formed-one κs a x x′ s s′ z p q = p ∙ sym q
 
 -- one answer, one machine, and one content of each of the three buffers
 pub machine-operate-one : OneWith 3 operate-kinds.ps operate-kinds.r operate-reads.Pre operate-reads.Post Buffers (λ κs s. buffers (now (s .1 .0)) (now (s .1 .1 .0)) (now (s .1 .1 .1 .0)))

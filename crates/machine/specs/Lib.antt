@@ -1,6 +1,5 @@
 pub mod Machine
 pub mod Sound
-pub mod Operation
 pub mod Outcome
 pub mod Step
 pub mod Frame

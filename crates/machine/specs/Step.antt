@@ -48,14 +48,14 @@ use Rattle.table.specs.declared.element.MadeSegment.{MadeSegment}
 use Rattle.table.specs.declared.element.MadeSegment.the-variants as made-segment
 use Rattle.machine.specs.Machine.{Buffers, buffers, memoryAt, tableAt, segmentAt, nextByte, nextCell, nextItem}
 use Rattle.machine.specs.Sound.{soundOver}
-use Rattle.machine.specs.Operation.{wellFormed, yes, limitsOf, exponentOf, kindOf, referenceOf, loadKindOf, storeKindOf, scriptOf, itemsOf}
+use Rattle.operations.specs.Operation.{wellFormed, yes, limitsOf, exponentOf, kindOf, referenceOf, loadKindOf, storeKindOf, scriptOf, itemsOf}
 use Rattle.machine.specs.Outcome.{keeps, settled}
 use Rattle.machine.specs.declared.records.Machine.{Machine}
 use Rattle.machine.specs.declared.outcome.Outcome.{Outcome}
 use Rattle.machine.specs.declared.outcome.Change.{Change}
 use Rattle.machine.specs.declared.outcome.Change.the-variants as change
-use Rattle.machine.specs.declared.operation.Operation.{Operation}
-use Rattle.machine.specs.declared.operation.Operation.the-variants.{Make, SetFuel, GetFuel, Charge, SetLimiter, NewMemory, GrowMemory, MemorySize, Load, Store, NewTable, GrowTable, TableSize, TableGet, TableSet, TableFill, TableCopy, TableInit, DropSegment, NewSegment, LinkCheck}
+use Rattle.operations.specs.declared.operation.Operation.{Operation}
+use Rattle.operations.specs.declared.operation.Operation.the-variants.{Make, SetFuel, GetFuel, Charge, SetLimiter, NewMemory, GrowMemory, MemorySize, Load, Store, NewTable, GrowTable, TableSize, TableGet, TableSet, TableFill, TableCopy, TableInit, DropSegment, NewSegment, LinkCheck}
 
 -- what an operation on one buffer gives back, and the buffer after it
 pub record Done : Type 0 where

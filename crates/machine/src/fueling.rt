@@ -1,5 +1,4 @@
 // Operations on fuel and limiter: 01 to 04.
-use super::fields;
 use super::outcome::Change;
 use super::outcome::Outcome;
 use super::records::Machine;
@@ -8,11 +7,12 @@ use base::answer::Value;
 use base::fuel::FuelStep;
 use base::limiter::HandedOver;
 use base::limiter::Limiter;
+use operations::fields;
 ghost use mathlib.Core.Path.{_≡_};
 ghost use lib.ListN.{take};
 ghost use Rattle.base.specs.Fuel.{setFuel, getFuel, consume};
 ghost use Rattle.base.specs.Limiter.{handOver};
-ghost use Rattle.machine.specs.Operation.{scriptOf};
+ghost use Rattle.operations.specs.Operation.{scriptOf};
 ghost use Rattle.machine.specs.Outcome.{keeps};
 ghost use Rattle.machine.specs.Step.{setting, charging, handing};
 

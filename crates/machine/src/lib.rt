@@ -1,9 +1,7 @@
 // The machine: up to 8 memories, 8 tables and 8 segments in lent buffers, and the operations on them.
-pub mod fields;
 pub mod fueling;
 pub mod memories;
 pub mod operate;
-pub mod operation;
 pub mod outcome;
 pub mod records;
 pub mod segments;

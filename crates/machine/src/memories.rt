@@ -1,5 +1,4 @@
 // Operations on memories: 10 to 14, and the link check 30.
-use super::fields;
 use super::outcome::Change;
 use super::outcome::Outcome;
 use super::records::Machine;
@@ -11,6 +10,7 @@ use base::limiter::Limiter;
 use memory::grow::GrownMemory;
 use memory::memory::Memory;
 use memory::new::MadeMemory;
+use operations::fields;
 use types::memory_ty::BuiltMemory;
 use types::memory_ty::MemoryType;
 ghost use mathlib.Core.Path.{_≡_};
@@ -22,7 +22,7 @@ ghost use Rattle.types.specs.MemoryType.{buildMemory};
 ghost use Rattle.memory.specs.New.{newMemory};
 ghost use Rattle.memory.specs.Grow.{growMemory};
 ghost use Rattle.machine.specs.Machine.{nextByte};
-ghost use Rattle.machine.specs.Operation.{yes, limitsOf, exponentOf};
+ghost use Rattle.operations.specs.Operation.{yes, limitsOf, exponentOf};
 ghost use Rattle.machine.specs.Step.{done, madeMemory, madeOn, newMemoryOn, grownMemory, grownOn, growMemoryOn, memorySize, loadOn, storeOn, linked, linkCheck};
 
 pub(crate) fn refused(number: u8) -> Answer

@@ -1,80 +1,20 @@
 // One operation on a machine: 18, 19, then 16 or 17, then the operation's own checks.
-use super::fields;
-use super::operation::Operation;
 use super::outcome::Outcome;
 use super::records::Machine;
 use base::answer::Answer;
+use operations::operation::Operation;
 ghost use mathlib.Core.Path.{_≡_};
 ghost use mathlib.Core.Bool.{true};
 ghost use lib.ListN.{length};
 ghost use Rattle.types.specs.Raw.{rawBytes};
 ghost use Rattle.machine.specs.Machine.{buffers};
 ghost use Rattle.machine.specs.Sound.{soundMachine};
-ghost use Rattle.machine.specs.Operation.{wellFormed};
 ghost use Rattle.machine.specs.Step.{performed, perform, decide, stepped, step};
 
 // The answer, and the machine after it.
 pub struct Operated {
     pub answer: Answer,
     pub machine: Machine,
-}
-
-impl Operation {
-    // Whether every field is in its range.
-    pub fn is_well_formed(self) -> bool
-        ensures { λ r. ⌜ r ≡ wellFormed self ⌝ }
-    {
-        match self {
-            Operation::Make { .. } => false,
-            Operation::SetFuel { .. } => true,
-            Operation::GetFuel => true,
-            Operation::Charge { .. } => true,
-            Operation::SetLimiter { count, digits } => fields::script_fields(count, digits),
-            Operation::NewMemory {
-                room: _,
-                wide,
-                bounded,
-                minimum: _,
-                maximum,
-                exponent,
-            } => fields::memory_fields(wide, bounded, maximum, exponent),
-            Operation::GrowMemory { .. } => true,
-            Operation::MemorySize { .. } => true,
-            Operation::Load { kind, .. } => kind <= 13,
-            Operation::Store { kind, bits, .. } => fields::store_fields(kind, bits),
-            Operation::NewTable {
-                kind,
-                wide,
-                bounded,
-                maximum,
-                initial,
-                ..
-            } => fields::table_fields(kind, wide, bounded, maximum, initial),
-            Operation::GrowTable { kind, .. } => fields::binary(kind),
-            Operation::TableSize { .. } => true,
-            Operation::TableGet { .. } => true,
-            Operation::TableSet { kind, .. } => fields::binary(kind),
-            Operation::TableFill { kind, .. } => fields::binary(kind),
-            Operation::TableCopy { .. } => true,
-            Operation::TableInit { from, len, .. } => fields::init_fields(from, len),
-            Operation::DropSegment { .. } => true,
-            Operation::NewSegment {
-                kind,
-                count,
-                first,
-                second,
-                third,
-                fourth,
-            } => fields::segment_fields(kind, count, first, second, third, fourth),
-            Operation::LinkCheck {
-                wide,
-                bounded,
-                maximum,
-                exponent,
-                ..
-            } => fields::memory_fields(wide, bounded, maximum, exponent),
-        }
-    }
 }
 
 impl Machine {

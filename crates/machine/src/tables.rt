@@ -1,5 +1,4 @@
 // Operations on tables: 20 to 26.
-use super::fields;
 use super::memories::refused;
 use super::outcome::Change;
 use super::outcome::Outcome;
@@ -9,6 +8,7 @@ use base::answer::Value;
 use base::fuel::Fuel;
 use base::grant::Spanned;
 use base::limiter::Limiter;
+use operations::fields;
 use table::grow::GrownTable;
 use table::new::MadeTable;
 use table::table::Table;
@@ -21,7 +21,7 @@ ghost use Rattle.table.specs.Grow.{growTable};
 ghost use Rattle.table.specs.Fill.{fillTable};
 ghost use Rattle.table.specs.Copy.{copyTable, copyWithin};
 ghost use Rattle.machine.specs.Machine.{nextCell};
-ghost use Rattle.machine.specs.Operation.{yes, limitsOf, kindOf, referenceOf};
+ghost use Rattle.operations.specs.Operation.{yes, limitsOf, kindOf, referenceOf};
 ghost use Rattle.machine.specs.Step.{done, madeTable, tableMadeOn, newTableOn, grownTable, tableGrownOn, growTableOn, tableSize, getOn, setOn, spannedOn, spannedOut, fillOn, copyKnown, copyOn};
 
 // A growth's outcome, with the record at its place.

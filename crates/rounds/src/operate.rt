@@ -2,8 +2,8 @@
 use base::fuel::FuelCosts;
 use lines::code::Parsed;
 use lines::code::read_line;
-use machine::operation::Operation;
 use machine::records::Machine;
+use operations::operation::Operation;
 ghost use mathlib.Core.Path.{_≡_};
 ghost use Rattle.machine.specs.Machine.{freshMachine};
 ghost use Rattle.base.specs.Fuel.{defaultCosts};

@@ -1,8 +1,8 @@
 // The cases that run on a machine.
 use super::lines::answer_line;
 use base::fuel::FuelCosts;
-use machine::operation::Operation;
 use machine::records::Machine;
+use operations::operation::Operation;
 
 fn fresh(copied: u32) -> Machine {
     let costs = FuelCosts {

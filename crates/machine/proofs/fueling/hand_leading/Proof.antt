@@ -1,7 +1,7 @@
 -- `machine::fueling::hand_leading` meets its contract. Assumes nothing.
 use Prim.Native.Nat.{ℕ, _-_}
 use lib.ListN.{length, take}
-use Rattle.machine.proofs.Digits.{take-all}
+use Rattle.operations.proofs.Digits.{take-all}
 use Rattle.base.specs.Limiter.{handOver}
 use native.Mathlib.Omega.{arith}
 use mathlib.Core.Path.{_≡_, sym, ap, _∙_}

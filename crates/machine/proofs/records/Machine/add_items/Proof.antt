@@ -1,6 +1,6 @@
 -- `machine::records::Machine::add_items` meets its contract. Assumes nothing.
 use Rattle.table.specs.Element.{newSegment}
-use Rattle.machine.specs.Operation.{kindOf}
+use Rattle.operations.specs.Operation.{kindOf}
 use Rattle.machine.specs.Step.{done, segmentMadeOn, newSegmentOn}
 use Rattle.base.specs.Pick.{both}
 use lib.ListN.{length}

@@ -1,6 +1,6 @@
 -- `machine::records::Machine::new_memory` meets its contract. Assumes nothing.
 use Rattle.memory.specs.New.{newMemory}
-use Rattle.machine.specs.Operation.{yes, limitsOf, exponentOf}
+use Rattle.operations.specs.Operation.{yes, limitsOf, exponentOf}
 use Rattle.machine.specs.Step.{done, madeOn, newMemoryOn}
 use Rattle.base.specs.Pick.{both}
 use lib.ListN.{length}

@@ -1,6 +1,6 @@
 -- `machine::records::Machine::new_table` meets its contract. Assumes nothing.
 use Rattle.table.specs.New.{newTable}
-use Rattle.machine.specs.Operation.{yes, limitsOf, kindOf, referenceOf}
+use Rattle.operations.specs.Operation.{yes, limitsOf, kindOf, referenceOf}
 use Rattle.machine.specs.Step.{done, tableMadeOn, newTableOn}
 use Rattle.base.specs.Pick.{both}
 use lib.ListN.{length}
