@@ -8,6 +8,7 @@ use base::answer::Answer;
 use base::answer::Refusal;
 use base::answer::Value;
 use base::fuel::FuelCosts;
+use lent::operate::operate_kept;
 use machine::operate::Operated;
 use machine::records::Machine;
 use operations::operation::Operation;
@@ -121,7 +122,7 @@ fn turn(
         };
     }
     let op = operation_in(line);
-    machine.operate(bytes, cells, items, op)
+    operate_kept(machine, bytes, cells, items, op)
 }
 
 // The first line's end from a place on, or the length.
@@ -185,7 +186,7 @@ fn more_lines(
         }
         let line = line::read_by_table(t, &input[used..e]);
         let op = operation_in(line);
-        last = last.machine.operate(bytes, cells, items, op);
+        last = operate_kept(last.machine, bytes, cells, items, op);
         let answer = last.answer;
         let fuel = last.machine.fuel;
         answer_line::put_answer(out, wrote, answer, fuel);

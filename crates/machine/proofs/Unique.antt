@@ -5,7 +5,7 @@ use Prim.Native.Nat.{ℕ}
 use denote.Ref.{now}
 use Rattle.base.proofs.One.{One, OneWith}
 use Rattle.machine.specs.Machine.{Buffers, buffers}
-use Rattle.machine.specs.Step.{Stepped}
+use Rattle.machine.specs.Step.{Performed, Stepped}
 use Rattle.machine.specs.declared.operate.Operated.{Operated}
 use Rattle.machine.proofs.records.Machine.new.Reads as new-reads
 use Rattle.machine.proofs.records.Machine.new.Kinds as new-kinds
@@ -13,6 +13,16 @@ use Rattle.machine.proofs.records.Machine.is_sound.Reads as is-sound-re
 use Rattle.machine.proofs.records.Machine.is_sound.Kinds as is-sound-kinds
 use Rattle.machine.proofs.records.Machine.operate.Reads as operate-reads
 use Rattle.machine.proofs.records.Machine.operate.Kinds as operate-kinds
+use Rattle.machine.proofs.records.Machine.settle.Reads as settle-reads
+use Rattle.machine.proofs.records.Machine.settle.Kinds as settle-kinds
+use Rattle.machine.proofs.records.Machine.memory_at.Reads as memory-at-reads
+use Rattle.machine.proofs.records.Machine.memory_at.Kinds as memory-at-kinds
+use Rattle.machine.proofs.records.Machine.table_at.Reads as table-at-reads
+use Rattle.machine.proofs.records.Machine.table_at.Kinds as table-at-kinds
+use Rattle.machine.proofs.records.Machine.segment_at.Reads as segment-at-reads
+use Rattle.machine.proofs.records.Machine.segment_at.Kinds as segment-at-kinds
+use Rattle.machine.proofs.records.Machine.decide.Reads as decide-reads
+use Rattle.machine.proofs.records.Machine.decide.Kinds as decide-kinds
 
 pub machine-new-one : One 0 new-kinds.ps new-kinds.r new-reads.Pre new-reads.Post
 machine-new-one κs a x x′ s s′ z p q = p ∙ sym q
@@ -26,3 +36,19 @@ machine-operate-one κs a x x′ s s′ z p q = (ap outcome (p ∙ sym q), ap (�
   where
     outcome : Stepped → Operated
     outcome o = record { answer = o .answer; machine = o .machine }
+
+pub machine-settle-one : One 0 settle-kinds.ps settle-kinds.r settle-reads.Pre settle-reads.Post
+machine-settle-one κs a x x′ s s′ z p q = p ∙ sym q
+
+pub machine-memory-at-one : One 0 memory-at-kinds.ps memory-at-kinds.r memory-at-reads.Pre memory-at-reads.Post
+machine-memory-at-one κs a x x′ s s′ z p q = p ∙ sym q
+
+pub machine-table-at-one : One 0 table-at-kinds.ps table-at-kinds.r table-at-reads.Pre table-at-reads.Post
+machine-table-at-one κs a x x′ s s′ z p q = p ∙ sym q
+
+pub machine-segment-at-one : One 0 segment-at-kinds.ps segment-at-kinds.r segment-at-reads.Pre segment-at-reads.Post
+machine-segment-at-one κs a x x′ s s′ z p q = p ∙ sym q
+
+-- one outcome, and one content of each of the three buffers
+pub machine-decide-one : OneWith 3 decide-kinds.ps decide-kinds.r decide-reads.Pre decide-reads.Post Buffers (λ κs s. buffers (now (s .1 .0)) (now (s .1 .1 .0)) (now (s .1 .1 .1 .0)))
+machine-decide-one κs a x x′ s s′ z p q = (ap (λ (o : Performed). o .out) (p ∙ sym q), ap (λ (o : Performed). o .buffers) (p ∙ sym q))

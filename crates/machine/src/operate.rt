@@ -134,7 +134,7 @@ impl Machine {
     }
 
     // The outcome of an operation: 18, 19, then the rest.
-    fn decide(
+    pub fn decide(
         self,
         bytes: &mut [u8],
         cells: &mut [u64],

@@ -139,7 +139,7 @@ impl Machine {
     }
 
     // The machine after an operation.
-    pub(crate) fn settle(self, outcome: Outcome) -> Machine
+    pub fn settle(self, outcome: Outcome) -> Machine
         ensures { λ r. ⌜ r ≡ settled self outcome ⌝ }
     {
         let change = outcome.change;

@@ -160,7 +160,7 @@ impl Machine {
     }
 
     // The record of a memory.
-    pub(crate) fn memory_at(self, i: usize) -> Memory
+    pub fn memory_at(self, i: usize) -> Memory
         ensures { λ r. ⌜ r ≡ memoryAt self i ⌝ }
     {
         if i < 8 {
@@ -170,7 +170,7 @@ impl Machine {
     }
 
     // The record of a table.
-    pub(crate) fn table_at(self, i: usize) -> Table
+    pub fn table_at(self, i: usize) -> Table
         ensures { λ r. ⌜ r ≡ tableAt self i ⌝ }
     {
         if i < 8 {
@@ -180,7 +180,7 @@ impl Machine {
     }
 
     // The record of a segment.
-    pub(crate) fn segment_at(self, i: usize) -> ElementSegment
+    pub fn segment_at(self, i: usize) -> ElementSegment
         ensures { λ r. ⌜ r ≡ segmentAt self i ⌝ }
     {
         if i < 8 {

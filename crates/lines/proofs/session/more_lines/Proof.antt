@@ -75,8 +75,8 @@ read-by-table-requires c κs = search needs
 operation-in-requires : tie.Need-operation-in-requires Inv-loop μ-loop
 operation-in-requires c κs = search needs
 
-operate-requires : tie.Need-operate-requires Inv-loop μ-loop
-operate-requires c κs = search needs
+operate-kept-requires : tie.Need-operate-kept-requires Inv-loop μ-loop
+operate-kept-requires c κs = search needs
 
 put-answer-requires : tie.Need-put-answer-requires Inv-loop μ-loop
 put-answer-requires c κs =
@@ -124,7 +124,7 @@ loop-again c =
       omega (arith, c .before .out .given, l .inv .5),
       turn-on rawBytes _ (l .used) (l .wrote) (l .room) _ _ (l .out) _ _ (d .before .before .loop-test .taken) (l .inv .1) (l .inv .0)
           (n .ensures) (d .if1 .left)
-          (turn-more (l .last .machine) _ _ _ _ _ (o .before .read-by-table .ensures) (o .operation-in .ensures) (y .operate .ensures))
+          (turn-more (l .last .machine) _ _ _ _ _ (o .before .read-by-table .ensures) (o .operation-in .ensures) (y .operate-kept .ensures))
           (c .before .before .put-answer .ensures) (l .inv .6),
     )
 
@@ -173,7 +173,7 @@ more-lines-spec =
     part-read-by-table-end
     read-by-table-requires
     operation-in-requires
-    operate-requires
+    operate-kept-requires
     put-answer-requires
     add-used
     add-wrote

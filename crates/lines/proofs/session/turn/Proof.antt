@@ -16,8 +16,8 @@ returns c = turn-makes _ _ _ _ (c .before .before .makes .ensures) (c .before .i
 operation-in-requires : tie.Need-operation-in-requires
 operation-in-requires c κs = search needs
 
-operate-requires : tie.Need-operate-requires
-operate-requires c κs = search needs
+operate-kept-requires : tie.Need-operate-kept-requires
+operate-kept-requires c κs = search needs
 
 same-length : tie.Need-same-length
 same-length c = search needs
@@ -32,7 +32,7 @@ returns-2 : tie.Need-returns-2
 returns-2 c =
     let y = c .before .before .before .before .before .before in
     let d = y .before .before .before .before in
-    turn-first _ _ _ _ _ (d .before .before .makes .ensures) (d .before .if1 .left) (d .operation-in .ensures) (y .operate .ensures)
+    turn-first _ _ _ _ _ (d .before .before .makes .ensures) (d .before .if1 .left) (d .operation-in .ensures) (y .operate-kept .ensures)
 
 pub turn-spec : {M : Type 1} → statement M
 turn-spec =
@@ -42,7 +42,7 @@ turn-spec =
     made-requires
     returns
     operation-in-requires
-    operate-requires
+    operate-kept-requires
     same-length
     same-length-2
     same-length-3

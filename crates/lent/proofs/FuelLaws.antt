@@ -1,0 +1,89 @@
+-- What a request leaves of the fuel record: the amount changes at most, and it is the amount that is written back. Assumes nothing.
+use mathlib.Core.Path.{_≡_, refl, ap, sym, _∙_}
+use mathlib.Core.Bool.{Bool, true, false}
+use Prim.Native.Nat.{ℕ, _-_}
+use lib.Dec.{ltb}
+use Rattle.base.specs.Pick.{pick}
+use Rattle.base.specs.Answer.{refusal}
+use Rattle.base.specs.Fuel.{left, setFuel, getFuel, consume, consumeIf, consumeUnchecked}
+use Rattle.lent.specs.Fuel.{FuelDone, fuelDone, setBy, chargedBy, requested, leftOf}
+use Rattle.base.specs.declared.answer.Refusal.{Refusal}
+use Rattle.base.specs.declared.fuel.Fuel.{Fuel}
+use Rattle.base.specs.declared.fuel.FuelStep.{FuelStep}
+use Rattle.base.specs.declared.fuel.FuelStep.the-variants.{Done, Refused}
+use Rattle.lent.specs.declared.fuel.FuelRequest.{FuelRequest}
+use Rattle.lent.specs.declared.fuel.FuelRequest.the-variants.{Set, Get, Charge, ChargeIf, ChargeUnchecked}
+use Rattle.lent.specs.declared.fuel.FuelLeft.{FuelLeft}
+
+-- the record f, but for the amount left
+abbrev pub SameBut : Fuel → FuelDone → Type 0
+SameBut f d = d .fuel ≡ left f (d .fuel .remaining)
+
+set-same : (f : Fuel) (n : ℕ) (t : Bool) → SameBut f (setBy f (pick t (Done (left f n)) (Refused (refusal 15 0))))
+unfolding setBy pick
+set-same f n true = refl
+set-same f n false = refl
+
+unchecked-same : (f : Fuel) (p : ℕ) (t : Bool) → SameBut f (chargedBy f (pick t (Refused (refusal 7 p)) (Done (left f (f .remaining - p)))))
+unfolding chargedBy pick
+unchecked-same f p true = refl
+unchecked-same f p false = refl
+
+-- a charge by one of two steps
+either-same : (f : Fuel) (a b : FuelStep) (t : Bool) → SameBut f (chargedBy f a) → SameBut f (chargedBy f b) → SameBut f (chargedBy f (pick t a b))
+unfolding pick
+either-same f a b true x y = x
+either-same f a b false x y = y
+
+refused-same : (f : Fuel) (r : Refusal) → SameBut f (chargedBy f (Refused r))
+unfolding chargedBy
+refused-same f r = refl
+
+free-same : (f : Fuel) → SameBut f (chargedBy f (Done f))
+unfolding chargedBy
+free-same f = refl
+
+charge-same : (f : Fuel) (p : ℕ) → SameBut f (chargedBy f (consumeUnchecked f p))
+unfolding consumeUnchecked
+charge-same f p = unchecked-same f p (ltb (f .remaining) p)
+
+-- costs and metering stay, whatever is asked
+pub requested-same : (f : Fuel) (q : FuelRequest) → SameBut f (requested f q)
+unfolding requested setFuel consume consumeIf
+requested-same f (Set n) = set-same f n (f .enabled)
+requested-same f Get = refl
+requested-same f (Charge p) = either-same f (consumeUnchecked f p) (Refused (refusal 15 0)) (f .enabled) (charge-same f p) (refused-same f (refusal 15 0))
+requested-same f (ChargeIf p) = either-same f (consumeUnchecked f p) (Done f) (f .enabled) (charge-same f p) (free-same f)
+requested-same f (ChargeUnchecked p) = charge-same f p
+
+-- so the record with the amount left in it is the whole outcome
+pub request-done : (f : Fuel) (q : FuelRequest) (r : FuelLeft) → r ≡ leftOf (requested f q) → fuelDone (r .answer) (left f (r .left)) ≡ requested f q
+unfolding leftOf
+request-done f q r e =
+    ap (λ (x : FuelLeft). fuelDone (x .answer) (left f (x .left))) e
+    ∙ ap (fuelDone (requested f q .answer)) (sym (requested-same f q))
+
+-- each request is its step
+pub set-step : (f : Fuel) (n : ℕ) → requested f (Set n) ≡ setBy f (setFuel f n)
+unfolding requested
+set-step f n = refl
+
+pub get-step : (f : Fuel) → requested f Get ≡ fuelDone (getFuel f) f
+unfolding requested
+get-step f = refl
+
+pub charge-step : (f : Fuel) (p : ℕ) → requested f (Charge p) ≡ chargedBy f (consume f p)
+unfolding requested
+charge-step f p = refl
+
+pub charge-if-step : (f : Fuel) (p : ℕ) → requested f (ChargeIf p) ≡ chargedBy f (consumeIf f p)
+unfolding requested
+charge-if-step f p = refl
+
+pub charge-unchecked-step : (f : Fuel) (p : ℕ) → requested f (ChargeUnchecked p) ≡ chargedBy f (consumeUnchecked f p)
+unfolding requested
+charge-unchecked-step f p = refl
+
+-- two outcomes that meet the contract of `request` are equal, answer and record
+pub request-one : (f : Fuel) (q : FuelRequest) (a b : FuelDone) → a ≡ requested f q → b ≡ requested f q → a ≡ b
+request-one f q a b x y = x ∙ sym y

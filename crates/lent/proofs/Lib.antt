@@ -1,0 +1,6 @@
+pub mod FuelLaws
+pub mod MemoryLaws
+pub mod TableLaws
+pub mod RecordParts
+pub mod RecordLaws
+pub mod Unique

@@ -1,0 +1,82 @@
+-- `lent::operate::table_place` meets its contract. Assumes nothing.
+use mathlib.Core.Path.{refl}
+use Rattle.lent.specs.Places.{tablePlace}
+use borrow.Author.Needs.{needs}
+use Rattle.lent.proofs.operate.table_place.Statement.{statement}
+use Rattle.lent.proofs.operate.table_place.Tie as tie
+
+enum-told : tie.Need-enum-told
+enum-told c = search needs
+
+enum-told-2 : tie.Need-enum-told-2
+enum-told-2 c = search needs
+
+enum-told-3 : tie.Need-enum-told-3
+enum-told-3 c = search needs
+
+enum-known-change : tie.Need-enum-known-change
+enum-known-change c = search needs
+
+or-first-requires : tie.Need-or-first-requires
+or-first-requires c κs = search needs
+
+enum-told-4 : tie.Need-enum-told-4
+enum-told-4 c = search needs
+
+or-first-requires-2 : tie.Need-or-first-requires-2
+or-first-requires-2 c κs = search needs
+
+enum-told-5 : tie.Need-enum-told-5
+enum-told-5 c = search needs
+
+enum-told-6 : tie.Need-enum-told-6
+enum-told-6 c = search needs
+
+returns : tie.Need-returns
+unfolding tablePlace
+returns c = rw (c .enum-told .given .1) refl
+
+returns-2 : tie.Need-returns-2
+unfolding tablePlace
+returns-2 c = rw (c .enum-told2 .given .1) refl
+
+returns-3 : tie.Need-returns-3
+unfolding tablePlace
+returns-3 c = rw (c .enum-told3 .given .1) refl
+
+returns-4 : tie.Need-returns-4
+unfolding tablePlace
+returns-4 c = rw (c .before .before .change .given .1) (c .or-first .ensures)
+
+returns-5 : tie.Need-returns-5
+unfolding tablePlace
+returns-5 c = rw (c .before .enum-told4 .given .1) (c .or-first2 .ensures)
+
+returns-6 : tie.Need-returns-6
+unfolding tablePlace
+returns-6 c = rw (c .enum-told5 .given .1) refl
+
+returns-7 : tie.Need-returns-7
+unfolding tablePlace
+returns-7 c = rw (c .enum-told6 .given .1) refl
+
+pub table-place-spec : {M : Type 1} → statement M
+table-place-spec =
+    tie.close
+    (tie.spec
+    enum-told
+    enum-told-2
+    enum-told-3
+    enum-known-change
+    or-first-requires
+    enum-told-4
+    or-first-requires-2
+    enum-told-5
+    enum-told-6
+    returns
+    returns-2
+    returns-3
+    returns-4
+    returns-5
+    returns-6
+    returns-7)

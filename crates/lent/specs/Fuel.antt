@@ -1,0 +1,45 @@
+-- Document 01, "Fuel": the fuel record is lent and charged where it stands.
+use Prim.Native.Nat.{ℕ}
+use Rattle.base.specs.Answer.{accept}
+use Rattle.base.specs.Fuel.{setFuel, getFuel, consume, consumeIf, consumeUnchecked}
+use Rattle.base.specs.declared.answer.Answer.{Answer}
+use Rattle.base.specs.declared.answer.Answer.the-variants as answer
+use Rattle.base.specs.declared.fuel.Fuel.{Fuel}
+use Rattle.base.specs.declared.fuel.FuelStep.{FuelStep}
+use Rattle.base.specs.declared.fuel.FuelStep.the-variants.{Done, Refused}
+use Rattle.lent.specs.declared.fuel.FuelRequest.{FuelRequest}
+use Rattle.lent.specs.declared.fuel.FuelRequest.the-variants.{Set, Get, Charge, ChargeIf, ChargeUnchecked}
+use Rattle.lent.specs.declared.fuel.FuelLeft.{FuelLeft}
+
+-- an answer, and the fuel record after it
+pub record FuelDone : Type 0 where
+  pub answer : Answer
+  pub fuel : Fuel
+
+abbrev pub fuelDone : Answer → Fuel → FuelDone
+fuelDone a f = record { answer = a; fuel = f }
+
+-- a setting answers 0; a refusal leaves the record
+unfoldable pub setBy : Fuel → FuelStep → FuelDone
+setBy f (Refused r) = fuelDone (answer.Refusal r) f
+setBy f (Done g) = fuelDone (accept 0) g
+
+-- a charge answers the fuel left; a refusal leaves the record
+unfoldable pub chargedBy : Fuel → FuelStep → FuelDone
+chargedBy f (Refused r) = fuelDone (answer.Refusal r) f
+chargedBy f (Done g) = fuelDone (accept (g .remaining)) g
+
+-- a request to the fuel record, each by its step
+unfoldable pub requested : Fuel → FuelRequest → FuelDone
+requested f (Set n) = setBy f (setFuel f n)
+requested f Get = fuelDone (getFuel f) f
+requested f (Charge p) = chargedBy f (consume f p)
+requested f (ChargeIf p) = chargedBy f (consumeIf f p)
+requested f (ChargeUnchecked p) = chargedBy f (consumeUnchecked f p)
+
+-- what is left, and the answer
+abbrev pub fuelLeft : ℕ → Answer → FuelLeft
+fuelLeft n a = record { left = n; answer = a }
+
+unfoldable pub leftOf : FuelDone → FuelLeft
+leftOf d = fuelLeft (d .fuel .remaining) (d .answer)

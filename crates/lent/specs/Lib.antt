@@ -1,0 +1,5 @@
+pub mod Fuel
+pub mod Memories
+pub mod Tables
+pub mod Records
+pub mod Places

@@ -1,0 +1,96 @@
+-- How an operation on lent lists is carried out: a verdict on their lengths, the first 8 records of each, and one record that goes back to each.
+use Prim.Native.Nat.{ℕ}
+use mathlib.Core.Bool.{true, false}
+use mathlib.Core.List.{List, [], _∷_}
+use lib.Dec.{ltb}
+use lib.ListN.{getD}
+use Rattle.base.specs.Pick.{pick, unless}
+use Rattle.base.specs.Answer.{accept}
+use Rattle.base.specs.declared.answer.Answer.{Answer}
+use Rattle.memory.specs.declared.memory.Memory.{Memory}
+use Rattle.table.specs.declared.table.Table.{Table}
+use Rattle.machine.specs.Machine.{Buffers, buffers, memoryAt, tableAt, segmentAt}
+use Rattle.machine.specs.Outcome.{settled}
+use Rattle.machine.specs.Step.{Performed, decide}
+use Rattle.machine.specs.declared.records.Machine.{Machine}
+use Rattle.machine.specs.declared.outcome.Outcome.{Outcome}
+use Rattle.machine.specs.declared.outcome.Change.{Change}
+use Rattle.machine.specs.declared.outcome.Change.the-variants as change
+use Rattle.operations.specs.declared.operation.Operation.{Operation}
+use Rattle.lent.specs.declared.operate.Placed.{Placed}
+use Rattle.lent.specs.declared.operate.Verdict.{Verdict}
+use Rattle.lent.specs.Records.{longEnough, unfit}
+
+-- whether a list is too short, and the answer if so
+unfoldable pub verdict : ℕ → ℕ → ℕ → Operation → Verdict
+verdict memories tables segments op =
+    unless (longEnough memories tables segments) (record { short = true; answer = unfit op })
+    (record { short = false; answer = accept 0 })
+
+-- the place that a change is at, or the first
+unfoldable pub orFirst : ℕ → ℕ
+orFirst i = pick (ltb i 8) i 0
+
+unfoldable pub memoryPlace : Change → Machine → ℕ
+memoryPlace change.Nothing m = 0
+memoryPlace (change.Memory i r) m = orFirst i
+memoryPlace (change.AddMemory r) m = orFirst (m .counts .memories)
+memoryPlace (change.Table i r) m = 0
+memoryPlace (change.AddTable r) m = 0
+memoryPlace (change.Segment i r) m = 0
+memoryPlace (change.AddSegment r) m = 0
+
+unfoldable pub tablePlace : Change → Machine → ℕ
+tablePlace change.Nothing m = 0
+tablePlace (change.Memory i r) m = 0
+tablePlace (change.AddMemory r) m = 0
+tablePlace (change.Table i r) m = orFirst i
+tablePlace (change.AddTable r) m = orFirst (m .counts .tables)
+tablePlace (change.Segment i r) m = 0
+tablePlace (change.AddSegment r) m = 0
+
+unfoldable pub segmentPlace : Change → Machine → ℕ
+segmentPlace change.Nothing m = 0
+segmentPlace (change.Memory i r) m = 0
+segmentPlace (change.AddMemory r) m = 0
+segmentPlace (change.Table i r) m = 0
+segmentPlace (change.AddTable r) m = 0
+segmentPlace (change.Segment i r) m = orFirst i
+segmentPlace (change.AddSegment r) m = orFirst (m .counts .segments)
+
+-- one record goes back to each list, with its place
+abbrev pub placedIn : Machine → ℕ → ℕ → ℕ → Answer → Placed
+placedIn m i j k a =
+    record {
+      «memory_at» = i;
+      memory = memoryAt m i;
+      «table_at» = j;
+      table = tableAt m j;
+      «segment_at» = k;
+      segment = segmentAt m k;
+      standing = record { counts = m .counts; limiter = m .limiter };
+      fuel = m .fuel;
+      answer = a;
+    }
+
+unfoldable pub placedOf : Machine → Outcome → Placed
+placedOf m o =
+    placedIn (settled m o) (memoryPlace (o .change) m) (tablePlace (o .change) m) (segmentPlace (o .change) m) (o .answer)
+
+-- what goes back after an operation, and all buffers after it
+pub record Placing : Type 0 where
+  pub out : Placed
+  pub buffers : Buffers
+
+abbrev pub placing : Placed → List ℕ → List ℕ → List ℕ → Placing
+placing p bytes cells items = record { out = p; buffers = buffers bytes cells items }
+
+abbrev pub placingOf : Machine → Performed → Placing
+placingOf m p = record { out = placedOf m (p .out); buffers = p .buffers }
+
+unfoldable pub place : ℕ → Machine → Buffers → Operation → Placing
+place r m b op = placingOf m (decide r m b op)
+
+-- the first 8 records, read one by one
+abbrev pub eight : {A : Type 0} → A → List A → List A
+eight d l = getD l 0 d ∷ getD l 1 d ∷ getD l 2 d ∷ getD l 3 d ∷ getD l 4 d ∷ getD l 5 d ∷ getD l 6 d ∷ getD l 7 d ∷ []

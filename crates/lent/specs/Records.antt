@@ -1,0 +1,82 @@
+-- Document 01, "The machine": records stand in lent lists, and the fuel record is lent and charged where it stands.
+use Prim.Native.Nat.{ℕ}
+use mathlib.Core.Bool.{Bool}
+use mathlib.Core.List.{List, _++_}
+use lib.Dec.{leb}
+use lib.ListN.{length, take, drop}
+use Rattle.base.specs.Pick.{unless, both}
+use Rattle.base.specs.Answer.{refuse}
+use Rattle.base.specs.declared.answer.Answer.{Answer}
+use Rattle.base.specs.declared.fuel.Fuel.{Fuel}
+use Rattle.memory.specs.declared.memory.Memory.{Memory}
+use Rattle.table.specs.declared.table.Table.{Table}
+use Rattle.table.specs.declared.element.ElementSegment.{ElementSegment}
+use Rattle.machine.specs.Machine.{Buffers, buffers}
+use Rattle.operations.specs.Operation.{wellFormed}
+use Rattle.machine.specs.Step.{step}
+use Rattle.machine.specs.declared.records.Machine.{Machine}
+use Rattle.operations.specs.declared.operation.Operation.{Operation}
+use Rattle.lent.specs.declared.operate.Standing.{Standing}
+
+-- what is lent beside the buffers
+pub record Lent : Type 0 where
+  pub memories : List Memory
+  pub tables : List Table
+  pub segments : List ElementSegment
+  pub standing : Standing
+  pub fuel : Fuel
+
+abbrev pub lent : List Memory → List Table → List ElementSegment → Standing → Fuel → Lent
+lent ms ts gs s f = record { memories = ms; tables = ts; segments = gs; standing = s; fuel = f }
+
+-- the machine of these records
+abbrev pub gathered : List Memory → List Table → List ElementSegment → Standing → Fuel → Machine
+gathered ms ts gs s f =
+    record { memories = ms; tables = ts; segments = gs; counts = s .counts; fuel = f; limiter = s .limiter }
+
+-- the machine of the first 8 places of each list
+abbrev pub machineOf : Lent → Machine
+machineOf l =
+    gathered (take 8 (l .memories)) (take 8 (l .tables)) (take 8 (l .segments)) (l .standing) (l .fuel)
+
+-- each list has 8 places at least
+unfoldable pub longEnough : ℕ → ℕ → ℕ → Bool
+longEnough memories tables segments = both (leb 8 memories) (both (leb 8 tables) (leb 8 segments))
+
+abbrev pub placed : Lent → Bool
+placed l = longEnough (length (l .memories)) (length (l .tables)) (length (l .segments))
+
+-- records in the first 8 places, all further places as before
+abbrev pub inFront : {A : Type 0} → List A → List A → List A
+inFront records list = records ++ drop 8 list
+
+-- what is lent, with the machine's records in the first 8 places
+abbrev pub lentBack : Machine → Lent → Lent
+lentBack m l =
+    lent (inFront (m .memories) (l .memories)) (inFront (m .tables) (l .tables)) (inFront (m .segments) (l .segments))
+    (record { counts = m .counts; limiter = m .limiter }) (m .fuel)
+
+-- an operation's answer, and what is lent and the buffers after it
+pub record LentStepped : Type 0 where
+  pub answer : Answer
+  pub lent : Lent
+  pub buffers : Buffers
+
+abbrev pub lentStepped : Answer → List Memory → List Table → List ElementSegment → Standing → Fuel → List ℕ → List ℕ → List ℕ → LentStepped
+lentStepped a ms ts gs s f bytes cells items =
+    record { answer = a; lent = lent ms ts gs s f; buffers = buffers bytes cells items }
+
+-- lists with fewer places are unsound; first check wins
+unfoldable pub unfit : Operation → Answer
+unfit op = unless (wellFormed op) (refuse 18 0) (refuse 19 0)
+
+-- where each list has its places: the machine's step
+unfoldable pub stepPlaced : ℕ → Lent → Buffers → Operation → LentStepped
+stepPlaced r l b op =
+    let s = step r (machineOf l) b op in
+    record { answer = s .answer; lent = lentBack (s .machine) l; buffers = s .buffers }
+
+unfoldable pub lentStep : ℕ → Lent → Buffers → Operation → LentStepped
+lentStep r l b op =
+    unless (placed l) (record { answer = unfit op; lent = l; buffers = b })
+    (stepPlaced r l b op)
