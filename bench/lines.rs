@@ -1,6 +1,7 @@
 //! Lines a second: one line read and answered, beside plain Rust that reads digits through a table, and a whole session,
 //! beside the oracle, which runs the crate's own code behind the same lines. Both sides of a row see the same bytes, in memory.
 
+use std::io::BufRead;
 use std::time::Instant;
 
 // Archive librounds.a: crates/rounds/src/text.rt.
@@ -115,8 +116,12 @@ fn whole_session(input: &[u8], lines: &[&[u8]], out: &mut [u8]) {
     let rust = best(|| {
         theirs.clear();
         let mut session = machine::Session::new();
-        for line in lines {
-            theirs.extend_from_slice(session.answer_line(line).as_bytes());
+        let (mut rest, mut line) = (input, Vec::new());
+        // as the oracle's own program reads
+        while rest.read_until(b'\n', &mut line).is_ok_and(|count| count > 0) {
+            let text = line.strip_suffix(b"\n").unwrap_or(&line);
+            theirs.extend_from_slice(session.answer_line(text).as_bytes());
+            line.clear();
         }
     });
     let mut wrote = 0;

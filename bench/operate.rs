@@ -5,7 +5,8 @@ use std::time::Instant;
 
 // Archive librounds.a: crates/rounds/src/operate.rt.
 unsafe extern "C" {
-    /// So many rounds of the line's operation on a machine with so many memories, tables and segments; the fuel left.
+    /// So many rounds of the line's operation, by value or through lent records and lent fuel, on a machine with so many memories,
+    /// tables and segments; the fuel left.
     fn rounds_operate(
         bytes: *mut u8,
         byte_count: usize,
@@ -13,6 +14,7 @@ unsafe extern "C" {
         cell_count: usize,
         items: *mut u64,
         item_count: usize,
+        lent: bool,
         line: *const u8,
         length: usize,
         instances: u64,
@@ -53,7 +55,7 @@ struct Buffers {
 }
 
 /// The nanoseconds of one call.
-fn spent(b: &mut Buffers, line: &str, instances: u64, rounds: u64) -> f64 {
+fn spent(b: &mut Buffers, lent: bool, line: &str, instances: u64, rounds: u64) -> f64 {
     let start = Instant::now();
     let left = unsafe {
         rounds_operate(
@@ -63,6 +65,7 @@ fn spent(b: &mut Buffers, line: &str, instances: u64, rounds: u64) -> f64 {
             b.cells.len(),
             b.items.as_mut_ptr(),
             b.items.len(),
+            lent,
             line.as_ptr(),
             line.len(),
             instances,
@@ -74,12 +77,12 @@ fn spent(b: &mut Buffers, line: &str, instances: u64, rounds: u64) -> f64 {
 }
 
 /// The nanoseconds of one round: the best of many.
-fn round(b: &mut Buffers, line: &str, instances: u64) -> f64 {
+fn round(b: &mut Buffers, lent: bool, line: &str, instances: u64) -> f64 {
     let mut none = f64::INFINITY;
     let mut all = f64::INFINITY;
     for _ in 0..60 {
-        none = none.min(spent(b, line, instances, 0));
-        all = all.min(spent(b, line, instances, ROUNDS));
+        none = none.min(spent(b, lent, line, instances, 0));
+        all = all.min(spent(b, lent, line, instances, ROUNDS));
     }
     (all - none) / ROUNDS as f64
 }
@@ -87,16 +90,17 @@ fn round(b: &mut Buffers, line: &str, instances: u64) -> f64 {
 pub fn print() {
     let mut b = Buffers { bytes: vec![0; 8 * ROOM], cells: vec![0; 8 * ROOM], items: vec![0; 32] };
     println!();
-    println!("{:<26} {:>12} {:>12} {:>12}", "through operate", "empty", "1 of each", "8 of each");
+    println!("{:<26} {:>12} {:>12} {:>12} {:>16}", "through operate", "empty", "1 of each", "8 of each", "1 of each, lent");
     for (name, code, fields, needs) in OPERATIONS {
         let line = fields.iter().fold(code.to_string(), |text, field| format!("{text} {field:016x}"));
-        let empty = if needs { "-".to_string() } else { format!("{:.1} ns", round(&mut b, &line, 0)) };
-        let one = format!("{:.1} ns", round(&mut b, &line, 1));
-        let all = format!("{:.1} ns", round(&mut b, &line, 8));
-        println!("{name:<26} {empty:>12} {one:>12} {all:>12}");
+        let empty = if needs { "-".to_string() } else { format!("{:.1} ns", round(&mut b, false, &line, 0)) };
+        let one = format!("{:.1} ns", round(&mut b, false, &line, 1));
+        let all = format!("{:.1} ns", round(&mut b, false, &line, 8));
+        let lent = format!("{:.1} ns", round(&mut b, true, &line, 1));
+        println!("{name:<26} {empty:>12} {one:>12} {all:>12} {lent:>16}");
     }
-    let copying = round(&mut b, "02", 0);
-    let one = round(&mut b, "02", 1) - copying;
-    let all = round(&mut b, "02", 8) - copying;
+    let copying = round(&mut b, false, "02", 0);
+    let one = round(&mut b, false, "02", 1) - copying;
+    let all = round(&mut b, false, "02", 8) - copying;
     println!("of which copying and dispatch {copying:.1} ns, the soundness test {one:.1} ns with 1 of each and {all:.1} ns with 8 of each");
 }

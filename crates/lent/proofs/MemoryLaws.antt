@@ -31,16 +31,16 @@ pub record Like (m : Memory) (f : Fuel) (l : Limiter) (g : Grown) : Type 0 where
   pub fuel : g .out .fuel ≡ left f (g .out .fuel .remaining)
   pub limiter : g .out .limiter ≡ placed l (g .out .limiter .at)
 
-paid-same : (f : Fuel) (p : ℕ) (t : Bool) → pick t (left f (f .remaining - p)) f ≡ left f (pick t (left f (f .remaining - p)) f .remaining)
+pub paid-same : (f : Fuel) (p : ℕ) (t : Bool) → pick t (left f (f .remaining - p)) f ≡ left f (pick t (left f (f .remaining - p)) f .remaining)
 unfolding pick
 paid-same f p true = refl
 paid-same f p false = refl
 
-moved-same : (l : Limiter) → moved l ≡ placed l (moved l .at)
+pub moved-same : (l : Limiter) → moved l ≡ placed l (moved l .at)
 unfolding moved
 moved-same l = refl
 
-twice-same : (l : Limiter) → moved (moved l) ≡ placed l (moved (moved l) .at)
+pub twice-same : (l : Limiter) → moved (moved l) ≡ placed l (moved (moved l) .at)
 unfolding moved
 twice-same l = refl
 

@@ -1,5 +1,5 @@
 -- Laws of records in lent lists: where the one that goes back stands, and that a list with it is the machine's records in front. Assumes nothing.
-use Prim.Native.Nat.{ℕ, zero, suc, _≤_, _<_}
+use Prim.Native.Nat.{ℕ, zero, suc, _+_, _≤_, _<_}
 use mathlib.Core.Path.{_≡_, refl, sym, ap, subst, _∙_}
 use mathlib.Core.Bool.{Bool, true, false, false≢true}
 use mathlib.Core.List.{List, [], _∷_, _++_}
@@ -8,23 +8,25 @@ use lib.Dec.{ltb}
 use lib.ListN.{length, take, drop, getD, set}
 use borrow.Author.Tests.{ltb-true, leb-true, le-leb}
 use Rattle.base.specs.Pick.{pick}
-use Rattle.base.proofs.Picks.{pick-true, pick-false, both-true, both-1, both-2, either}
+use Rattle.base.proofs.Picks.{pick-true, pick-false, pick-ap, both-true, both-1, both-2, either}
 use Rattle.base.specs.declared.fuel.Fuel.{Fuel}
 use Rattle.memory.specs.declared.memory.Memory.{Memory}
 use Rattle.table.specs.declared.table.Table.{Table}
 use Rattle.table.specs.declared.element.ElementSegment.{ElementSegment}
-use Rattle.machine.specs.Machine.{Buffers, noMemory, noTable, noSegment}
+use Rattle.machine.specs.Machine.{Buffers, noMemory, noTable, noSegment, memoryAt, tableAt, segmentAt}
 use Rattle.machine.specs.Outcome.{changed, settled}
 use Rattle.machine.specs.Step.{decide, Stepped, step}
 use Rattle.lent.specs.declared.operate.Standing.{Standing}
 use Rattle.lent.specs.declared.operate.Verdict.{Verdict}
 use Rattle.machine.specs.declared.records.Machine.{Machine}
+use Rattle.machine.specs.declared.records.Counts.{Counts}
+use Rattle.machine.specs.declared.outcome.Outcome.{Outcome}
 use Rattle.machine.specs.declared.outcome.Change.{Change}
 use Rattle.machine.specs.declared.outcome.Change.the-variants as change
 use Rattle.operations.specs.declared.operation.Operation.{Operation}
 use Rattle.operations.specs.declared.operation.Operation.the-variants.{GetFuel}
 use Rattle.lent.specs.Records.{Lent, lent, gathered, machineOf, longEnough, placed, lentBack, LentStepped, unfit, stepPlaced, lentStep}
-use Rattle.lent.specs.Places.{verdict, orFirst, memoryPlace, tablePlace, segmentPlace, placedOf, Placing, place, eight}
+use Rattle.lent.specs.Places.{verdict, orFirst, memoryPlace, tablePlace, segmentPlace, orKept, memoryAfter, tableAfter, segmentAfter, oneMore, countsAfter, placedOf, Placing, place, eight}
 
 or-first-small : (i : ℕ) → orFirst i < 8
 unfolding orFirst
@@ -77,6 +79,27 @@ module _ (r : ℕ) (m : Machine) (b : Buffers) (op : Operation) where
   unfolding place placedOf
   segment-within = segment-place-small (decide r m b op .out .change) m
 
+-- what goes back, put together from its parts
+pub placed-by : (m : Machine) (o : Outcome) {i j k : ℕ} {x x0 : Memory} {y y0 : Table} {z z0 : ElementSegment} {n : Counts}
+    → i ≡ memoryPlace (o .change) m → j ≡ tablePlace (o .change) m → k ≡ segmentPlace (o .change) m
+    → x0 ≡ memoryAt m 0 → x ≡ memoryAfter (o .change) x0 (m .counts .memories)
+    → y0 ≡ tableAt m 0 → y ≡ tableAfter (o .change) y0 (m .counts .tables)
+    → z0 ≡ segmentAt m 0 → z ≡ segmentAfter (o .change) z0 (m .counts .segments) → n ≡ countsAfter (o .change) (m .counts)
+    → record {
+      «memory_at» = i;
+      memory = x;
+      «table_at» = j;
+      table = y;
+      «segment_at» = k;
+      segment = z;
+      standing = record { counts = n; limiter = o .limiter };
+      fuel = o .fuel;
+      answer = o .answer;
+    }
+    ≡ placedOf m o
+unfolding placedOf
+placed-by m o e1 e2 e3 p e4 q e5 s e6 e7 = rw (e1, e2, e3, e4, p, e5, q, e6, s, e7) refl
+
 -- a list read one by one is its first 8 places
 eight-take : {A : Type 0} (d : A) (l : List A) → 8 ≤ length l → eight d l ≡ take 8 l
 eight-take d [] h = absurd (omega arith)
@@ -107,52 +130,72 @@ set-kept [] i d = refl
 set-kept (x ∷ l) zero d = refl
 set-kept (x ∷ l) (suc i) d = ap (λ (k : List _). x ∷ k) (set-kept l i d)
 
-set-again : {A : Type 0} (l : List A) (i : ℕ) (r d : A) → set l i (getD (set l i r) i d) ≡ set l i r
-set-again [] i r d = refl
-set-again (x ∷ l) zero r d = refl
-set-again (x ∷ l) (suc i) r d = ap (λ (k : List _). x ∷ k) (set-again l i r d)
+-- a record stored at its place where there is one, or the first one stored again
+kept-or : {A : Type 0} (l : List A) (i : ℕ) (r d : A) (t : Bool) → set l (pick t i 0) (pick t r (getD l 0 d)) ≡ pick t (set l i r) l
+unfolding pick
+kept-or l i r d true = refl
+kept-or l i r d false = set-kept l 0 d
 
--- over the kind of record: the list after a change is the list with one record stored
-module _ {A : Type 0} (f : Machine → List A) (d : A) (x m : Machine) where
-  at-change : (t : Bool) (i : ℕ) (r : A) → f x ≡ set (f m) i r → set (f m) (pick t i 0) (getD (f (pick t x m)) (pick t i 0) d) ≡ f (pick t x m)
-  unfolding pick
-  at-change true i r e = subst (λ (l : List A). set (f m) i (getD l i d) ≡ l) (sym e) (set-again (f m) i r d)
-  at-change false i r e = set-kept (f m) 0 d
+-- over the kind of record: the list of a machine that a change leaves, or not
+pick-list : {A : Type 0} (f : Machine → List A) (x m : Machine) (t : Bool) → f x ≡ f m → f m ≡ f (pick t x m)
+unfolding pick
+pick-list f x m true e = sym e
+pick-list f x m false e = refl
 
-  elsewhere : (t : Bool) → f x ≡ f m → set (f m) 0 (getD (f (pick t x m)) 0 d) ≡ f (pick t x m)
-  unfolding pick
-  elsewhere true e = subst (λ (l : List A). set (f m) 0 (getD l 0 d) ≡ l) (sym e) (set-kept (f m) 0 d)
-  elsewhere false e = set-kept (f m) 0 d
-
-memories-after : (c : Change) (m : Machine) → set (m .memories) (memoryPlace c m) (getD (changed c m .memories) (memoryPlace c m) noMemory) ≡ changed c m .memories
-unfolding changed memoryPlace orFirst
+memories-after : (c : Change) (m : Machine) → set (m .memories) (memoryPlace c m) (memoryAfter c (getD (m .memories) 0 noMemory) (m .counts .memories)) ≡ changed c m .memories
+unfolding changed memoryPlace memoryAfter orFirst orKept
 memories-after change.Nothing m = set-kept (m .memories) 0 noMemory
-memories-after (change.Memory i r) m = at-change (λ (z : Machine). z .memories) noMemory _ m (ltb i 8) i r refl
-memories-after (change.AddMemory r) m = at-change (λ (z : Machine). z .memories) noMemory _ m (ltb (m .counts .memories) 8) (m .counts .memories) r refl
-memories-after (change.Table i r) m = elsewhere (λ (z : Machine). z .memories) noMemory _ m (ltb i 8) refl
-memories-after (change.AddTable r) m = elsewhere (λ (z : Machine). z .memories) noMemory _ m (ltb (m .counts .tables) 8) refl
-memories-after (change.Segment i r) m = elsewhere (λ (z : Machine). z .memories) noMemory _ m (ltb i 8) refl
-memories-after (change.AddSegment r) m = elsewhere (λ (z : Machine). z .memories) noMemory _ m (ltb (m .counts .segments) 8) refl
+memories-after (change.Memory i r) m = kept-or (m .memories) i r noMemory (ltb i 8) ∙ sym (pick-ap (λ (z : Machine). z .memories) (ltb i 8) _ m)
+memories-after (change.AddMemory r) m = kept-or (m .memories) (m .counts .memories) r noMemory (ltb (m .counts .memories) 8) ∙ sym (pick-ap (λ (z : Machine). z .memories) (ltb (m .counts .memories) 8) _ m)
+memories-after (change.Table i r) m = set-kept (m .memories) 0 noMemory ∙ pick-list (λ (z : Machine). z .memories) _ m (ltb i 8) refl
+memories-after (change.AddTable r) m = set-kept (m .memories) 0 noMemory ∙ pick-list (λ (z : Machine). z .memories) _ m (ltb (m .counts .tables) 8) refl
+memories-after (change.Segment i r) m = set-kept (m .memories) 0 noMemory ∙ pick-list (λ (z : Machine). z .memories) _ m (ltb i 8) refl
+memories-after (change.AddSegment r) m = set-kept (m .memories) 0 noMemory ∙ pick-list (λ (z : Machine). z .memories) _ m (ltb (m .counts .segments) 8) refl
 
-tables-after : (c : Change) (m : Machine) → set (m .tables) (tablePlace c m) (getD (changed c m .tables) (tablePlace c m) noTable) ≡ changed c m .tables
-unfolding changed tablePlace orFirst
+tables-after : (c : Change) (m : Machine) → set (m .tables) (tablePlace c m) (tableAfter c (getD (m .tables) 0 noTable) (m .counts .tables)) ≡ changed c m .tables
+unfolding changed tablePlace tableAfter orFirst orKept
 tables-after change.Nothing m = set-kept (m .tables) 0 noTable
-tables-after (change.Memory i r) m = elsewhere (λ (z : Machine). z .tables) noTable _ m (ltb i 8) refl
-tables-after (change.AddMemory r) m = elsewhere (λ (z : Machine). z .tables) noTable _ m (ltb (m .counts .memories) 8) refl
-tables-after (change.Table i r) m = at-change (λ (z : Machine). z .tables) noTable _ m (ltb i 8) i r refl
-tables-after (change.AddTable r) m = at-change (λ (z : Machine). z .tables) noTable _ m (ltb (m .counts .tables) 8) (m .counts .tables) r refl
-tables-after (change.Segment i r) m = elsewhere (λ (z : Machine). z .tables) noTable _ m (ltb i 8) refl
-tables-after (change.AddSegment r) m = elsewhere (λ (z : Machine). z .tables) noTable _ m (ltb (m .counts .segments) 8) refl
+tables-after (change.Memory i r) m = set-kept (m .tables) 0 noTable ∙ pick-list (λ (z : Machine). z .tables) _ m (ltb i 8) refl
+tables-after (change.AddMemory r) m = set-kept (m .tables) 0 noTable ∙ pick-list (λ (z : Machine). z .tables) _ m (ltb (m .counts .memories) 8) refl
+tables-after (change.Table i r) m = kept-or (m .tables) i r noTable (ltb i 8) ∙ sym (pick-ap (λ (z : Machine). z .tables) (ltb i 8) _ m)
+tables-after (change.AddTable r) m = kept-or (m .tables) (m .counts .tables) r noTable (ltb (m .counts .tables) 8) ∙ sym (pick-ap (λ (z : Machine). z .tables) (ltb (m .counts .tables) 8) _ m)
+tables-after (change.Segment i r) m = set-kept (m .tables) 0 noTable ∙ pick-list (λ (z : Machine). z .tables) _ m (ltb i 8) refl
+tables-after (change.AddSegment r) m = set-kept (m .tables) 0 noTable ∙ pick-list (λ (z : Machine). z .tables) _ m (ltb (m .counts .segments) 8) refl
 
-segments-after : (c : Change) (m : Machine) → set (m .segments) (segmentPlace c m) (getD (changed c m .segments) (segmentPlace c m) noSegment) ≡ changed c m .segments
-unfolding changed segmentPlace orFirst
+segments-after : (c : Change) (m : Machine) → set (m .segments) (segmentPlace c m) (segmentAfter c (getD (m .segments) 0 noSegment) (m .counts .segments)) ≡ changed c m .segments
+unfolding changed segmentPlace segmentAfter orFirst orKept
 segments-after change.Nothing m = set-kept (m .segments) 0 noSegment
-segments-after (change.Memory i r) m = elsewhere (λ (z : Machine). z .segments) noSegment _ m (ltb i 8) refl
-segments-after (change.AddMemory r) m = elsewhere (λ (z : Machine). z .segments) noSegment _ m (ltb (m .counts .memories) 8) refl
-segments-after (change.Table i r) m = elsewhere (λ (z : Machine). z .segments) noSegment _ m (ltb i 8) refl
-segments-after (change.AddTable r) m = elsewhere (λ (z : Machine). z .segments) noSegment _ m (ltb (m .counts .tables) 8) refl
-segments-after (change.Segment i r) m = at-change (λ (z : Machine). z .segments) noSegment _ m (ltb i 8) i r refl
-segments-after (change.AddSegment r) m = at-change (λ (z : Machine). z .segments) noSegment _ m (ltb (m .counts .segments) 8) (m .counts .segments) r refl
+segments-after (change.Memory i r) m = set-kept (m .segments) 0 noSegment ∙ pick-list (λ (z : Machine). z .segments) _ m (ltb i 8) refl
+segments-after (change.AddMemory r) m = set-kept (m .segments) 0 noSegment ∙ pick-list (λ (z : Machine). z .segments) _ m (ltb (m .counts .memories) 8) refl
+segments-after (change.Table i r) m = set-kept (m .segments) 0 noSegment ∙ pick-list (λ (z : Machine). z .segments) _ m (ltb i 8) refl
+segments-after (change.AddTable r) m = set-kept (m .segments) 0 noSegment ∙ pick-list (λ (z : Machine). z .segments) _ m (ltb (m .counts .tables) 8) refl
+segments-after (change.Segment i r) m = kept-or (m .segments) i r noSegment (ltb i 8) ∙ sym (pick-ap (λ (z : Machine). z .segments) (ltb i 8) _ m)
+segments-after (change.AddSegment r) m = kept-or (m .segments) (m .counts .segments) r noSegment (ltb (m .counts .segments) 8) ∙ sym (pick-ap (λ (z : Machine). z .segments) (ltb (m .counts .segments) 8) _ m)
+
+-- and so are the counts
+counted : (t : Bool) (n : ℕ) (f : ℕ → Counts) → f (pick t (n + 1) n) ≡ pick t (f (n + 1)) (f n)
+counted t n f = pick-ap f t (n + 1) n
+
+pick-counts : (x m : Machine) (t : Bool) → x .counts ≡ m .counts → m .counts ≡ pick t x m .counts
+unfolding pick
+pick-counts x m true e = sym e
+pick-counts x m false e = refl
+
+counts-same : (c : Change) (m : Machine) → countsAfter c (m .counts) ≡ changed c m .counts
+unfolding changed countsAfter oneMore
+counts-same change.Nothing m = refl
+counts-same (change.Memory i r) m = pick-counts _ m (ltb i 8) refl
+counts-same (change.AddMemory r) m =
+    counted (ltb (m .counts .memories) 8) (m .counts .memories) (λ (n : ℕ). record { memories = n; tables = m .counts .tables; segments = m .counts .segments })
+    ∙ sym (pick-ap (λ (z : Machine). z .counts) (ltb (m .counts .memories) 8) _ m)
+counts-same (change.Table i r) m = pick-counts _ m (ltb i 8) refl
+counts-same (change.AddTable r) m =
+    counted (ltb (m .counts .tables) 8) (m .counts .tables) (λ (n : ℕ). record { memories = m .counts .memories; tables = n; segments = m .counts .segments })
+    ∙ sym (pick-ap (λ (z : Machine). z .counts) (ltb (m .counts .tables) 8) _ m)
+counts-same (change.Segment i r) m = pick-counts _ m (ltb i 8) refl
+counts-same (change.AddSegment r) m =
+    counted (ltb (m .counts .segments) 8) (m .counts .segments) (λ (n : ℕ). record { memories = m .counts .memories; tables = m .counts .tables; segments = n })
+    ∙ sym (pick-ap (λ (z : Machine). z .counts) (ltb (m .counts .segments) 8) _ m)
 
 module _ (r : ℕ) (l : Lent) (b : Buffers) (op : Operation) (fit : placed l ≡ true) where
   many : (8 ≤ length (l .memories)) × (8 ≤ length (l .tables)) × (8 ≤ length (l .segments))
@@ -186,17 +229,23 @@ module _ (r : ℕ) (l : Lent) (b : Buffers) (op : Operation) (fit : placed l ≡
       let p = decide r m b op in
       let c = p .out .change in
       let n = settled m (p .out) in
-      let s : Standing = record { counts = n .counts; limiter = n .limiter } in
       let i = memoryPlace c m in
       let j = tablePlace c m in
       let k = segmentPlace c m in
-      let from : List Memory → List Table → List ElementSegment → LentStepped = λ ms ts gs. record { answer = p .out .answer; lent = lent ms ts gs s (n .fuel); buffers = p .buffers } in
-      let ts = set (l .tables) j (getD (n .tables) j noTable) in
-      let gs = set (l .segments) k (getD (n .segments) k noSegment) in
-      ap (λ (ms : List Memory). from ms ts gs) (set-front 8 i (l .memories) (getD (n .memories) i noMemory) (memory-place-small c m) ∙ ap (λ (z : List Memory). z ++ drop 8 (l .memories)) (memories-after c m))
-      ∙ ap (λ (z : List Table). from (n .memories ++ drop 8 (l .memories)) z gs) (set-front 8 j (l .tables) (getD (n .tables) j noTable) (table-place-small c m) ∙ ap (λ (z : List Table). z ++ drop 8 (l .tables)) (tables-after c m))
-      ∙ ap (λ (z : List ElementSegment). from (n .memories ++ drop 8 (l .memories)) (n .tables ++ drop 8 (l .tables)) z)
-      (set-front 8 k (l .segments) (getD (n .segments) k noSegment) (segment-place-small c m) ∙ ap (λ (z : List ElementSegment). z ++ drop 8 (l .segments)) (segments-after c m))
+      let x = memoryAfter c (memoryAt m 0) (m .counts .memories) in
+      let y = tableAfter c (tableAt m 0) (m .counts .tables) in
+      let z = segmentAfter c (segmentAt m 0) (m .counts .segments) in
+      let from : List Memory → List Table → List ElementSegment → Counts → LentStepped =
+      λ ms ts gs n. record { answer = p .out .answer; lent = lent ms ts gs (record { counts = n; limiter = p .out .limiter }) (p .out .fuel); buffers = p .buffers } in
+      let ts = set (l .tables) j y in
+      let gs = set (l .segments) k z in
+      let after = countsAfter c (m .counts) in
+      ap (λ (ms : List Memory). from ms ts gs after) (set-front 8 i (l .memories) x (memory-place-small c m) ∙ ap (λ (q : List Memory). q ++ drop 8 (l .memories)) (memories-after c m))
+      ∙ ap (λ (q : List Table). from (n .memories ++ drop 8 (l .memories)) q gs after)
+      (set-front 8 j (l .tables) y (table-place-small c m) ∙ ap (λ (q : List Table). q ++ drop 8 (l .tables)) (tables-after c m))
+      ∙ ap (λ (q : List ElementSegment). from (n .memories ++ drop 8 (l .memories)) (n .tables ++ drop 8 (l .tables)) q after)
+      (set-front 8 k (l .segments) z (segment-place-small c m) ∙ ap (λ (q : List ElementSegment). q ++ drop 8 (l .segments)) (segments-after c m))
+      ∙ ap (from (n .memories ++ drop 8 (l .memories)) (n .tables ++ drop 8 (l .tables)) (n .segments ++ drop 8 (l .segments))) (counts-same c m)
 
   -- what an operation on the records read leaves in the lists is the step
   pub lent-steps : (q : Placing) (ms : List Memory) (ts : List Table) (gs : List ElementSegment) (s : Standing) (f : Fuel) → q ≡ place r read-machine b op

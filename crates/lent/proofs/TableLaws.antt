@@ -23,25 +23,9 @@ use Rattle.table.specs.Copy.{copyTable, copyWithin}
 use Rattle.table.specs.Init.{initTable}
 use Rattle.lent.specs.Tables.{tableAt, segmentAt, Rewritten, rewritten, writtenBack, ResizedOne, resizedOne, grownOne, LentGrown, lentGrown, grownHere, grownAt, setAt, SpanLeft, spanLeft, leftBack, filledAt, copiedBy, copiedHere, copiedFrom, copiedAt, initHere, initFrom, initAt}
 use Rattle.table.specs.declared.element.ElementSegment.{ElementSegment}
+use Rattle.lent.proofs.MemoryLaws.{placed, paid-same, moved-same, twice-same}
 use Rattle.lent.specs.declared.tables.Regrown.{Regrown}
 use Rattle.table.specs.declared.table.Table.{Table}
-
--- the same script at another place
-abbrev pub placed : Limiter → ℕ → Limiter
-placed l n = record { script = l .script; count = l .count; at = n }
-
-paid-same : (f : Fuel) (p : ℕ) (t : Bool) → pick t (left f (f .remaining - p)) f ≡ left f (pick t (left f (f .remaining - p)) f .remaining)
-unfolding pick
-paid-same f p true = refl
-paid-same f p false = refl
-
-moved-same : (l : Limiter) → moved l ≡ placed l (moved l .at)
-unfolding moved
-moved-same l = refl
-
-twice-same : (l : Limiter) → moved (moved l) ≡ placed l (moved (moved l) .at)
-unfolding moved
-twice-same l = refl
 
 -- the record, but for its size; fuel, but for its amount; the limiter, but for its place
 pub record Like (t : Table) (f : Fuel) (l : Limiter) (g : grow.Grown) : Type 0 where

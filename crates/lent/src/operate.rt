@@ -20,7 +20,7 @@ ghost use Rattle.types.specs.Raw.{rawBytes};
 ghost use Rattle.machine.specs.Machine.{buffers, noMemory, noTable, noSegment};
 ghost use Rattle.machine.specs.Step.{stepped, step};
 ghost use Rattle.lent.specs.Records.{lent, gathered, longEnough, unfit, lentStepped, lentStep};
-ghost use Rattle.lent.specs.Places.{verdict, orFirst, memoryPlace, tablePlace, segmentPlace, placedIn, placedOf, placing, place, eight};
+ghost use Rattle.lent.specs.Places.{verdict, orFirst, memoryPlace, tablePlace, segmentPlace, orKept, memoryAfter, tableAfter, segmentAfter, oneMore, countsAfter, placedOf, placing, place, eight};
 
 // How many instances there are, and the limiter.
 pub struct Standing {
@@ -154,39 +154,141 @@ fn segment_place(machine: Machine, change: Change) -> usize
     }
 }
 
-// The records at these places.
-fn placed_in(machine: Machine, i: usize, j: usize, k: usize, answer: Answer) -> Placed
-    ensures { λ r. ⌜ r ≡ placedIn machine i j k answer ⌝ }
+fn or_memory(i: usize, given: Memory, first: Memory) -> Memory
+    ensures { λ r. ⌜ r ≡ orKept i given first ⌝ }
 {
-    let memory = machine.memory_at(i);
-    let table = machine.table_at(j);
-    let segment = machine.segment_at(k);
-    let counts = machine.counts;
-    let limiter = machine.limiter;
-    let fuel = machine.fuel;
-    Placed {
-        memory_at: i,
-        memory,
-        table_at: j,
-        table,
-        segment_at: k,
-        segment,
-        standing: Standing { counts, limiter },
-        fuel,
-        answer,
+    if i < 8 {
+        return given;
+    }
+    first
+}
+
+// The memory that goes back: the changed or added one, or the first itself.
+fn memory_after(change: Change, first: Memory, count: usize) -> Memory
+    ensures { λ r. ⌜ r ≡ memoryAfter change first count ⌝ }
+{
+    match change {
+        Change::Nothing => first,
+        Change::Memory(i, given) => or_memory(i, given, first),
+        Change::AddMemory(given) => or_memory(count, given, first),
+        Change::Table(_, _) => first,
+        Change::AddTable(_) => first,
+        Change::Segment(_, _) => first,
+        Change::AddSegment(_) => first,
     }
 }
 
+fn or_table(i: usize, given: Table, first: Table) -> Table
+    ensures { λ r. ⌜ r ≡ orKept i given first ⌝ }
+{
+    if i < 8 {
+        return given;
+    }
+    first
+}
+
+// The table that goes back: the changed or added one, or the first itself.
+fn table_after(change: Change, first: Table, count: usize) -> Table
+    ensures { λ r. ⌜ r ≡ tableAfter change first count ⌝ }
+{
+    match change {
+        Change::Nothing => first,
+        Change::Memory(_, _) => first,
+        Change::AddMemory(_) => first,
+        Change::Table(i, given) => or_table(i, given, first),
+        Change::AddTable(given) => or_table(count, given, first),
+        Change::Segment(_, _) => first,
+        Change::AddSegment(_) => first,
+    }
+}
+
+fn or_segment(i: usize, given: ElementSegment, first: ElementSegment) -> ElementSegment
+    ensures { λ r. ⌜ r ≡ orKept i given first ⌝ }
+{
+    if i < 8 {
+        return given;
+    }
+    first
+}
+
+// The segment that goes back: the changed or added one, or the first itself.
+fn segment_after(change: Change, first: ElementSegment, count: usize) -> ElementSegment
+    ensures { λ r. ⌜ r ≡ segmentAfter change first count ⌝ }
+{
+    match change {
+        Change::Nothing => first,
+        Change::Memory(_, _) => first,
+        Change::AddMemory(_) => first,
+        Change::Table(_, _) => first,
+        Change::AddTable(_) => first,
+        Change::Segment(i, given) => or_segment(i, given, first),
+        Change::AddSegment(given) => or_segment(count, given, first),
+    }
+}
+
+fn one_more(n: usize) -> usize
+    ensures { λ r. ⌜ r ≡ oneMore n ⌝ }
+{
+    if n < 8 {
+        return n + 1;
+    }
+    n
+}
+
+// How many instances there are after a change.
+fn counts_after(change: Change, counts: Counts) -> Counts
+    ensures { λ r. ⌜ r ≡ countsAfter change counts ⌝ }
+{
+    match change {
+        Change::Nothing => counts,
+        Change::Memory(_, _) => counts,
+        Change::AddMemory(_) => Counts {
+            memories: one_more(counts.memories),
+            tables: counts.tables,
+            segments: counts.segments,
+        },
+        Change::Table(_, _) => counts,
+        Change::AddTable(_) => Counts {
+            memories: counts.memories,
+            tables: one_more(counts.tables),
+            segments: counts.segments,
+        },
+        Change::Segment(_, _) => counts,
+        Change::AddSegment(_) => Counts {
+            memories: counts.memories,
+            tables: counts.tables,
+            segments: one_more(counts.segments),
+        },
+    }
+}
+
+// One record for each list, from what an operation gave back.
 fn places_of(machine: Machine, outcome: Outcome) -> Placed
     ensures { λ r. ⌜ r ≡ placedOf machine outcome ⌝ }
 {
     let change = outcome.change;
     let answer = outcome.answer;
-    let i = memory_place(machine, change);
-    let j = table_place(machine, change);
-    let k = segment_place(machine, change);
-    let next = machine.settle(outcome);
-    placed_in(next, i, j, k, answer)
+    let fuel = outcome.fuel;
+    let limiter = outcome.limiter;
+    let before = machine.counts;
+    let memory_at = memory_place(machine, change);
+    let table_at = table_place(machine, change);
+    let segment_at = segment_place(machine, change);
+    let memory = memory_after(change, machine.memory_at(0), before.memories);
+    let table = table_after(change, machine.table_at(0), before.tables);
+    let segment = segment_after(change, machine.segment_at(0), before.segments);
+    let counts = counts_after(change, before);
+    Placed {
+        memory_at,
+        memory,
+        table_at,
+        table,
+        segment_at,
+        segment,
+        standing: Standing { counts, limiter },
+        fuel,
+        answer,
+    }
 }
 
 // One operation: what goes back.

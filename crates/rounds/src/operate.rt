@@ -1,5 +1,6 @@
 // One operation line again and again on a machine with so many instances of each kind.
 use base::fuel::FuelCosts;
+use lent::operate::operate_kept;
 use lines::code::Parsed;
 use lines::code::read_line;
 use machine::records::Machine;
@@ -53,16 +54,21 @@ fn one_segment() -> Operation
     }
 }
 
-// One operation of which only the machine is kept.
+// One operation of which only the machine is kept: by value, or through lent records and lent fuel.
 fn once(
     machine: Machine,
     bytes: &mut [u8],
     cells: &mut [u64],
     items: &mut [u64],
+    lent: bool,
     op: Operation,
 ) -> Machine
     ensures { λ r. ⌜ held r (now (bytes .exit)) (now (cells .exit)) (now (items .exit)) ≡ again 1 (held machine (now (bytes .entry)) (now (cells .entry)) (now (items .entry))) op ⌝ }
 {
+    if lent {
+        let kept = operate_kept(machine, bytes, cells, items, op);
+        return kept.machine;
+    }
     let done = machine.operate(bytes, cells, items, op);
     done.machine
 }
@@ -72,6 +78,7 @@ fn repeat(
     bytes: &mut [u8],
     cells: &mut [u64],
     items: &mut [u64],
+    lent: bool,
     op: Operation,
     rounds: u64,
 ) -> Machine
@@ -80,7 +87,7 @@ fn repeat(
     let mut next = machine;
     let mut left = rounds;
     while left > 0 {
-        next = once(next, bytes, cells, items, op);
+        next = once(next, bytes, cells, items, lent, op);
         left -= 1;
     }
     next
@@ -92,12 +99,13 @@ fn places(
     bytes: &mut [u8],
     cells: &mut [u64],
     items: &mut [u64],
+    lent: bool,
     instances: u64,
 ) -> Machine
     ensures { λ r. ⌜ held r (now (bytes .exit)) (now (cells .exit)) (now (items .exit)) ≡ places instances (held machine (now (bytes .entry)) (now (cells .entry)) (now (items .entry))) ⌝ }
 {
-    let memories = repeat(machine, bytes, cells, items, one_memory(), instances);
-    repeat(memories, bytes, cells, items, one_table(), instances)
+    let memories = repeat(machine, bytes, cells, items, lent, one_memory(), instances);
+    repeat(memories, bytes, cells, items, lent, one_table(), instances)
 }
 
 // And so many segments.
@@ -106,12 +114,13 @@ fn set_up(
     bytes: &mut [u8],
     cells: &mut [u64],
     items: &mut [u64],
+    lent: bool,
     instances: u64,
 ) -> Machine
     ensures { λ r. ⌜ held r (now (bytes .exit)) (now (cells .exit)) (now (items .exit)) ≡ setUp instances (held machine (now (bytes .entry)) (now (cells .entry)) (now (items .entry))) ⌝ }
 {
-    let placed = places(machine, bytes, cells, items, instances);
-    repeat(placed, bytes, cells, items, one_segment(), instances)
+    let placed = places(machine, bytes, cells, items, lent, instances);
+    repeat(placed, bytes, cells, items, lent, one_segment(), instances)
 }
 
 fn timed_by(
@@ -119,13 +128,14 @@ fn timed_by(
     bytes: &mut [u8],
     cells: &mut [u64],
     items: &mut [u64],
+    lent: bool,
     parsed: Parsed,
     rounds: u64,
 ) -> Machine
     ensures { λ r. ⌜ held r (now (bytes .exit)) (now (cells .exit)) (now (items .exit)) ≡ timedBy rounds (held machine (now (bytes .entry)) (now (cells .entry)) (now (items .entry))) parsed ⌝ }
 {
     match parsed {
-        Parsed::Good(op) => repeat(machine, bytes, cells, items, op, rounds),
+        Parsed::Good(op) => repeat(machine, bytes, cells, items, lent, op, rounds),
         Parsed::Malformed => machine,
     }
 }
@@ -135,22 +145,25 @@ fn timed(
     bytes: &mut [u8],
     cells: &mut [u64],
     items: &mut [u64],
+    lent: bool,
     line: &[u8],
     instances: u64,
     rounds: u64,
 ) -> Machine
     ensures { λ r. ⌜ held r (now (bytes .exit)) (now (cells .exit)) (now (items .exit)) ≡ timedBy rounds (setUp instances (held machine (now (bytes .entry)) (now (cells .entry)) (now (items .entry)))) (readLine (now (line .entry))) ⌝ }
 {
-    let ready = set_up(machine, bytes, cells, items, instances);
-    timed_by(ready, bytes, cells, items, read_line(line), rounds)
+    let ready = set_up(machine, bytes, cells, items, lent, instances);
+    timed_by(ready, bytes, cells, items, lent, read_line(line), rounds)
 }
 
-// So many rounds of the line's operation, on a machine with so many memories, tables and segments. The result is the fuel left.
+// So many rounds of the line's operation, by value or through lent records, on a machine with so many memories, tables and segments. The
+// result is the fuel left.
 #[no_mangle]
 pub extern "C" fn rounds_operate(
     bytes: &mut [u8],
     cells: &mut [u64],
     items: &mut [u64],
+    lent: bool,
     line: &[u8],
     instances: u64,
     rounds: u64,
@@ -158,7 +171,7 @@ pub extern "C" fn rounds_operate(
     ensures { λ r. ⌜ Timed (timedBy rounds (setUp instances (held (freshMachine true defaultCosts) (now (bytes .entry)) (now (cells .entry)) (now (items .entry)))) (readLine (now (line .entry)))) r (now (bytes .exit)) (now (cells .exit)) (now (items .exit)) ⌝ }
 {
     let fresh = Machine::new(true, FuelCosts::default_costs());
-    let last = timed(fresh, bytes, cells, items, line, instances, rounds);
+    let last = timed(fresh, bytes, cells, items, lent, line, instances, rounds);
     let fuel = last.fuel;
     fuel.remaining
 }

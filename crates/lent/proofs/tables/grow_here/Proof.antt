@@ -42,7 +42,8 @@ use denote.Triple.Walked.{says, needs, Stays, stay-ref, gave-slice, stay-none, w
 use denote.Exit.{yes}
 use Rattle.base.specs.Fuel.{left}
 use Rattle.lent.specs.Tables.{resizedOne, grownOne}
-use Rattle.lent.proofs.TableLaws.{placed, grown-here}
+use Rattle.lent.proofs.MemoryLaws.{placed}
+use Rattle.lent.proofs.TableLaws.{grown-here}
 use Rattle.table.specs.declared.table.Table.{Table}
 use Rattle.table.proofs.table.Table as T
 use Rattle.types.specs.declared.raw.TypedRawRef.{TypedRawRef}

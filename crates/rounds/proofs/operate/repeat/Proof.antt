@@ -9,11 +9,11 @@ use Rattle.rounds.proofs.operate.repeat.Statement.{statement}
 use Rattle.rounds.proofs.operate.repeat.Tie as tie
 
 abbrev Inv-loop : tie.InvT-loop
-Inv-loop bytes₀ cells₀ items₀ op rounds next₀ left₀ bytes cells items next left =
+Inv-loop bytes₀ cells₀ items₀ lent op rounds next₀ left₀ bytes cells items next left =
     (length bytes ≡ length bytes₀) × (length cells ≡ length cells₀) × (length items ≡ length items₀) × (again left (held next bytes cells items) op ≡ again rounds (held next₀ bytes₀ cells₀ items₀) op)
 
 abbrev μ-loop : tie.MeasureT-loop
-μ-loop bytes₀ cells₀ items₀ op rounds next₀ left₀ bytes cells items next left = left
+μ-loop bytes₀ cells₀ items₀ lent op rounds next₀ left₀ bytes cells items next left = left
 
 loop-holds : tie.Need-loop-holds Inv-loop μ-loop
 loop-holds c = (refl, refl, refl, refl)
