@@ -4,10 +4,13 @@
 //! addresses and buffers. In every round the sides take turns, and each side's best run counts. What both sides answer is
 //! compared too. Everything is warm: what a row touches fits the second-level cache, but for tables of 2^20 cells.
 
+#[path = "../oracle/face.rs"]
+mod face;
 mod lines;
 mod operate;
 mod tables;
 
+use face::*;
 use std::ffi::c_void;
 use std::hint::black_box;
 use std::time::Instant;
@@ -168,38 +171,6 @@ const BULK: f64 = 0.95;
 const FREE: f64 = 0.0;
 
 // ---------------------------------------------------------------- the port
-
-type LoadFn = unsafe extern "C" fn(*const u8, usize, u64, u64, *mut u64) -> u8;
-type Store32Fn = unsafe extern "C" fn(*mut u8, usize, u64, u64, u32) -> u8;
-type Store64Fn = unsafe extern "C" fn(*mut u8, usize, u64, u64, u64) -> u8;
-
-// Archive libyshankelt.a: include/yshankelt.h.
-unsafe extern "C" {
-    fn ysh_load_i32(bytes: *const u8, len: usize, ptr: u64, offset: u64, out: *mut u64) -> u8;
-    fn ysh_load_i64(bytes: *const u8, len: usize, ptr: u64, offset: u64, out: *mut u64) -> u8;
-    fn ysh_load_f32(bytes: *const u8, len: usize, ptr: u64, offset: u64, out: *mut u64) -> u8;
-    fn ysh_load_f64(bytes: *const u8, len: usize, ptr: u64, offset: u64, out: *mut u64) -> u8;
-    fn ysh_load_i32_8s(bytes: *const u8, len: usize, ptr: u64, offset: u64, out: *mut u64) -> u8;
-    fn ysh_load_i32_8u(bytes: *const u8, len: usize, ptr: u64, offset: u64, out: *mut u64) -> u8;
-    fn ysh_load_i32_16s(bytes: *const u8, len: usize, ptr: u64, offset: u64, out: *mut u64) -> u8;
-    fn ysh_load_i32_16u(bytes: *const u8, len: usize, ptr: u64, offset: u64, out: *mut u64) -> u8;
-    fn ysh_load_i64_8s(bytes: *const u8, len: usize, ptr: u64, offset: u64, out: *mut u64) -> u8;
-    fn ysh_load_i64_8u(bytes: *const u8, len: usize, ptr: u64, offset: u64, out: *mut u64) -> u8;
-    fn ysh_load_i64_16s(bytes: *const u8, len: usize, ptr: u64, offset: u64, out: *mut u64) -> u8;
-    fn ysh_load_i64_16u(bytes: *const u8, len: usize, ptr: u64, offset: u64, out: *mut u64) -> u8;
-    fn ysh_load_i64_32s(bytes: *const u8, len: usize, ptr: u64, offset: u64, out: *mut u64) -> u8;
-    fn ysh_load_i64_32u(bytes: *const u8, len: usize, ptr: u64, offset: u64, out: *mut u64) -> u8;
-    fn ysh_store_i32(bytes: *mut u8, len: usize, ptr: u64, offset: u64, bits: u32) -> u8;
-    fn ysh_store_i64(bytes: *mut u8, len: usize, ptr: u64, offset: u64, bits: u64) -> u8;
-    fn ysh_store_f32(bytes: *mut u8, len: usize, ptr: u64, offset: u64, bits: u32) -> u8;
-    fn ysh_store_f64(bytes: *mut u8, len: usize, ptr: u64, offset: u64, bits: u64) -> u8;
-    fn ysh_store_i32_8(bytes: *mut u8, len: usize, ptr: u64, offset: u64, bits: u32) -> u8;
-    fn ysh_store_i32_16(bytes: *mut u8, len: usize, ptr: u64, offset: u64, bits: u32) -> u8;
-    fn ysh_store_i64_8(bytes: *mut u8, len: usize, ptr: u64, offset: u64, bits: u64) -> u8;
-    fn ysh_store_i64_16(bytes: *mut u8, len: usize, ptr: u64, offset: u64, bits: u64) -> u8;
-    fn ysh_store_i64_32(bytes: *mut u8, len: usize, ptr: u64, offset: u64, bits: u64) -> u8;
-    fn ysh_price(len: u64, per_unit: u32) -> u64;
-}
 
 // Archive libtiming.a: crates/timing/src/lib.rt.
 unsafe extern "C" {
@@ -370,7 +341,7 @@ fn places() -> &'static mut Places {
 const LAPS: usize = 8;
 
 #[inline(never)]
-fn loads(f: LoadFn, p: &Places) -> u64 {
+fn loads(f: Load, p: &Places) -> u64 {
     let mut sum = 0u64;
     let mut out = 0u64;
     for _ in 0..LAPS {
@@ -398,11 +369,11 @@ macro_rules! stores {
         }
     };
 }
-stores!(stores32, Store32Fn, u32);
-stores!(stores64, Store64Fn, u64);
+stores!(stores32, StoreHalf, u32);
+stores!(stores64, StoreWhole, u64);
 
 fn load_rows(rows: &mut Vec<Row>) {
-    let all: [(&str, usize, LoadFn, LoadFn); 14] = [
+    let all: [(&str, usize, Load, Load); 14] = [
         ("load i32", 4, crate_load_i32, ysh_load_i32),
         ("load i64", 8, crate_load_i64, ysh_load_i64),
         ("load f32", 4, crate_load_f32, ysh_load_f32),
@@ -421,7 +392,7 @@ fn load_rows(rows: &mut Vec<Row>) {
     let p: &'static Places = places();
     for (name, n, theirs, ours) in all {
         assert_eq!(loads(theirs, p), loads(ours, p), "{name}");
-        let side = |f: LoadFn| -> Box<dyn Side> {
+        let side = |f: Load| -> Box<dyn Side> {
             Box::new(move || {
                 black_box(loads(black_box(f), p));
             })
@@ -453,13 +424,13 @@ macro_rules! store_rows {
 }
 
 fn store_rows(rows: &mut Vec<Row>) {
-    store_rows!(rows, stores32, Store32Fn,
+    store_rows!(rows, stores32, StoreHalf,
         "store i32", 4, crate_store_i32, ysh_store_i32;
         "store f32", 4, crate_store_f32, ysh_store_f32;
         "store i32 to 8", 1, crate_store_i32_8, ysh_store_i32_8;
         "store i32 to 16", 2, crate_store_i32_16, ysh_store_i32_16;
     );
-    store_rows!(rows, stores64, Store64Fn,
+    store_rows!(rows, stores64, StoreWhole,
         "store i64", 8, crate_store_i64, ysh_store_i64;
         "store f64", 8, crate_store_f64, ysh_store_f64;
         "store i64 to 8", 1, crate_store_i64_8, ysh_store_i64_8;
