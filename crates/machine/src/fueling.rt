@@ -6,26 +6,13 @@ use base::answer::Answer;
 use base::answer::Value;
 use base::fuel::FuelStep;
 use base::limiter::HandedOver;
-use base::limiter::Limiter;
 use operations::fields;
 ghost use mathlib.Core.Path.{_≡_};
-ghost use lib.ListN.{take};
 ghost use Rattle.base.specs.Fuel.{setFuel, getFuel, consume};
 ghost use Rattle.base.specs.Limiter.{handOver};
 ghost use Rattle.operations.specs.Operation.{scriptOf};
 ghost use Rattle.machine.specs.Outcome.{keeps};
 ghost use Rattle.machine.specs.Step.{setting, charging, handing};
-
-// The first `count` of a row are handed over, or all of them.
-fn hand_leading(limiter: Limiter, row: [u8; 16], count: u64) -> HandedOver
-    ensures { λ r. ⌜ r ≡ handOver limiter (take count row) ⌝ }
-{
-    let n = count as usize;
-    if 16 < n {
-        return limiter.hand_over(&row);
-    }
-    limiter.hand_over(&row[0..n])
-}
 
 impl Machine {
     // By what setting the fuel says.
@@ -107,8 +94,7 @@ impl Machine {
         ensures { λ r. ⌜ r ≡ handing self (handOver (self .limiter) (scriptOf count digits)) ⌝ }
     {
         let limiter = self.limiter;
-        let row = fields::digits_of(digits);
-        let handed = hand_leading(limiter, row, count);
+        let handed = fields::hand_script(limiter, count, digits);
         self.handing(handed)
     }
 }

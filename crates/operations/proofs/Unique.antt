@@ -1,8 +1,8 @@
 -- Uniqueness: each public function's contract names one answer for each input. Assumes nothing.
 use mathlib.Core.Path.{sym, _∙_}
 use Rattle.base.proofs.One.{One}
-use Rattle.operations.proofs.fields.digits_of.Reads as digits-of-reads
-use Rattle.operations.proofs.fields.digits_of.Kinds as digits-of-kinds
+use Rattle.operations.proofs.fields.hand_script.Reads as hand-script-reads
+use Rattle.operations.proofs.fields.hand_script.Kinds as hand-script-kinds
 use Rattle.operations.proofs.fields.limits_of.Reads as limits-of-reads
 use Rattle.operations.proofs.fields.limits_of.Kinds as limits-of-kinds
 use Rattle.operations.proofs.fields.kind_of.Reads as kind-of-reads
@@ -18,8 +18,8 @@ use Rattle.operations.proofs.fields.store_kind_of.Kinds as store-kind-o
 use Rattle.operations.proofs.operation.Operation.is_well_formed.Reads as is-well-formed-reads
 use Rattle.operations.proofs.operation.Operation.is_well_formed.Kinds as is-well-formed-kinds
 
-pub fields-digits-of-one : One 0 digits-of-kinds.ps digits-of-kinds.r digits-of-reads.Pre digits-of-reads.Post
-fields-digits-of-one κs a x x′ s s′ z p q = p ∙ sym q
+pub fields-hand-script-one : One 0 hand-script-kinds.ps hand-script-kinds.r hand-script-reads.Pre hand-script-reads.Post
+fields-hand-script-one κs a x x′ s s′ z p q = p ∙ sym q
 
 pub fields-limits-of-one : One 0 limits-of-kinds.ps limits-of-kinds.r limits-of-reads.Pre limits-of-reads.Post
 fields-limits-of-one κs a x x′ s s′ z p q = p ∙ sym q

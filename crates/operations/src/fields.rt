@@ -1,4 +1,6 @@
 // The fields of operations: their ranges, and what their numbers stand for.
+use base::limiter::HandedOver;
+use base::limiter::Limiter;
 use memory::access::LoadKind;
 use memory::access::StoreKind;
 use types::limits::Limits;
@@ -7,7 +9,9 @@ use types::raw::RefType;
 use types::raw::TypedRawRef;
 ghost use mathlib.Core.Path.{_≡_};
 ghost use Prim.Native.Nat.{_-_};
-ghost use Rattle.operations.specs.Operation.{binary, absentAsZero, limitFields, memoryFields, kindFields, tableFields, narrowStore, storeFields, digitsOf, mostOf, leading, scriptFields, itemField, itemFields, segmentFields, initFields, limitsOf, exponentOf, kindOf, referenceOf, narrowLoad, wideLoad, wholeLoad, loadKindOf, narrowStoreOf, wholeStore, storeKindOf};
+ghost use lib.ListN.{take};
+ghost use Rattle.base.specs.Limiter.{handOver};
+ghost use Rattle.operations.specs.Operation.{binary, absentAsZero, limitFields, memoryFields, kindFields, tableFields, narrowStore, storeFields, digitsOf, mostOf, leading, scriptFields, itemField, itemFields, segmentFields, initFields, limitsOf, exponentOf, kindOf, referenceOf, scriptOf, narrowLoad, wideLoad, wholeLoad, loadKindOf, narrowStoreOf, wholeStore, storeKindOf};
 
 // A yes/no field or an element kind.
 pub(crate) fn binary(n: u64) -> bool
@@ -94,7 +98,7 @@ pub(crate) fn store_fields(kind: u64, bits: u64) -> bool
 }
 
 // The 16 hexadecimal digits of a field, the highest first.
-pub fn digits_of(field: u64) -> [u8; 16]
+pub(crate) fn digits_of(field: u64) -> [u8; 16]
     ensures { λ r. ⌜ r ≡ digitsOf 16 field ⌝ }
 {
     let mut row = [0u8; 16];
@@ -106,6 +110,25 @@ pub fn digits_of(field: u64) -> [u8; 16]
         rest = rest / 16;
     }
     row
+}
+
+// The first `count` of a row are handed over, or all of them.
+fn hand_leading(limiter: Limiter, row: [u8; 16], count: u64) -> HandedOver
+    ensures { λ r. ⌜ r ≡ handOver limiter (take count row) ⌝ }
+{
+    let n = count as usize;
+    if 16 < n {
+        return limiter.hand_over(&row);
+    }
+    limiter.hand_over(&row[0..n])
+}
+
+// The script that a count and the digits of a field say is handed over.
+pub fn hand_script(limiter: Limiter, count: u64, digits: u64) -> HandedOver
+    ensures { λ r. ⌜ r ≡ handOver limiter (scriptOf count digits) ⌝ }
+{
+    let row = digits_of(digits);
+    hand_leading(limiter, row, count)
 }
 
 // The largest digit there may be with so many answers left.

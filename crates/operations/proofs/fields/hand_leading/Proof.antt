@@ -1,13 +1,13 @@
--- `machine::fueling::hand_leading` meets its contract. Assumes nothing.
+-- `operations::fields::hand_leading` meets its contract. Assumes nothing.
 use Prim.Native.Nat.{ℕ, _-_}
 use lib.ListN.{length, take}
 use Rattle.operations.proofs.Digits.{take-all}
 use Rattle.base.specs.Limiter.{handOver}
 use native.Mathlib.Omega.{arith}
 use mathlib.Core.Path.{_≡_, sym, ap, _∙_}
 use borrow.Author.Needs.{needs}
-use Rattle.machine.proofs.fueling.hand_leading.Statement.{statement}
-use Rattle.machine.proofs.fueling.hand_leading.Tie as tie
+use Rattle.operations.proofs.fields.hand_leading.Statement.{statement}
+use Rattle.operations.proofs.fields.hand_leading.Tie as tie
 
 slice-aggregate-hand-over : tie.Need-slice-aggregate-hand-over
 slice-aggregate-hand-over c = search needs
