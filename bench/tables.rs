@@ -1,13 +1,16 @@
 //! The rows of tables. The crate's cells have 4 bytes and the port's 8, so that bytes and cells a second are both shown;
 //! libc moves as many bytes as the port.
 
-use super::{BULK, CopyFn, Fuel, ResourceLimiterRef, Row, SetFn, Shown, Side, memset, plenty};
+use super::{BULK, CopyFn, Fuel, LAPS, ResourceLimiterRef, Row, SetFn, Shown, Side, memset, plenty};
 use std::ffi::c_void;
 use std::hint::black_box;
 use wasmi_core::{ElementSegment, RawRef, RefType, Table, TableType, TypedRawRef};
 
 // Archive libtiming.a: crates/timing/src/lib.rt. All tables are of function references and have no maximum.
 unsafe extern "C" {
+    /// One cell of a table of `size` cells at the buffer's start, its bits through `value`.
+    fn timing_get(cells: *const u64, len: usize, wide: bool, size: u64, index: u64, value: *mut u64) -> u8;
+    fn timing_set(cells: *mut u64, len: usize, wide: bool, size: u64, index: u64, bits: u64) -> u8;
     /// The cells from `to` on of a table of `size` cells at the buffer's start.
     fn timing_fill(
         cells: *mut u64,
@@ -75,6 +78,22 @@ fn reference(bits: u32) -> TypedRawRef {
 
 fn number<T, E>(answer: Result<T, E>) -> u8 {
     u8::from(answer.is_err())
+}
+
+#[inline(never)]
+extern "C" fn crate_get(table: &Table, index: u64, value: &mut u32) -> u8 {
+    match table.get(index) {
+        Some(cell) => {
+            *value = u32::from(cell.raw());
+            0
+        }
+        None => 1,
+    }
+}
+
+#[inline(never)]
+extern "C" fn crate_set(table: &mut Table, index: u64, bits: u32) -> u8 {
+    number(table.set(index, reference(bits)))
 }
 
 #[inline(never)]
@@ -230,7 +249,72 @@ fn ops(n: usize) -> Vec<Op> {
     vec![fill, null, copy, within("table copy down 1", 0, 1), within("table copy up 1", 1, 0), init]
 }
 
+/// A row of calls on one cell each: a lap of either side gives a sum of what it read or left and whether any was refused.
+fn cell_row(
+    name: &'static str,
+    cells: usize,
+    mut theirs: impl FnMut() -> (u64, u8) + 'static,
+    mut ours: impl FnMut() -> (u64, u8) + 'static,
+) -> Row {
+    let (first, second) = (theirs(), ours());
+    assert_eq!(first, second, "{name}");
+    assert_eq!(first.1, 0, "{name}");
+    fn laps(lap: &mut impl FnMut() -> (u64, u8)) {
+        for _ in 0..LAPS {
+            black_box(lap());
+        }
+    }
+    let sides: Vec<Box<dyn Side>> = vec![Box::new(move || laps(&mut theirs)), Box::new(move || laps(&mut ours))];
+    Row::new(name, "1 cell".to_string(), LAPS * cells, Shown::Nanos, sides)
+}
+
+/// Getting and setting one cell at a time, all over a table.
+fn cell_rows(rows: &mut Vec<Row>) {
+    const CELLS: usize = 1024;
+    let indices: &'static [u64] = (0..CELLS as u64).map(|i| i * 389 % CELLS as u64).collect::<Vec<_>>().leak();
+    let (wide, size) = (black_box(false), CELLS as u64);
+
+    let (their_table, p) = (table(0, CELLS), cells(0, CELLS));
+    let theirs = move || {
+        let (mut value, mut sum, mut refused) = (0u32, 0u64, 0);
+        for &index in indices {
+            refused |= crate_get(&their_table, index, &mut value);
+            sum += u64::from(value);
+        }
+        (sum, refused)
+    };
+    let ours = move || {
+        let (mut value, mut sum, mut refused) = (0u64, 0u64, 0);
+        for &index in indices {
+            refused |= unsafe { timing_get(p, CELLS, wide, size, index, &mut value) };
+            sum += value;
+        }
+        (sum, refused)
+    };
+    rows.push(cell_row("table get", CELLS, theirs, ours));
+
+    let (mut their_table, p) = (table(0, CELLS), cells(0, CELLS));
+    let theirs = move || {
+        let mut refused = 0;
+        for &index in indices {
+            refused |= crate_set(&mut their_table, index, index as u32 + 5);
+        }
+        let mut last = 0;
+        refused |= crate_get(&their_table, size - 1, &mut last);
+        (u64::from(last), refused)
+    };
+    let ours = move || {
+        let mut refused = 0;
+        for &index in indices {
+            refused |= unsafe { timing_set(p, CELLS, wide, size, index, index + 5) };
+        }
+        (unsafe { *p.add(CELLS - 1) }, refused)
+    };
+    rows.push(cell_row("table set", CELLS, theirs, ours));
+}
+
 pub fn rows(rows: &mut Vec<Row>) {
+    cell_rows(rows);
     for n in [8, 1024, 1 << 20] {
         let calls = (32768 / n).max(1);
         for op in ops(n) {

@@ -7,7 +7,7 @@ use native.Mathlib.Omega.{arith}
 use native.Mathlib.Nat.{add-zero}
 use lib.Dec.{leb}
 use lib.ListN.{length, take, drop, set, getD, length-append, length-take, length-drop, length-set, take-append-drop}
-use lib.Seq.{take-at, drop-at, set-at, length-take-le, drop-cons, take-suc, take-suc-set, drop-set-lt, take-set-le, append-snoc, drop-append-add, drop-drop, getD-set-same, take-add, take-take}
+use lib.Seq.{take-at, drop-at, set-at, length-take-le, drop-cons, take-suc, take-suc-set, drop-set-lt, take-set-le, append-snoc, drop-append-add, drop-drop, getD-set-same, take-take, take-nil}
 use borrow.Author.Tests.{le-leb, lt-leb, leb-true, leb-false}
 use Rattle.base.specs.Span.{inside, over, cut}
 
@@ -166,12 +166,12 @@ over-under l a ws vs h =
     ∙ ap (λ (n : ℕ). take a l ++ ((ws ++ vs) ++ drop n l)) e
 
 -- the cells of a span, by those up to its end
-cut-to : (l : List ℕ) (b k : ℕ) → b ≤ length l → drop b (take (b + k) l) ≡ take k (drop b l)
-cut-to l b k h = ap (drop b) (take-add b k l) ∙ drop-at (take b l) (take k (drop b l)) b (length-take-le b l h)
+pub cut-of : (l : List ℕ) (b k : ℕ) → take k (drop b l) ≡ drop b (take (b + k) l)
+cut-of l zero k = let e : 0 + k ≡ k = omega arith in sym (ap (λ (j : ℕ). take j l) e)
+cut-of [] (suc b) k = take-nil k ∙ sym (ap (drop (suc b)) (take-nil (suc b + k)))
+cut-of (x ∷ xs) (suc b) k = let e : suc b + k ≡ suc (b + k) = omega arith in cut-of xs b k ∙ sym (ap (λ (j : ℕ). drop (suc b) (take j (x ∷ xs))) e)
 
 pub cut-before : (l : List ℕ) (a : ℕ) (vs : List ℕ) (b k : ℕ) → a + length vs ≤ length l → b + k ≤ a → cut (over l a vs) b k ≡ cut l b k
 unfolding cut
 cut-before l a vs b k h g =
-    sym (cut-to (over l a vs) b k (omega (arith, length-over l a vs h)))
-    ∙ ap (drop b) (over-low l a vs (b + k) g (omega arith))
-    ∙ cut-to l b k (omega arith)
+    cut-of (over l a vs) b k ∙ ap (drop b) (over-low l a vs (b + k) g (omega arith)) ∙ sym (cut-of l b k)

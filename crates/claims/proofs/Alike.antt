@@ -6,7 +6,7 @@ use mathlib.Core.List.{List, [], _∷_}
 use native.Mathlib.Omega.{arith}
 use lib.Dec.{eqb, leb, ltb}
 use lib.ListN.{length, take, drop, getD}
-use lib.Seq.{take-nil, take-take, drop-drop, getD-take, getD-drop}
+use lib.Seq.{take-take, drop-drop, getD-take, getD-drop}
 use borrow.Author.Tests.{le-leb, leb-true, leb-false, ltb-true, ltb-false, eqb-false}
 use Rattle.base.specs.Pick.{pick, both}
 use Rattle.base.specs.Span.{inside, cut}
@@ -21,6 +21,7 @@ use Rattle.base.specs.declared.limiter.Permit.the-variants as permit
 use Rattle.base.specs.declared.fuel.FuelStep.{FuelStep}
 use Rattle.base.specs.declared.fuel.FuelStep.the-variants as fuel-step
 use Rattle.base.proofs.Picks.{pick-true, pick-false, both-true, both-1, both-2, either}
+use Rattle.base.proofs.Spans.{cut-of}
 use Rattle.types.specs.MemoryType.{minimumBytes, buildMemory}
 use Rattle.types.specs.TableType.{buildTable}
 use Rattle.types.specs.declared.limits.Limits.{Limits}
@@ -119,11 +120,6 @@ abbrev tableTo : Table → ℕ → Table
 tableTo t s = record { ty = t .ty; start = s; room = t .room; size = t .size }
 
 -- cells within a span, by the span's own
-cut-of : (l : List ℕ) (b k : ℕ) → take k (drop b l) ≡ drop b (take (b + k) l)
-cut-of l zero k = let e : 0 + k ≡ k = omega arith in sym (ap (λ (j : ℕ). take j l) e)
-cut-of [] (suc b) k = take-nil k ∙ sym (ap (drop (suc b)) (take-nil (suc b + k)))
-cut-of (x ∷ xs) (suc b) k = let e : suc b + k ≡ suc (b + k) = omega arith in cut-of xs b k ∙ sym (ap (λ (j : ℕ). drop (suc b) (take j (x ∷ xs))) e)
-
 cut-cut : (l : List ℕ) (s z a n : ℕ) → a + n ≤ z → cut l (s + a) n ≡ cut (cut l s z) a n
 unfolding cut
 cut-cut l s z a n h =

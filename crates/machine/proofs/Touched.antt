@@ -7,7 +7,7 @@ use mathlib.Core.Logic.{_⊎_, inl, inr}
 use native.Mathlib.Omega.{arith}
 use lib.Dec.{eqb, ltb}
 use lib.ListN.{length, take, drop, getD, set}
-use lib.Seq.{take-nil, take-take, drop-drop, getD-set-same, getD-set-other}
+use lib.Seq.{take-take, drop-drop, getD-set-same, getD-set-other}
 use borrow.Author.Tests.{lt-ltb, eqb-true, eqb-false, ltb-true, ltb-false}
 use Rattle.base.specs.Pick.{pick}
 use Rattle.base.specs.Span.{cut}
@@ -16,7 +16,7 @@ use Rattle.base.specs.declared.fuel.FuelStep.the-variants as fuel-step
 use Rattle.types.specs.declared.limits.Limits.{Limits}
 use Rattle.types.specs.declared.memory_ty.MemoryType.{MemoryType}
 use Rattle.base.proofs.Picks.{pick-true, both-1, either}
-use Rattle.base.proofs.Spans.{length-over, over-low, over-after}
+use Rattle.base.proofs.Spans.{length-over, over-low, over-after, cut-of}
 use Rattle.memory.specs.Memory as of-memory
 use Rattle.memory.specs.Memory.{soundMemory}
 use Rattle.memory.specs.declared.memory.Memory.{Memory}
@@ -54,12 +54,6 @@ use Rattle.operations.specs.declared.operation.Operation.{Operation}
 use Rattle.operations.specs.declared.operation.Operation.the-variants.{Make, SetFuel, GetFuel, Charge, SetLimiter, NewMemory, GrowMemory, MemorySize, Load, Store, NewTable, GrowTable, TableSize, TableGet, TableSet, TableFill, TableCopy, TableInit, DropSegment, NewSegment, LinkCheck}
 use Rattle.machine.proofs.Rooms.{Parts, parts, memory-sound, table-sound, segment-sound}
 use Rattle.machine.proofs.ListLaws as lists
-
--- the cells of a span, by those up to its end
-cut-of : (l : List ℕ) (b k : ℕ) → take k (drop b l) ≡ drop b (take (b + k) l)
-cut-of l zero k = let e : 0 + k ≡ k = omega arith in sym (ap (λ (j : ℕ). take j l) e)
-cut-of [] (suc b) k = take-nil k ∙ sym (ap (drop (suc b)) (take-nil (suc b + k)))
-cut-of (x ∷ xs) (suc b) k = let e : suc b + k ≡ suc (b + k) = omega arith in cut-of xs b k ∙ sym (ap (λ (j : ℕ). drop (suc b) (take j (x ∷ xs))) e)
 
 -- spans that lie apart from the cells that may differ are as they were
 module _ (x e : ℕ) (cs ds : List ℕ) (w : Kept x e cs ds) where

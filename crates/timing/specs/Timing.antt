@@ -3,7 +3,8 @@ use Prim.Native.Nat.{ℕ}
 use mathlib.Core.Bool.{Bool, true, false}
 use mathlib.Core.Path.{_≡_}
 use mathlib.Core.List.{List}
-use Rattle.base.specs.Answer.{numberOf}
+use Rattle.base.specs.Answer.{numberOf, shownOf}
+use Rattle.base.specs.declared.answer.Answer.{Answer}
 use Rattle.base.specs.declared.fuel.Fuel.{Fuel}
 use Rattle.base.specs.declared.fuel.FuelStep.{FuelStep}
 use Rattle.base.specs.declared.fuel.FuelStep.the-variants.{Done, Refused}
@@ -16,6 +17,7 @@ use Rattle.types.specs.declared.raw.TypedRawRef.{TypedRawRef}
 use Rattle.memory.specs.Access.{Stored}
 use Rattle.memory.specs.Grow.{Grown}
 use Rattle.memory.specs.declared.memory.Memory.{Memory}
+use Rattle.table.specs.Table.{Written}
 use Rattle.table.specs.declared.table.Table.{Table}
 use Rattle.table.specs.declared.element.ElementSegment.{ElementSegment}
 
@@ -71,6 +73,16 @@ refOf bits = record { raw = record { bits = bits }; ty = Func }
 -- a segment of the first items
 unfoldable pub segmentOf : ℕ → ElementSegment
 segmentOf size = record { ty = Func; start = 0; places = size; size = size }
+
+-- of a cell that is read: the number, and the reference's bits
+pub record Got (a : Answer) (result value : ℕ) : Type 0 where
+  pub number : result ≡ numberOf a
+  pub shown : value ≡ shownOf a
+
+-- of a cell that is set: the number, and the cells
+pub record Wrote (w : Written) (result : ℕ) (cells : List ℕ) : Type 0 where
+  pub number : result ≡ numberOf (w .answer)
+  pub written : cells ≡ w .cells
 
 -- of a fill, copy or init: the number, the cells and the fuel left
 pub record Spans (s : SpanDone) (result : ℕ) (cells : List ℕ) (left : ℕ) : Type 0 where

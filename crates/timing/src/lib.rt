@@ -21,10 +21,11 @@ ghost use Rattle.base.specs.Limiter.{noLimiter};
 ghost use Rattle.types.specs.Raw.{rawBytes};
 ghost use Rattle.memory.specs.Grow.{growMemory};
 ghost use Rattle.memory.specs.Host.{readMemory, writeMemory};
+ghost use Rattle.table.specs.Table.{getTable, setTable};
 ghost use Rattle.table.specs.Fill.{fillTable};
 ghost use Rattle.table.specs.Copy.{copyTable, copyWithin};
 ghost use Rattle.table.specs.Init.{initTable};
-ghost use Rattle.timing.specs.Timing.{pageOf, memoryOf, fuelOf, tableOf, refOf, segmentOf, Grew, Took, Charged, Spans};
+ghost use Rattle.timing.specs.Timing.{pageOf, memoryOf, fuelOf, tableOf, refOf, segmentOf, Grew, Took, Charged, Got, Wrote, Spans};
 
 fn page_of(wasm: bool) -> PageSize
     ensures { λ r. ⌜ r ≡ pageOf wasm ⌝ }
@@ -226,6 +227,46 @@ fn segment_of(size: u64) -> ElementSegment
         places: size,
         size,
     }
+}
+
+fn get_from(table: Table, cells: &[u64], index: u64, value: &mut u64) -> u8
+    ensures { λ r. ⌜ Got (getTable table (now (cells .entry)) index) r (now (value .exit)) ⌝ }
+{
+    let answer = table.get(cells, index);
+    *value = answer.shown();
+    answer.number()
+}
+
+// One cell of a table, through an out parameter.
+#[no_mangle]
+pub extern "C" fn timing_get(
+    cells: &[u64],
+    wide: bool,
+    size: u64,
+    index: u64,
+    value: &mut u64,
+) -> u8
+    ensures { λ r. ⌜ Got (getTable (tableOf wide 0 size) (now (cells .entry)) index) r (now (value .exit)) ⌝ }
+{
+    let table = table_of(wide, 0, size);
+    get_from(table, cells, index, value)
+}
+
+fn set_from(table: Table, cells: &mut [u64], index: u64, value: TypedRawRef) -> u8
+    ensures { λ r. ⌜ Wrote (setTable table (now (cells .entry)) index value) r (now (cells .exit)) ⌝ }
+{
+    let answer = table.set(cells, index, value);
+    answer.number()
+}
+
+// One cell of a table is set.
+#[no_mangle]
+pub extern "C" fn timing_set(cells: &mut [u64], wide: bool, size: u64, index: u64, bits: u64) -> u8
+    ensures { λ r. ⌜ Wrote (setTable (tableOf wide 0 size) (now (cells .entry)) index (refOf bits)) r (now (cells .exit)) ⌝ }
+{
+    let table = table_of(wide, 0, size);
+    let value = ref_of(bits);
+    set_from(table, cells, index, value)
 }
 
 fn fill_from(
