@@ -9,7 +9,7 @@ use Rattle.operations.specs.declared.operation.Operation.the-variants.{Make, Se
 use Rattle.operations.specs.declared.operation.Operation.the-variants.{NewTable, GrowTable, TableSize, TableGet, TableSet, TableFill}
 use Rattle.operations.specs.declared.operation.Operation.the-variants.{TableCopy, TableInit, DropSegment, LinkCheck}
 use Rattle.lines.specs.Line.{at}
-use Rattle.lines.specs.Code.{taking, segmentAt, fuelCode, memoryCode, tableCode, spanCode}
+use Rattle.lines.specs.Code.{taking, segmentOf, fuelCode, memoryCode, tableCode, spanCode}
 use Rattle.lines.specs.declared.line.Line.{Line}
 use Rattle.lines.specs.declared.code.Parsed.{Parsed}
 use Rattle.lines.specs.declared.code.Parsed.the-variants.{Malformed}
@@ -40,7 +40,7 @@ byCode k w =
     (pick (eqb k 38) (taking 5 w (TableCopy (at w 0) (at w 1) (at w 2) (at w 3) (at w 4)))
     (pick (eqb k 39) (taking 5 w (TableInit (at w 0) (at w 1) (at w 2) (at w 3) (at w 4)))
     (pick (eqb k 40) (taking 1 w (DropSegment (at w 0)))
-    (pick (eqb k 41) (segmentAt w)
+    (pick (eqb k 41) (segmentOf w)
     Malformed))))))))))))))))))))
 
 by-own : (w : Line) → byCode (w .code) w ≡ meant w

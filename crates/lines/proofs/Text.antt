@@ -18,7 +18,7 @@ use Rattle.operations.specs.declared.operation.Operation.the-variants.{NewTable
 use Rattle.operations.specs.declared.operation.Operation.the-variants.{TableCopy, TableInit, DropSegment, NewSegment, LinkCheck}
 use Rattle.lines.specs.Hex.{hexText}
 use Rattle.lines.specs.Line.{lineText, filled, lineOf, at}
-use Rattle.lines.specs.Code.{taking, segmentAt, fuelCode, memoryCode, tableCode, spanCode, operationOf, readLine, codeOf, fieldsBack, writeLine}
+use Rattle.lines.specs.Code.{taking, segmentOf, fuelCode, memoryCode, tableCode, spanCode, operationOf, readLine, codeOf, fieldsBack, writeLine}
 use Rattle.lines.specs.AnswerLine.{answerText, answerLine}
 use Rattle.lines.specs.Sayable.{Small, Items, Sayable}
 use Rattle.lines.specs.declared.line.Line.{Line}
@@ -43,7 +43,7 @@ module _ (k a b c d : ℕ) (m : k < 2 ^ 64) (s : Small (a ∷ b ∷ c ∷ d ∷ 
   Read n = over (replicate 4 0) 0 (take n (a ∷ b ∷ c ∷ d ∷ [])) ≡ a ∷ b ∷ c ∷ d ∷ [] → readLine (writeLine (NewSegment k n a b c d)) ≡ Good (NewSegment k n a b c d)
 
   segment-write : (n : ℕ) → n ≤ 4 → Read n
-  unfolding readLine writeLine codeOf fieldsBack operationOf fuelCode memoryCode tableCode spanCode segmentAt taking filled over pick Small
+  unfolding readLine writeLine codeOf fieldsBack operationOf fuelCode memoryCode tableCode spanCode segmentOf taking filled over pick Small
   segment-write n h =
       five Read n h
       (λ e. let w : Good (NewSegment k 0 0 0 0 0) ≡ Good (NewSegment k 0 a b c d) = cc in
@@ -128,8 +128,8 @@ module _ (l : List ℕ) (w : Line) (op : Operation) (t : Told l w) where
   trim : (a b c d e f n : ℕ) → n ≤ 4 → take n (a ∷ b ∷ c ∷ d ∷ e ∷ f ∷ []) ≡ take n (a ∷ b ∷ c ∷ d ∷ [])
   trim a b c d e f n h = five (λ (n : ℕ). take n (a ∷ b ∷ c ∷ d ∷ e ∷ f ∷ []) ≡ take n (a ∷ b ∷ c ∷ d ∷ [])) n h refl refl refl refl refl
 
-  segment-arm : eqb (w .code) 41 ≡ true → segmentAt w ≡ Good op → l ≡ writeLine op
-  unfolding segmentAt writeLine codeOf fieldsBack
+  segment-arm : eqb (w .code) 41 ≡ true → segmentOf w ≡ Good op → l ≡ writeLine op
+  unfolding segmentOf writeLine codeOf fieldsBack
   segment-arm e q =
       let p = passed _ _ _ q in
       let k : 2 + at w 1 ≡ suc (suc (at w 1)) = omega arith in

@@ -7,6 +7,8 @@ use Rattle.base.proofs.One.{One, OneWith}
 use Rattle.machine.specs.Machine.{Buffers, buffers}
 use Rattle.lines.specs.Progress.{Progressed}
 use Rattle.lines.specs.Written.{Answered, Wrote}
+use Rattle.lines.proofs.line.no_line.Reads as no-line-reads
+use Rattle.lines.proofs.line.no_line.Kinds as no-line-kinds
 use Rattle.lines.proofs.line.read.Reads as read-reads
 use Rattle.lines.proofs.line.read.Kinds as read-kinds
 use Rattle.lines.proofs.code.operation_of.Reads as operation-of-reads
@@ -21,6 +23,9 @@ use Rattle.lines.proofs.session.Session.new.Reads as new-reads
 use Rattle.lines.proofs.session.Session.new.Kinds as new-kinds
 use Rattle.lines.proofs.session.piece.Reads as piece-reads
 use Rattle.lines.proofs.session.piece.Kinds as piece-kinds
+
+pub no-line-one : One 0 no-line-kinds.ps no-line-kinds.r no-line-reads.Pre no-line-reads.Post
+no-line-one κs a x x′ s s′ z p q = p ∙ sym q
 
 pub read-one : One 1 read-kinds.ps read-kinds.r read-reads.Pre read-reads.Post
 read-one κs a x x′ s s′ z p q = p ∙ sym q

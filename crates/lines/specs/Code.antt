@@ -18,8 +18,8 @@ unfoldable pub taking : ℕ → Line → Operation → Parsed
 taking n w op = pick (eqb (w .count) n) (Good op) Malformed
 
 -- 29: a kind, a count of 0 to 4, then that many items
-unfoldable pub segmentAt : Line → Parsed
-segmentAt w =
+unfoldable pub segmentOf : Line → Parsed
+segmentOf w =
     pick (leb (at w 1) 4) (taking (2 + at w 1) w (NewSegment (at w 0) (at w 1) (at w 2) (at w 3) (at w 4) (at w 5))) Malformed
 
 -- by code, which is written in hexadecimal: 16 is 10
@@ -57,7 +57,7 @@ spanCode w other =
     pick (eqb (w .code) 38) (taking 5 w (TableCopy (at w 0) (at w 1) (at w 2) (at w 3) (at w 4)))
     (pick (eqb (w .code) 39) (taking 5 w (TableInit (at w 0) (at w 1) (at w 2) (at w 3) (at w 4)))
     (pick (eqb (w .code) 40) (taking 1 w (DropSegment (at w 0)))
-    (pick (eqb (w .code) 41) (segmentAt w)
+    (pick (eqb (w .code) 41) (segmentOf w)
     other)))
 
 unfoldable pub operationOf : Line → Parsed

@@ -4,7 +4,7 @@ use super::line::Line;
 use operations::operation::Operation;
 ghost use mathlib.Core.Path.{_≡_};
 ghost use mathlib.Core.List.{[], _∷_};
-ghost use Rattle.lines.specs.Code.{taking, segmentAt, fuelCode, memoryCode, tableCode, spanCode, operationOf, readLine, writeLine};
+ghost use Rattle.lines.specs.Code.{taking, segmentOf, fuelCode, memoryCode, tableCode, spanCode, operationOf, readLine, writeLine};
 ghost use Rattle.lines.specs.Written.{fieldedOf, backOf, wrote, wroteOf};
 
 pub enum Parsed {
@@ -24,8 +24,8 @@ fn taking(n: usize, line: Line, op: Operation) -> Parsed
 }
 
 // A segment has as many items as its count says, up to 4.
-fn segment_at(line: Line) -> Parsed
-    ensures { λ r. ⌜ r ≡ segmentAt line ⌝ }
+fn segment_of(line: Line) -> Parsed
+    ensures { λ r. ⌜ r ≡ segmentOf line ⌝ }
 {
     let count = line.list[1];
     if count <= 4 {
@@ -202,7 +202,7 @@ fn operation_by(line: Line) -> Parsed
             },
         ),
         40 => taking(1, line, Operation::DropSegment { segment: a }),
-        41 => segment_at(line),
+        41 => segment_of(line),
         _ => Parsed::Malformed,
     }
 }

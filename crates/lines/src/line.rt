@@ -18,7 +18,8 @@ pub struct Line {
     pub list: [u64; 8],
 }
 
-fn no_line() -> Line
+// What a text that is no line is read as.
+pub fn no_line() -> Line
     ensures { λ r. ⌜ r ≡ noLine ⌝ }
 {
     Line {

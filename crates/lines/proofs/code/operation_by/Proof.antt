@@ -90,8 +90,8 @@ taking-requires-19 c κs = search needs
 taking-requires-20 : tie.Need-taking-requires-20
 taking-requires-20 c κs = search needs
 
-segment-at-requires : tie.Need-segment-at-requires
-segment-at-requires c κs = search needs
+segment-of-requires : tie.Need-segment-of-requires
+segment-of-requires c κs = search needs
 
 returns : tie.Need-returns
 unfolding byCode pick
@@ -175,7 +175,7 @@ returns-20 c = by-code _ 40 (c .before .match .keys20) (c .taking20 .ensures)
 
 returns-21 : tie.Need-returns-21
 unfolding byCode pick
-returns-21 c = by-code _ 41 (c .before .match .keys21) (c .segment-at .ensures)
+returns-21 c = by-code _ 41 (c .before .match .keys21) (c .segment-of .ensures)
 
 returns-22 : tie.Need-returns-22
 returns-22 c =
@@ -221,7 +221,7 @@ operation-by-spec =
     taking-requires-18
     taking-requires-19
     taking-requires-20
-    segment-at-requires
+    segment-of-requires
     returns
     returns-2
     returns-3

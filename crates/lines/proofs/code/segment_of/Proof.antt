@@ -1,9 +1,9 @@
--- `lines::code::segment_at` meets its contract. Assumes nothing.
+-- `lines::code::segment_of` meets its contract. Assumes nothing.
 use Rattle.base.proofs.Picks.{cases}
-use Rattle.lines.specs.Code.{segmentAt}
+use Rattle.lines.specs.Code.{segmentOf}
 use borrow.Author.Needs.{needs}
-use Rattle.lines.proofs.code.segment_at.Statement.{statement}
-use Rattle.lines.proofs.code.segment_at.Tie as tie
+use Rattle.lines.proofs.code.segment_of.Statement.{statement}
+use Rattle.lines.proofs.code.segment_of.Tie as tie
 
 element-copy-out-count : tie.Need-element-copy-out-count
 element-copy-out-count c = search needs
@@ -30,15 +30,15 @@ taking-requires : tie.Need-taking-requires
 taking-requires c κs = search needs
 
 returns : tie.Need-returns
-unfolding segmentAt
+unfolding segmentOf
 returns c = search cases
 
 returns-2 : tie.Need-returns-2
-unfolding segmentAt
+unfolding segmentOf
 returns-2 c = search cases
 
-pub segment-at-spec : {M : Type 1} → statement M
-segment-at-spec =
+pub segment-of-spec : {M : Type 1} → statement M
+segment-of-spec =
     tie.close
     (tie.spec
     element-copy-out-count
