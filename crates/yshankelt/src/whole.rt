@@ -8,6 +8,7 @@ use base::fuel::Fuel;
 use base::fuel::FuelCosts;
 use lines::code;
 use lines::code::Parsed;
+use lines::line;
 use lines::line::Line;
 use machine::operate::Operated;
 use machine::records::Machine;
@@ -18,7 +19,6 @@ ghost use Rattle.base.specs.Answer.{refuse};
 ghost use Rattle.base.specs.Span.{over};
 ghost use Rattle.types.specs.Raw.{rawBytes};
 ghost use Rattle.machine.specs.Machine.{buffers, freshMachine};
-ghost use Rattle.lines.specs.Line.{noLine};
 ghost use Rattle.lines.specs.Session.{costsOf, operated};
 ghost use Rattle.lines.specs.Progress.{turnedBy};
 ghost use Rattle.lines.specs.AnswerLine.{fuelShown};
@@ -67,17 +67,6 @@ pub extern "C" fn ysh_machine_new(words: &mut [u64], metering: bool, copied: u32
     0
 }
 
-fn no_line() -> Line
-    ensures { λ r. ⌜ r ≡ noLine ⌝ }
-{
-    Line {
-        good: false,
-        code: 0,
-        count: 0,
-        list: [0u64; 8],
-    }
-}
-
 // The fields, and zeros up to 8 behind them.
 fn padded(fields: &[u64]) -> [u64; 8]
     requires { ⌜ length (now fields) ≤ 8 ⌝ }
@@ -93,7 +82,7 @@ fn line_from(code: u8, fields: &[u64]) -> Line
 {
     let count = fields.len();
     if 8 < count {
-        return no_line();
+        return line::no_line();
     }
     let list = padded(fields);
     Line {
