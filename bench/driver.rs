@@ -4,6 +4,8 @@
 //! addresses and buffers. In every round the sides take turns, and each side's best run counts. What both sides answer is
 //! compared too. Everything is warm: what a row touches fits the second-level cache, but for tables of 2^20 cells.
 
+// the benches time a part of what the header declares
+#[allow(dead_code)]
 #[path = "../oracle/face.rs"]
 mod face;
 mod lines;
