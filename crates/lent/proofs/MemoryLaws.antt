@@ -15,11 +15,12 @@ use Rattle.base.specs.declared.limiter.Limiter.{Limiter}
 use Rattle.memory.specs.Access as access
 use Rattle.memory.specs.Memory.{resized, loadMemory, storeMemory}
 use Rattle.memory.specs.Grow.{Grown, done, answered, growMemory}
-use Rattle.lent.specs.Memories.{Written, written, writtenBack, LentGrown, memoryAt, lentGrown, grownHere, grownAt, loadedAt, storedAt}
+use Rattle.lent.specs.Regrown.{Rewritten, rewritten}
+use Rattle.lent.specs.Memories.{writtenBack, LentGrown, memoryAt, lentGrown, grownHere, grownAt, loadedAt, storedAt}
 use Rattle.memory.specs.declared.access.LoadKind.{LoadKind}
 use Rattle.memory.specs.declared.access.StoreKind.{StoreKind}
 use Rattle.memory.specs.declared.memory.Memory.{Memory}
-use Rattle.lent.specs.declared.memories.Regrown.{Regrown}
+use Rattle.lent.specs.declared.regrown.Regrown.{Regrown}
 
 -- the same script at another place
 abbrev pub placed : Limiter → ℕ → Limiter
@@ -72,14 +73,14 @@ grow-like m bs n f l =
 
 -- so the lent records with those written back are the whole outcome
 pub grown-here : (ms : List Memory) (i : ℕ) (bs : List ℕ) (n : ℕ) (f : Fuel) (l : Limiter) (g : Regrown) (cs : List ℕ)
-    → written g cs ≡ writtenBack (growMemory (memoryAt ms i) bs n f l)
+    → rewritten g cs ≡ writtenBack (growMemory (memoryAt ms i) bs n f l)
     → lentGrown (g .answer) (set ms i (resized (memoryAt ms i) (g .size))) cs (left f (g .left)) (placed l (g .at)) ≡ grownHere ms i bs n f l
 unfolding grownHere writtenBack
 grown-here ms i bs n f l g cs e =
     let m = memoryAt ms i in
     let w = growMemory m bs n f l in
     let k = grow-like m bs n f l in
-    ap (λ (x : Written). lentGrown (x .out .answer) (set ms i (resized m (x .out .size))) (x .cells) (left f (x .out .left)) (placed l (x .out .at))) e
+    ap (λ (x : Rewritten). lentGrown (x .out .answer) (set ms i (resized m (x .out .size))) (x .cells) (left f (x .out .left)) (placed l (x .out .at))) e
     ∙ (ap (λ (x : Memory). lentGrown (w .out .answer) (set ms i x) (w .cells) (left f (w .out .fuel .remaining)) (placed l (w .out .limiter .at))) (sym (k .memory))
     ∙ (ap (λ (x : Fuel). lentGrown (w .out .answer) (set ms i (w .out .memory)) (w .cells) x (placed l (w .out .limiter .at))) (sym (k .fuel))
     ∙ ap (λ (x : Limiter). lentGrown (w .out .answer) (set ms i (w .out .memory)) (w .cells) (w .out .fuel) x) (sym (k .limiter))))

@@ -36,6 +36,8 @@ use Rattle.base.proofs.fuel.Fuel.Laws as F′
 use Rattle.base.proofs.answer.Answer.Laws as S′
 use Rattle.lent.specs.declared.fuel.FuelLeft.{FuelLeft}
 use Rattle.lent.proofs.fuel.FuelLeft.Laws as L′
+use Rattle.lent.specs.declared.regrown.Regrown.{Regrown}
+use Rattle.lent.proofs.regrown.Regrown.Laws as R′
 use Rattle.base.specs.declared.limiter.Limiter.{Limiter}
 use Rattle.base.proofs.limiter.Limiter.Laws as Lm′
 use Rattle.memory.specs.Memory.{resized}
@@ -146,3 +148,16 @@ module _ {M : Type 1} {𝓤 : URA M} {H : Heap 𝓤} {A : Atoms 𝓤} (W : Given
 
   pub get-answer : (l : ℕ) (r : FuelLeft) (Γ : List (Item 𝓤)) (n : ℕ) → nth 𝓤 H A n Γ ≡ ‵ (fat fullShare L′.mir l 0 (L′.lowered r)) → Reads (Go {0}) W Γ S′.mir l 8 (S′.lowered (r .answer))
   get-answer l r Γ n e = read-field (name-of L′.mir) (fields-of L′.mir) (values-of (L′.lowered r)) 1 S′.mir 8 l refl Γ n e
+
+  -- the fields of what a growth gives back
+  pub grown-answer : (l : ℕ) (g : Regrown) (Γ : List (Item 𝓤)) (n : ℕ) → nth 𝓤 H A n Γ ≡ ‵ (fat fullShare R′.mir l 0 (R′.lowered g)) → Reads (Go {0}) W Γ S′.mir l 0 (S′.lowered (g .answer))
+  grown-answer l g Γ n e = read-field (name-of R′.mir) (fields-of R′.mir) (values-of (R′.lowered g)) 0 S′.mir 0 l refl Γ n e
+
+  pub grown-size : (l : ℕ) (g : Regrown) (Γ : List (Item 𝓤)) (n : ℕ) → nth 𝓤 H A n Γ ≡ ‵ (fat fullShare R′.mir l 0 (R′.lowered g)) → Reads (Go {0}) W Γ (tyInt w64) l 24 (vint w64 (g .size))
+  grown-size l g Γ n e = read-field (name-of R′.mir) (fields-of R′.mir) (values-of (R′.lowered g)) 1 (tyInt w64) 24 l refl Γ n e
+
+  pub grown-left : (l : ℕ) (g : Regrown) (Γ : List (Item 𝓤)) (n : ℕ) → nth 𝓤 H A n Γ ≡ ‵ (fat fullShare R′.mir l 0 (R′.lowered g)) → Reads (Go {0}) W Γ (tyInt w64) l 32 (vint w64 (g .left))
+  grown-left l g Γ n e = read-field (name-of R′.mir) (fields-of R′.mir) (values-of (R′.lowered g)) 2 (tyInt w64) 32 l refl Γ n e
+
+  pub grown-place : (l : ℕ) (g : Regrown) (Γ : List (Item 𝓤)) (n : ℕ) → nth 𝓤 H A n Γ ≡ ‵ (fat fullShare R′.mir l 0 (R′.lowered g)) → Reads (Go {0}) W Γ (tyInt w64) l 40 (vint w64 (g .at))
+  grown-place l g Γ n e = read-field (name-of R′.mir) (fields-of R′.mir) (values-of (R′.lowered g)) 3 (tyInt w64) 40 l refl Γ n e

@@ -21,10 +21,11 @@ use Rattle.table.specs.Grow as grow
 use Rattle.table.specs.Fill.{fillTable}
 use Rattle.table.specs.Copy.{copyTable, copyWithin}
 use Rattle.table.specs.Init.{initTable}
-use Rattle.lent.specs.Tables.{tableAt, segmentAt, Rewritten, rewritten, writtenBack, ResizedOne, resizedOne, grownOne, LentGrown, lentGrown, grownHere, grownAt, setAt, SpanLeft, spanLeft, leftBack, filledAt, copiedBy, copiedHere, copiedFrom, copiedAt, initHere, initFrom, initAt}
+use Rattle.lent.specs.Regrown.{Rewritten, rewritten}
+use Rattle.lent.specs.Tables.{tableAt, segmentAt, writtenBack, ResizedOne, resizedOne, grownOne, LentGrown, lentGrown, grownHere, grownAt, setAt, SpanLeft, spanLeft, leftBack, filledAt, copiedBy, copiedHere, copiedFrom, copiedAt, initHere, initFrom, initAt}
 use Rattle.table.specs.declared.element.ElementSegment.{ElementSegment}
 use Rattle.lent.proofs.MemoryLaws.{placed, paid-same, moved-same, twice-same}
-use Rattle.lent.specs.declared.tables.Regrown.{Regrown}
+use Rattle.lent.specs.declared.regrown.Regrown.{Regrown}
 use Rattle.table.specs.declared.table.Table.{Table}
 
 -- the record, but for its size; fuel, but for its amount; the limiter, but for its place

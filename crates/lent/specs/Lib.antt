@@ -1,4 +1,5 @@
 pub mod Fuel
+pub mod Regrown
 pub mod Memories
 pub mod Tables
 pub mod Records

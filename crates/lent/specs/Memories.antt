@@ -14,7 +14,7 @@ use Rattle.memory.specs.Grow.{Grown, growMemory}
 use Rattle.memory.specs.declared.access.LoadKind.{LoadKind}
 use Rattle.memory.specs.declared.access.StoreKind.{StoreKind}
 use Rattle.machine.specs.Machine as machine
-use Rattle.lent.specs.declared.memories.Regrown.{Regrown}
+use Rattle.lent.specs.Regrown.{Rewritten, rewritten}
 use Rattle.memory.specs.declared.memory.Memory.{Memory}
 
 -- the record of a place outside the list, which no operation reads
@@ -24,17 +24,10 @@ noMemory = machine.noMemory
 abbrev pub memoryAt : List Memory → ℕ → Memory
 memoryAt ms i = getD ms i noMemory
 
--- what a growth writes back beside the answer: size, fuel left, place in the script; and the bytes after it
-pub record Written : Type 0 where
-  pub out : Regrown
-  pub cells : List ℕ
-
-abbrev pub written : Regrown → List ℕ → Written
-written r bs = record { out = r; cells = bs }
-
-unfoldable pub writtenBack : Grown → Written
+-- what a growth writes back
+unfoldable pub writtenBack : Grown → Rewritten
 writtenBack g =
-    written
+    rewritten
     (record { answer = g .out .answer; size = g .out .memory .size; left = g .out .fuel .remaining; at = g .out .limiter .at })
     (g .cells)
 

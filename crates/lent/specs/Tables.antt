@@ -20,7 +20,8 @@ use Rattle.table.specs.Copy.{copyTable, copyWithin}
 use Rattle.table.specs.Init.{initTable}
 use Rattle.table.specs.declared.element.ElementSegment.{ElementSegment}
 use Rattle.machine.specs.Machine as machine
-use Rattle.lent.specs.declared.tables.Regrown.{Regrown}
+use Rattle.lent.specs.Regrown.{Rewritten, rewritten}
+use Rattle.lent.specs.declared.regrown.Regrown.{Regrown}
 use Rattle.table.specs.declared.table.Table.{Table}
 
 -- the records of places outside the lists, which no operation reads
@@ -36,14 +37,7 @@ tableAt ts i = getD ts i noTable
 abbrev pub segmentAt : List ElementSegment → ℕ → ElementSegment
 segmentAt ss i = getD ss i noSegment
 
--- what a growth writes back beside the answer: size, fuel left, place in the script; and the cells after it
-pub record Rewritten : Type 0 where
-  pub out : Regrown
-  pub cells : List ℕ
-
-abbrev pub rewritten : Regrown → List ℕ → Rewritten
-rewritten r cs = record { out = r; cells = cs }
-
+-- what a growth writes back
 unfoldable pub writtenBack : Grown → Rewritten
 writtenBack g =
     rewritten

@@ -2,4 +2,5 @@
 pub mod fuel;
 pub mod memories;
 pub mod operate;
+pub mod regrown;
 pub mod tables;

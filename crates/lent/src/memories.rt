@@ -1,4 +1,5 @@
 // Instance records in a lent list: one is read, the operation done on it, and its new size stored.
+use super::regrown::Regrown;
 use base::answer::Answer;
 use base::answer::Refusal;
 use base::fuel::Fuel;
@@ -12,19 +13,12 @@ ghost use lib.ListN.{length};
 ghost use Rattle.memory.specs.Access.{done};
 ghost use Rattle.memory.specs.Memory.{loadMemory, storeMemory};
 ghost use Rattle.memory.specs.Grow.{growMemory};
-ghost use Rattle.lent.specs.Memories.{memoryAt, written, writtenBack, lentGrown, grownHere, grownAt, loadedAt, storedAt};
-
-// What a growth changes at most, beside its bytes.
-pub struct Regrown {
-    pub answer: Answer,
-    pub size: u64,
-    pub left: u64,
-    pub at: usize,
-}
+ghost use Rattle.lent.specs.Regrown.{rewritten};
+ghost use Rattle.lent.specs.Memories.{memoryAt, writtenBack, lentGrown, grownHere, grownAt, loadedAt, storedAt};
 
 // A growth of a record by value.
 fn regrow(memory: Memory, bytes: &mut [u8], pages: u64, fuel: Fuel, limiter: Limiter) -> Regrown
-    ensures { λ r. ⌜ written r (now (bytes .exit)) ≡ writtenBack (growMemory memory (now (bytes .entry)) pages fuel limiter) ⌝ }
+    ensures { λ r. ⌜ rewritten r (now (bytes .exit)) ≡ writtenBack (growMemory memory (now (bytes .entry)) pages fuel limiter) ⌝ }
 {
     let grown = memory.grow(bytes, pages, fuel, limiter);
     let next = grown.memory;

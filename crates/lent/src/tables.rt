@@ -1,5 +1,6 @@
 // Instance records in lent lists: they are read, the operation done on them, and a new size stored.
 use super::fuel::FuelLeft;
+use super::regrown::Regrown;
 use base::answer::Answer;
 use base::answer::Refusal;
 use base::fuel::Fuel;
@@ -17,15 +18,8 @@ ghost use Rattle.table.specs.Table.{resized, done, setTable};
 ghost use Rattle.table.specs.Grow.{growTable};
 ghost use Rattle.table.specs.Fill.{fillTable};
 ghost use Rattle.table.specs.Init.{initTable};
-ghost use Rattle.lent.specs.Tables.{tableAt, rewritten, writtenBack, resizedOne, grownOne, lentGrown, grownHere, grownAt, setAt, spanLeft, leftBack, filledAt, copiedBy, copiedHere, copiedFrom, copiedAt, initHere, initFrom, initAt};
-
-// What a growth changes at most, beside its cells.
-pub struct Regrown {
-    pub answer: Answer,
-    pub size: u64,
-    pub left: u64,
-    pub at: usize,
-}
+ghost use Rattle.lent.specs.Regrown.{rewritten};
+ghost use Rattle.lent.specs.Tables.{tableAt, writtenBack, resizedOne, grownOne, lentGrown, grownHere, grownAt, setAt, spanLeft, leftBack, filledAt, copiedBy, copiedHere, copiedFrom, copiedAt, initHere, initFrom, initAt};
 
 // A growth of a record by value.
 fn regrow(

@@ -16,8 +16,8 @@ use prog.Wp.{Heap, Calls, Loops, WpFn, Tables}
 use ghost.Atoms.{Atoms}
 use contract.Monad.{Fun, fact}
 use contract.Running.{givenOf, tables, tablesOf}
-use types.Kit.{Given, Item, Go, nth, ‵, raw, _⊛_, some, later, ⋆, _$_, _∵_, !, qed, by, move, keep, drop, use1, group, split, join, pick, rewrite, fsplit, fsplit3, fjoin, fjoin3, feqL, feqI, suffices, frame, await, done}
-use types.Run.{Reads, look, look-raw, init, store, forget, stop, hop, fld, from, load, lit, addr, of-opd, bin, and-then, no-more, assigns, land, returns, enter, alloc1, alloc0, params1, pass1, pass0, free1, free0}
+use types.Kit.{Given, ‵, raw, _⊛_, some, later, ⋆, _$_, _∵_, !, qed, by, move, keep, drop, use1, group, split, join, pick, rewrite, fsplit, fsplit3, fjoin, fjoin3, feqL, feqI, suffices, frame, await, done}
+use types.Run.{look, look-raw, init, store, forget, stop, hop, fld, from, load, lit, addr, of-opd, bin, and-then, no-more, assigns, land, returns, enter, alloc1, alloc0, params1, pass1, pass0, free1, free0}
 use types.Part.{agg, whole, sub, look-in}
 use types.SemTy.{Body}
 use sound.WpLaws.{FmC, fmOf, WpFn-mono}
@@ -47,8 +47,9 @@ use denote.Exit.{yes}
 use Rattle.base.specs.Fuel.{left}
 use Rattle.memory.specs.Memory.{resized}
 use Rattle.memory.specs.Grow.{growMemory}
-use Rattle.lent.specs.Memories.{noMemory, written, writtenBack}
-use Rattle.lent.proofs.RecordParts.{name-of, fields-of, values-of, read-field, put-left, put-place, put-size}
+use Rattle.lent.specs.Regrown.{rewritten}
+use Rattle.lent.specs.Memories.{noMemory, writtenBack}
+use Rattle.lent.proofs.RecordParts.{grown-answer, grown-size, grown-left, grown-place, put-left, put-place, put-size}
 use Rattle.lent.proofs.MemoryLaws.{placed, grown-here}
 use Rattle.memory.specs.declared.memory.Memory.{Memory as Rec}
 use Rattle.memory.proofs.memory.Memory as T
@@ -59,9 +60,9 @@ use Rattle.base.proofs.fuel.Fuel.Laws as F′
 use Rattle.base.specs.declared.limiter.Limiter.{Limiter}
 use Rattle.base.proofs.limiter.Limiter as Lm
 use Rattle.base.proofs.limiter.Limiter.Laws as Lm′
-use Rattle.lent.specs.declared.memories.Regrown.{Regrown}
-use Rattle.lent.proofs.memories.Regrown as G
-use Rattle.lent.proofs.memories.Regrown.Laws as G′
+use Rattle.lent.specs.declared.regrown.Regrown.{Regrown}
+use Rattle.lent.proofs.regrown.Regrown as G
+use Rattle.lent.proofs.regrown.Regrown.Laws as G′
 use Rattle.base.proofs.answer.Answer as S
 use Rattle.base.proofs.answer.Answer.Laws as S′
 use Rattle.lent.proofs.memories.regrow as core
@@ -103,7 +104,7 @@ module _ {M : Type 1} (𝓤 : URA M) (H : Heap 𝓤) (A : Atoms 𝓤) (W : Given
   elem = getD (memories .now) i noMemory
 
   abbrev Said : Regrown → List ℕ → Type 0
-  Said g cs = written g cs ≡ writtenBack (growMemory elem (bytes .now) pages (fuel .now) (limiter .now))
+  Said g cs = rewritten g cs ≡ writtenBack (growMemory elem (bytes .now) pages (fuel .now) (limiter .now))
 
   at-fits-i : i * 56 < 2 ^ 64
   at-fits-i = omega (arith, room-memories .1, in-i)
@@ -151,19 +152,6 @@ module _ {M : Type 1} (𝓤 : URA M) (H : Heap 𝓤) (A : Atoms 𝓤) (W : Given
         let w = LL.owed Lm.the-type Lm′.the-laws (limiter .now) _ was in
         let p = LL.owes Lm.the-type Lm′.the-laws (limiter′ g) (w .0, (w .1 .0, ((refl, new-place), tt))) in
         subst (Is Lm.the-row (limiter′ g)) (Lm′.lowers .val-is (limiter′ g) _ p) p
-
-  -- a field of what came back, as it lies in its local
-  get-answer : (l : ℕ) (g : Regrown) (Γ : List (Item 𝓤)) (n : ℕ) → nth 𝓤 H A n Γ ≡ ‵ (fat fullShare G′.mir l 0 (G′.lowered g)) → Reads (Go {0}) W Γ S′.mir l 0 (S′.lowered (g .answer))
-  get-answer l g Γ n e = read-field W (name-of G′.mir) (fields-of G′.mir) (values-of (G′.lowered g)) 0 S′.mir 0 l refl Γ n e
-
-  get-size : (l : ℕ) (g : Regrown) (Γ : List (Item 𝓤)) (n : ℕ) → nth 𝓤 H A n Γ ≡ ‵ (fat fullShare G′.mir l 0 (G′.lowered g)) → Reads (Go {0}) W Γ (tyInt w64) l 24 (vint w64 (g .size))
-  get-size l g Γ n e = read-field W (name-of G′.mir) (fields-of G′.mir) (values-of (G′.lowered g)) 1 (tyInt w64) 24 l refl Γ n e
-
-  get-left : (l : ℕ) (g : Regrown) (Γ : List (Item 𝓤)) (n : ℕ) → nth 𝓤 H A n Γ ≡ ‵ (fat fullShare G′.mir l 0 (G′.lowered g)) → Reads (Go {0}) W Γ (tyInt w64) l 32 (vint w64 (g .left))
-  get-left l g Γ n e = read-field W (name-of G′.mir) (fields-of G′.mir) (values-of (G′.lowered g)) 2 (tyInt w64) 32 l refl Γ n e
-
-  get-place : (l : ℕ) (g : Regrown) (Γ : List (Item 𝓤)) (n : ℕ) → nth 𝓤 H A n Γ ≡ ‵ (fat fullShare G′.mir l 0 (G′.lowered g)) → Reads (Go {0}) W Γ (tyInt w64) l 40 (vint w64 (g .at))
-  get-place l g Γ n e = read-field W (name-of G′.mir) (fields-of G′.mir) (values-of (G′.lowered g)) 3 (tyInt w64) 40 l refl Γ n e
 
   abbrev to-core : Core 𝓤 H A at-mem run .Ghost
   to-core = (((κ1, tt), (q1, tt), tt, (elem, (bytes, (pages, ((fuel .now), ((limiter .now), tt))))), (T′.lowered elem ∷ [], ((sliceVal (bytes .ptr) (length (bytes .now))) ∷ [], ((vint w64 pages) ∷ [], (F′.lowered (fuel .now) ∷ [], (Lm′.lowered (limiter .now) ∷ [], tt)))))), tt)
@@ -261,10 +249,10 @@ module _ {M : Type 1} (𝓤 : URA M) (H : Heap 𝓤) (A : Atoms 𝓤) (W : Given
         assigns ! (bin ! (load ! (from ! (fld ! refl (stop !))) (look-in ! 44 (sub ! 0 refl (whole !)))) (load ! (from ! (stop !)) (look ! 30 refl)) tt) (from ! (stop !)) (init ! 16 refl (tt, tt)) $
         rewrite ! 16 (λ (z : ℕ). ‵ (fat fullShare tyPtr l15 0 (vptr (memories .ptr .0) z))) (sym (place-is 56 (memories .ptr .1) i)) refl $
         -- offsets are given as numbers: found by unification, each stays the whole layout of the fields before it
-        assigns ! (of-opd ! (load ! (from ! (fld ! {τ = (tyInt w64)} {d = 24} refl (stop !))) (get-size l7 g _ 32 refl))) (from ! (hop ! (look ! 16 refl) (fld ! {τ = (tyInt w64)} {d = 48} refl (stop !)))) (put-size W elem (g .size) (memories .ptr .0) _ _ 10 refl (tt, record { fits = new-size g v is })) $
-        assigns ! (of-opd ! (load ! (from ! (fld ! {τ = (tyInt w64)} {d = 32} refl (stop !))) (get-left l7 g _ 32 refl))) (from ! (hop ! (look ! 36 refl) (fld ! {τ = (tyInt w64)} {d = 0} refl (stop !)))) (put-left W (fuel .now) (g .left) (fuel .ptr .0) (fuel .ptr .1) _ 6 refl (tt, record { fits = new-left g v is })) $
-        assigns ! (of-opd ! (load ! (from ! (fld ! {τ = (tyInt w64)} {d = 40} refl (stop !))) (get-place l7 g _ 32 refl))) (from ! (hop ! (look ! 34 refl) (fld ! {τ = (tyInt w64)} {d = 24} refl (stop !)))) (put-place W (limiter .now) (g .at) (limiter .ptr .0) (limiter .ptr .1) _ 2 refl (tt, record { fits = new-place g v is })) $
-        assigns ! (of-opd ! (load ! (from ! (fld ! {τ = S′.mir} {d = 0} refl (stop !))) (get-answer l7 g _ 32 refl))) (from ! (stop !)) (init ! 46 refl (EL.lawful S.the-type S′.the-laws 𝓤 H A W tt .typed (g .answer) _ (new-answer g v is) .0)) $
+        assigns ! (of-opd ! (load ! (from ! (fld ! {τ = (tyInt w64)} {d = 24} refl (stop !))) (grown-size W l7 g _ 32 refl))) (from ! (hop ! (look ! 16 refl) (fld ! {τ = (tyInt w64)} {d = 48} refl (stop !)))) (put-size W elem (g .size) (memories .ptr .0) _ _ 10 refl (tt, record { fits = new-size g v is })) $
+        assigns ! (of-opd ! (load ! (from ! (fld ! {τ = (tyInt w64)} {d = 32} refl (stop !))) (grown-left W l7 g _ 32 refl))) (from ! (hop ! (look ! 36 refl) (fld ! {τ = (tyInt w64)} {d = 0} refl (stop !)))) (put-left W (fuel .now) (g .left) (fuel .ptr .0) (fuel .ptr .1) _ 6 refl (tt, record { fits = new-left g v is })) $
+        assigns ! (of-opd ! (load ! (from ! (fld ! {τ = (tyInt w64)} {d = 40} refl (stop !))) (grown-place W l7 g _ 32 refl))) (from ! (hop ! (look ! 34 refl) (fld ! {τ = (tyInt w64)} {d = 24} refl (stop !)))) (put-place W (limiter .now) (g .at) (limiter .ptr .0) (limiter .ptr .1) _ 2 refl (tt, record { fits = new-place g v is })) $
+        assigns ! (of-opd ! (load ! (from ! (fld ! {τ = S′.mir} {d = 0} refl (stop !))) (grown-answer W l7 g _ 32 refl))) (from ! (stop !)) (init ! 46 refl (EL.lawful S.the-type S′.the-laws 𝓤 H A W tt .typed (g .answer) _ (new-answer g v is) .0)) $
         move ! (11 ∷ []) $ drop ! $ owned ! T.the-row (Is T.the-row) (LL.makes T.the-type T′.the-plain 𝓤 H A) (elem′ g) _ (new-elem g v is was) $
         move ! (11 ∷ 0 ∷ 12 ∷ []) $
         elem-put ! T.the-row fullShare (memories .now) i (elem′ g) (T′.lowered (elem′ g) ∷ []) (memories .ptr .0) (memories .ptr .1) in-i $

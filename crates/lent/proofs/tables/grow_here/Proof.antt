@@ -15,8 +15,8 @@ use prog.Wp.{Heap, Calls, Loops, WpFn, Tables}
 use ghost.Atoms.{Atoms}
 use contract.Monad.{Fun, fact}
 use contract.Running.{givenOf, tables, tablesOf}
-use types.Kit.{Given, Item, Go, nth, ‵, raw, _⊛_, some, later, ⋆, _$_, _∵_, !, qed, by, move, keep, drop, use1, group, split, join, pick, rewrite, fsplit, fsplit3, fjoin, fjoin3, feqL, feqI, suffices, frame, await, done}
-use types.Run.{Reads, look, look-raw, init, forget, stop, hop, fld, from, load, addr, of-opd, and-then, no-more, assigns, land, returns, enter, alloc1, alloc0, params1, pass1, pass0, free1, free0}
+use types.Kit.{Given, ‵, raw, _⊛_, some, later, ⋆, _$_, _∵_, !, qed, by, move, keep, drop, use1, group, split, join, pick, rewrite, fsplit, fsplit3, fjoin, fjoin3, feqL, feqI, suffices, frame, await, done}
+use types.Run.{look, look-raw, init, forget, stop, hop, fld, from, load, addr, of-opd, and-then, no-more, assigns, land, returns, enter, alloc1, alloc0, params1, pass1, pass0, free1, free0}
 use types.Part.{agg, whole, sub, look-in}
 use types.SemTy.{Body}
 use sound.WpLaws.{FmC, fmOf, WpFn-mono}
@@ -42,7 +42,7 @@ use denote.Triple.Walked.{says, needs, Stays, stay-ref, gave-slice, stay-none, w
 use denote.Exit.{yes}
 use Rattle.base.specs.Fuel.{left}
 use Rattle.lent.specs.Tables.{resizedOne, grownOne}
-use Rattle.lent.proofs.RecordParts.{name-of, fields-of, values-of, read-field, put-left, put-place}
+use Rattle.lent.proofs.RecordParts.{grown-answer, grown-left, grown-place, put-left, put-place}
 use Rattle.lent.proofs.MemoryLaws.{placed}
 use Rattle.lent.proofs.TableLaws.{grown-here}
 use Rattle.table.specs.declared.table.Table.{Table}
@@ -56,9 +56,9 @@ use Rattle.base.proofs.fuel.Fuel.Laws as F′
 use Rattle.base.specs.declared.limiter.Limiter.{Limiter}
 use Rattle.base.proofs.limiter.Limiter as Lm
 use Rattle.base.proofs.limiter.Limiter.Laws as Lm′
-use Rattle.lent.specs.declared.tables.Regrown.{Regrown}
-use Rattle.lent.proofs.tables.Regrown as G
-use Rattle.lent.proofs.tables.Regrown.Laws as G′
+use Rattle.lent.specs.declared.regrown.Regrown.{Regrown}
+use Rattle.lent.proofs.regrown.Regrown as G
+use Rattle.lent.proofs.regrown.Regrown.Laws as G′
 use Rattle.base.proofs.answer.Answer as S
 use Rattle.base.proofs.answer.Answer.Laws as S′
 use Rattle.lent.proofs.tables.grow_one as core
@@ -127,16 +127,6 @@ module _ {M : Type 1} (𝓤 : URA M) (H : Heap 𝓤) (A : Atoms 𝓤) (W : Given
         let w = LL.owed Lm.the-type Lm′.the-laws (limiter .now) _ was in
         let p = LL.owes Lm.the-type Lm′.the-laws (limiter′ g) (w .0, (w .1 .0, ((refl, new-place), tt))) in
         subst (Is Lm.the-row (limiter′ g)) (Lm′.lowers .val-is (limiter′ g) _ p) p
-
-  -- a field of what came back, as it lies in its local
-  get-answer : (l : ℕ) (g : Regrown) (Γ : List (Item 𝓤)) (n : ℕ) → nth 𝓤 H A n Γ ≡ ‵ (fat fullShare G′.mir l 0 (G′.lowered g)) → Reads (Go {0}) W Γ S′.mir l 0 (S′.lowered (g .answer))
-  get-answer l g Γ n e = read-field W (name-of G′.mir) (fields-of G′.mir) (values-of (G′.lowered g)) 0 S′.mir 0 l refl Γ n e
-
-  get-left : (l : ℕ) (g : Regrown) (Γ : List (Item 𝓤)) (n : ℕ) → nth 𝓤 H A n Γ ≡ ‵ (fat fullShare G′.mir l 0 (G′.lowered g)) → Reads (Go {0}) W Γ (tyInt w64) l 32 (vint w64 (g .left))
-  get-left l g Γ n e = read-field W (name-of G′.mir) (fields-of G′.mir) (values-of (G′.lowered g)) 2 (tyInt w64) 32 l refl Γ n e
-
-  get-place : (l : ℕ) (g : Regrown) (Γ : List (Item 𝓤)) (n : ℕ) → nth 𝓤 H A n Γ ≡ ‵ (fat fullShare G′.mir l 0 (G′.lowered g)) → Reads (Go {0}) W Γ (tyInt w64) l 40 (vint w64 (g .at))
-  get-place l g Γ n e = read-field W (name-of G′.mir) (fields-of G′.mir) (values-of (G′.lowered g)) 3 (tyInt w64) 40 l refl Γ n e
 
   abbrev to-core : Core 𝓤 H A at-mem run .Ghost
   to-core = (((κ0, (κ1, tt)), (q0, (q1, tt)), tt, (tables, (i, (cells, (delta, (value, ((fuel .now), ((limiter .now), tt))))))), ((sliceVal (tables .ptr) (length (tables .now))) ∷ [], ((vint w64 i) ∷ [], ((sliceVal (cells .ptr) (length (cells .now))) ∷ [], ((vint w64 delta) ∷ [], ((Rf′.lowered value) ∷ [], (F′.lowered (fuel .now) ∷ [], (Lm′.lowered (limiter .now) ∷ [], tt)))))))), tt)
@@ -226,13 +216,13 @@ module _ {M : Type 1} (𝓤 : URA M) (H : Heap 𝓤) (A : Atoms 𝓤) (W : Given
         land ! (from ! (stop !)) (init ! 24 refl (LL.lawful G.the-type G′.the-laws 𝓤 H A W .typed g _ is .0)) $
         rewrite ! 24 (λ (z : Val). ‵ (fat fullShare G′.mir l8 0 z)) (ap only (G′.lowers .val-is g _ is)) refl $
         -- offsets are given as numbers: found by unification, each stays the whole layout of the fields before it
-        assigns ! (of-opd ! (load ! (from ! (fld ! {τ = (tyInt w64)} {d = 32} refl (stop !))) (get-left l8 g _ 24 refl))) (from ! (hop ! (look ! 28 refl) (fld ! {τ = (tyInt w64)} {d = 0} refl (stop !)))) (put-left W (fuel .now) (g .left) (fuel .ptr .0) (fuel .ptr .1) _ 8 refl (tt, record { fits = new-left g v is })) $
+        assigns ! (of-opd ! (load ! (from ! (fld ! {τ = (tyInt w64)} {d = 32} refl (stop !))) (grown-left W l8 g _ 24 refl))) (from ! (hop ! (look ! 28 refl) (fld ! {τ = (tyInt w64)} {d = 0} refl (stop !)))) (put-left W (fuel .now) (g .left) (fuel .ptr .0) (fuel .ptr .1) _ 8 refl (tt, record { fits = new-left g v is })) $
         owned ! F.the-row (Is F.the-row) (LL.makes F.the-type F′.the-plain 𝓤 H A) (fuel′ g) _ (new-fuel g v is was-fuel) $ move ! (9 ∷ 0 ∷ 10 ∷ 11 ∷ 12 ∷ []) $
         closes ! tt F.the-row (fuel′ g) (F′.lowered (fuel′ g) ∷ []) (fuel .ptr .0) (fuel .ptr .1) $
-        assigns ! (of-opd ! (load ! (from ! (fld ! {τ = (tyInt w64)} {d = 40} refl (stop !))) (get-place l8 g _ 23 refl))) (from ! (hop ! (look ! 25 refl) (fld ! {τ = (tyInt w64)} {d = 24} refl (stop !)))) (put-place W (limiter .now) (g .at) (limiter .ptr .0) (limiter .ptr .1) _ 7 refl (tt, record { fits = new-place g v is })) $
+        assigns ! (of-opd ! (load ! (from ! (fld ! {τ = (tyInt w64)} {d = 40} refl (stop !))) (grown-place W l8 g _ 23 refl))) (from ! (hop ! (look ! 25 refl) (fld ! {τ = (tyInt w64)} {d = 24} refl (stop !)))) (put-place W (limiter .now) (g .at) (limiter .ptr .0) (limiter .ptr .1) _ 7 refl (tt, record { fits = new-place g v is })) $
         owned ! Lm.the-row (Is Lm.the-row) (LL.makes Lm.the-type Lm′.the-plain 𝓤 H A) (limiter′ g) _ (new-limiter g v is was-limiter) $
         move ! (8 ∷ 0 ∷ 9 ∷ 10 ∷ 11 ∷ []) $ closes ! tt Lm.the-row (limiter′ g) (Lm′.lowered (limiter′ g) ∷ []) (limiter .ptr .0) (limiter .ptr .1) $
-        assigns ! (of-opd ! (load ! (from ! (fld ! {τ = S′.mir} {d = 0} refl (stop !))) (get-answer l8 g _ 22 refl))) (from ! (stop !)) (init ! 38 refl (EL.lawful S.the-type S′.the-laws 𝓤 H A W tt .typed (g .answer) _ (new-answer g v is) .0)) $
+        assigns ! (of-opd ! (load ! (from ! (fld ! {τ = S′.mir} {d = 0} refl (stop !))) (grown-answer W l8 g _ 22 refl))) (from ! (stop !)) (init ! 38 refl (EL.lawful S.the-type S′.the-laws 𝓤 H A W tt .typed (g .answer) _ (new-answer g v is) .0)) $
         owned ! S.the-row (Is S.the-row) (EL.makes S.the-type S′.the-plain 𝓤 H A) (g .answer) _ (new-answer g v is) $ returns ! (look ! 39 refl) $
         forget ! 23 refl $ forget ! 25 refl $ forget ! 27 refl $ forget ! 39 refl $ move ! (39 ∷ 40 ∷ []) $ free1 ! $ move ! (37 ∷ 38 ∷ []) $ free1 ! $
         move ! (35 ∷ 36 ∷ []) $ free1 ! $ move ! (33 ∷ 34 ∷ []) $ free1 ! $ move ! (31 ∷ 32 ∷ []) $ free1 ! $ move ! (29 ∷ 30 ∷ []) $ free1 ! $

@@ -41,7 +41,8 @@ use denote.Exit.{yes}
 use Rattle.types.specs.Raw.{rawBytes}
 use Rattle.table.specs.Table.{resized}
 use Rattle.table.specs.Grow.{growTable}
-use Rattle.lent.specs.Tables.{noTable, rewritten, writtenBack}
+use Rattle.lent.specs.Regrown.{rewritten}
+use Rattle.lent.specs.Tables.{noTable, writtenBack}
 use Rattle.lent.proofs.TableLaws.{stored-one}
 use Rattle.table.specs.declared.table.Table.{Table}
 use Rattle.table.proofs.table.Table as T
@@ -55,9 +56,9 @@ use Rattle.base.proofs.fuel.Fuel.Laws as F′
 use Rattle.base.specs.declared.limiter.Limiter.{Limiter}
 use Rattle.base.proofs.limiter.Limiter as Lm
 use Rattle.base.proofs.limiter.Limiter.Laws as Lm′
-use Rattle.lent.specs.declared.tables.Regrown.{Regrown}
-use Rattle.lent.proofs.tables.Regrown as G
-use Rattle.lent.proofs.tables.Regrown.Laws as G′
+use Rattle.lent.specs.declared.regrown.Regrown.{Regrown}
+use Rattle.lent.proofs.regrown.Regrown as G
+use Rattle.lent.proofs.regrown.Regrown.Laws as G′
 use Rattle.lent.proofs.tables.regrow as core
 use Rattle.lent.proofs.tables.regrow.Symbol as core-def
 use Rattle.lent.proofs.tables.regrow.Symbol.{name as #table·regrow}

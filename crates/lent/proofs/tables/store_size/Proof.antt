@@ -42,9 +42,9 @@ use Rattle.lent.specs.Tables.{noTable}
 use Rattle.table.specs.declared.table.Table.{Table}
 use Rattle.table.proofs.table.Table as T
 use Rattle.table.proofs.table.Table.Laws as T′
-use Rattle.lent.specs.declared.tables.Regrown.{Regrown}
-use Rattle.lent.proofs.tables.Regrown as G
-use Rattle.lent.proofs.tables.Regrown.Laws as G′
+use Rattle.lent.specs.declared.regrown.Regrown.{Regrown}
+use Rattle.lent.proofs.regrown.Regrown as G
+use Rattle.lent.proofs.regrown.Regrown.Laws as G′
 use Rattle.lent.proofs.tables.store_size.Key.{name as #table·store-size}
 use Rattle.lent.proofs.tables.store_size as f
 use Rattle.lent.proofs.tables.store_size.Statement as stated
