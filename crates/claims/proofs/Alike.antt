@@ -8,20 +8,20 @@ use lib.Dec.{eqb, leb, ltb}
 use lib.ListN.{length, take, drop, getD}
 use lib.Seq.{take-take, drop-drop, getD-take, getD-drop}
 use borrow.Author.Tests.{le-leb, leb-true, leb-false, ltb-true, ltb-false, eqb-false}
-use Rattle.base.specs.Pick.{pick, both}
-use Rattle.base.specs.Span.{inside, cut}
-use Rattle.base.specs.Answer.{accept}
-use Rattle.base.specs.Grant.{SpanDone, grantCreation}
-use Rattle.base.specs.declared.answer.Answer.{Answer}
-use Rattle.base.specs.declared.answer.Answer.the-variants as answer
-use Rattle.base.specs.declared.fuel.Fuel.{Fuel}
-use Rattle.base.specs.declared.limiter.Limiter.{Limiter}
-use Rattle.base.specs.declared.limiter.Permit.{Permit}
-use Rattle.base.specs.declared.limiter.Permit.the-variants as permit
-use Rattle.base.specs.declared.fuel.FuelStep.{FuelStep}
-use Rattle.base.specs.declared.fuel.FuelStep.the-variants as fuel-step
-use Rattle.base.proofs.Picks.{pick-true, pick-false, both-true, both-1, both-2, either}
-use Rattle.base.proofs.Spans.{cut-of}
+use Rattle.types.specs.Pick.{pick, both}
+use Rattle.types.specs.Span.{inside, cut}
+use Rattle.types.specs.Answer.{accept}
+use Rattle.types.specs.Grant.{SpanDone, grantCreation}
+use Rattle.types.specs.declared.answer.Answer.{Answer}
+use Rattle.types.specs.declared.answer.Answer.the-variants as answer
+use Rattle.types.specs.declared.fuel.Fuel.{Fuel}
+use Rattle.types.specs.declared.limiter.Limiter.{Limiter}
+use Rattle.types.specs.declared.limiter.Permit.{Permit}
+use Rattle.types.specs.declared.limiter.Permit.the-variants as permit
+use Rattle.types.specs.declared.fuel.FuelStep.{FuelStep}
+use Rattle.types.specs.declared.fuel.FuelStep.the-variants as fuel-step
+use Rattle.types.proofs.Picks.{pick-true, pick-false, both-true, both-1, both-2, either}
+use Rattle.types.proofs.Spans.{cut-of}
 use Rattle.types.specs.MemoryType.{minimumBytes, buildMemory}
 use Rattle.types.specs.TableType.{buildTable}
 use Rattle.types.specs.declared.limits.Limits.{Limits}
@@ -68,15 +68,15 @@ use Rattle.table.specs.declared.element.MadeSegment.the-variants as made-segmen
 use Rattle.table.proofs.Readings.{grow-reads, new-reads}
 use Rattle.machine.specs.Machine.{Buffers, buffers, noTable, memoryAt, tableAt, segmentAt, nextByte, nextCell, nextItem}
 use Rattle.machine.specs.Sound.{soundTables, soundReferences, soundOver}
-use Rattle.operations.specs.Operation.{wellFormed, yes, limitsOf, exponentOf, kindOf, referenceOf, loadKindOf, storeKindOf, itemsOf}
+use Rattle.machine.specs.Operation.{wellFormed, yes, limitsOf, exponentOf, kindOf, referenceOf, loadKindOf, storeKindOf, itemsOf}
 use Rattle.machine.specs.Outcome.{keeps, settled}
 use Rattle.machine.specs.Step.{Done, Performed, after, grownMemory, grownTable, spannedOut, setting, charging, madeMemory, newMemoryOn, growMemoryOn, memorySize, loadOn, storeOn, linked, linkCheck, madeTable, newTableOn, growTableOn, tableSize, getOn, setOn, fillOn, copyKnown, copyOn, initOn, dropOn, madeSegment, newSegmentOn, perform, decide, step}
 use Rattle.machine.specs.declared.records.Machine.{Machine}
 use Rattle.machine.specs.declared.records.Counts.{Counts}
 use Rattle.machine.specs.declared.outcome.Outcome.{Outcome}
 use Rattle.machine.specs.declared.outcome.Change.{Change}
-use Rattle.operations.specs.declared.operation.Operation.{Operation}
-use Rattle.operations.specs.declared.operation.Operation.the-variants.{Make, SetFuel, GetFuel, Charge, SetLimiter, NewMemory, GrowMemory, MemorySize, Load, Store, NewTable, GrowTable, TableSize, TableGet, TableSet, TableFill, TableCopy, TableInit, DropSegment, NewSegment, LinkCheck}
+use Rattle.machine.specs.declared.operation.Operation.{Operation}
+use Rattle.machine.specs.declared.operation.Operation.the-variants.{Make, SetFuel, GetFuel, Charge, SetLimiter, NewMemory, GrowMemory, MemorySize, Load, Store, NewTable, GrowTable, TableSize, TableGet, TableSet, TableFill, TableCopy, TableInit, DropSegment, NewSegment, LinkCheck}
 use Rattle.machine.proofs.Rooms.{parts, memory-sound, table-sound, segment-sound, next-byte-inside, next-cell-inside}
 use Rattle.machine.proofs.ListLaws as lists
 use Rattle.claims.specs.Alike.{SameMemory, SameTable, SameRest, SameNamed, SameOutcome}

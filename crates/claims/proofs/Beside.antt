@@ -7,7 +7,7 @@ use lib.Dec.{eqb}
 use lib.ListN.{length, getD, set, length-set, length-append, List·getD-append}
 use lib.Seq.{getD-set-same, getD-set-other, getD-append-seam}
 use borrow.Author.Tests.{eqb-true, eqb-false}
-use Rattle.base.proofs.Picks.{either}
+use Rattle.types.proofs.Picks.{either}
 
 module _ {A B : Type 0} (f : A → B) (d : A) (e : B) where
   pub record Beside (n : ℕ) (rs : List A) (xs : List B) : Type 0 where

@@ -8,14 +8,14 @@ use native.Mathlib.Nat.{mul-le-mul-right}
 use lib.Dec.{eqb, ltb}
 use lib.ListN.{length}
 use borrow.Author.Tests.{leb-true, ltb-true, ne-eqb}
-use Rattle.base.specs.Pick.{pick, both}
-use Rattle.base.specs.Fuel.{left, paid}
-use Rattle.base.specs.declared.fuel.Fuel.{Fuel}
-use Rattle.base.specs.declared.fuel.FuelCosts.{FuelCosts}
-use Rattle.base.proofs.Picks.{pick-true, pick-false, both-true, both-1, both-2, either}
-use Rattle.base.proofs.Prices.{price-covers, bytes-whole}
-use Rattle.base.specs.Span.{inside}
-use Rattle.base.proofs.Spans.{within-is}
+use Rattle.types.specs.Pick.{pick, both}
+use Rattle.types.specs.Fuel.{left, paid}
+use Rattle.types.specs.declared.fuel.Fuel.{Fuel}
+use Rattle.types.specs.declared.fuel.FuelCosts.{FuelCosts}
+use Rattle.types.proofs.Picks.{pick-true, pick-false, both-true, both-1, both-2, either}
+use Rattle.types.proofs.Prices.{price-covers, bytes-whole}
+use Rattle.types.specs.Span.{inside}
+use Rattle.types.proofs.Spans.{within-is}
 use Rattle.types.specs.MemoryType.{pageBytes}
 use Rattle.memory.specs.Memory.{pagesOf}
 use Rattle.memory.specs.Grow.{mayHave}
@@ -24,8 +24,8 @@ use Rattle.machine.specs.Machine.{Buffers, memoryAt, tableAt, freshMachine}
 use Rattle.machine.specs.Sound.{soundReferences, soundOver}
 use Rattle.machine.specs.Step.{Stepped, step}
 use Rattle.machine.specs.declared.records.Machine.{Machine}
-use Rattle.operations.specs.declared.operation.Operation.{Operation}
-use Rattle.operations.specs.declared.operation.Operation.the-variants.{Make, SetFuel, GetFuel, Charge, SetLimiter, NewMemory, GrowMemory, MemorySize, Load, Store, NewTable, GrowTable, TableSize, TableGet, TableSet, TableFill, TableCopy, TableInit, DropSegment, NewSegment, LinkCheck}
+use Rattle.machine.specs.declared.operation.Operation.{Operation}
+use Rattle.machine.specs.declared.operation.Operation.the-variants.{Make, SetFuel, GetFuel, Charge, SetLimiter, NewMemory, GrowMemory, MemorySize, Load, Store, NewTable, GrowTable, TableSize, TableGet, TableSet, TableFill, TableCopy, TableInit, DropSegment, NewSegment, LinkCheck}
 use Rattle.machine.proofs.Rooms.{parts, table-sound}
 use Rattle.claims.specs.Answers.{accepted}
 use Rattle.claims.specs.Metered.{Metering, Free, Sets, Charges, GrowsPages, GrowsCells, Spans, Inits, meteringOf, meets, lengthOf, bytesOf, priceOf, affords, passes}

@@ -2,17 +2,17 @@
 use Prim.Native.Nat.{ℕ}
 use mathlib.Core.Path.{_≡_}
 use mathlib.Core.Bool.{true, false}
-use Rattle.base.specs.Pick.{pick}
-use Rattle.base.specs.Fuel.{paid}
-use Rattle.base.specs.declared.answer.Refusal.{Refusal}
-use Rattle.base.specs.declared.answer.Answer.the-variants as answer
-use Rattle.base.specs.declared.fuel.Fuel.{Fuel}
-use Rattle.base.specs.declared.limiter.Limiter.{Limiter}
+use Rattle.types.specs.Pick.{pick}
+use Rattle.types.specs.Fuel.{paid}
+use Rattle.types.specs.declared.answer.Refusal.{Refusal}
+use Rattle.types.specs.declared.answer.Answer.the-variants as answer
+use Rattle.types.specs.declared.fuel.Fuel.{Fuel}
+use Rattle.types.specs.declared.limiter.Limiter.{Limiter}
 use Rattle.machine.specs.Machine.{Buffers}
 use Rattle.machine.specs.Outcome.{metered}
 use Rattle.machine.specs.Step.{Stepped}
 use Rattle.machine.specs.declared.records.Machine.{Machine}
-use Rattle.operations.specs.declared.operation.Operation.{Operation}
+use Rattle.machine.specs.declared.operation.Operation.{Operation}
 use Rattle.claims.specs.Answers.{listed}
 use Rattle.claims.specs.Metered.{priceOf, paidRefusal}
 use Rattle.claims.specs.Occasions.{occasion}

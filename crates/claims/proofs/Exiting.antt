@@ -7,27 +7,27 @@ use native.Mathlib.Omega.{arith}
 use lib.Dec.{eqb, leb, ltb}
 use lib.Seq.{set-getD}
 use borrow.Author.Tests.{ltb-true, ltb-false, le-leb, lt-leb}
-use Rattle.base.specs.Pick.{pick, both}
-use Rattle.base.specs.Answer.{refusal, numberOf}
-use Rattle.base.specs.Fuel.{short, paid}
-use Rattle.base.specs.Limiter.{saysOf, moved, heardOf, noticed, noLimiter}
-use Rattle.base.specs.declared.answer.Answer.{Answer}
-use Rattle.base.specs.declared.answer.Answer.the-variants as answer
-use Rattle.base.specs.declared.answer.Refusal.{Refusal}
-use Rattle.base.specs.declared.fuel.Fuel.{Fuel}
-use Rattle.base.specs.declared.limiter.Limiter.{Limiter}
-use Rattle.base.proofs.Picks.{pick-true, pick-false, pick-same, both-true, both-left, both-right, both-then, either}
+use Rattle.types.specs.Pick.{pick, both}
+use Rattle.types.specs.Answer.{refusal, numberOf}
+use Rattle.types.specs.Fuel.{short, paid}
+use Rattle.types.specs.Limiter.{saysOf, moved, heardOf, noticed, noLimiter}
+use Rattle.types.specs.declared.answer.Answer.{Answer}
+use Rattle.types.specs.declared.answer.Answer.the-variants as answer
+use Rattle.types.specs.declared.answer.Refusal.{Refusal}
+use Rattle.types.specs.declared.fuel.Fuel.{Fuel}
+use Rattle.types.specs.declared.limiter.Limiter.{Limiter}
+use Rattle.types.proofs.Picks.{pick-true, pick-false, pick-same, both-true, both-left, both-right, both-then, either}
 use Rattle.memory.specs.declared.memory.Memory.{Memory}
 use Rattle.table.specs.declared.table.Table.{Table}
 use Rattle.machine.specs.Machine.{Buffers, memoryAt, tableAt, noMemory, noTable}
 use Rattle.machine.specs.Sound.{soundMachine, soundOver, soundMemories, soundTables, soundSegments}
-use Rattle.operations.specs.Operation.{wellFormed}
+use Rattle.machine.specs.Operation.{wellFormed}
 use Rattle.machine.specs.Outcome.{withMemories, withTables, changed, metered, settled}
 use Rattle.machine.specs.Step.{Performed, Stepped, perform, decide, after, step}
 use Rattle.machine.specs.declared.records.Machine.{Machine}
 use Rattle.machine.specs.declared.outcome.Change.{Change}
 use Rattle.machine.specs.declared.outcome.Change.the-variants as change
-use Rattle.operations.specs.declared.operation.Operation.{Operation}
+use Rattle.machine.specs.declared.operation.Operation.{Operation}
 use Rattle.claims.specs.Answers.{listed}
 use Rattle.claims.specs.Metered.{meteringOf, grows, priceOf, affords, grants, unlimited, erredAfter8, paidRefusal}
 use Rattle.claims.specs.Occasions.{occasion}

@@ -4,24 +4,24 @@ use mathlib.Core.Path.{_≡_, refl, sym, ap, subst, _∙_}
 use mathlib.Core.Bool.{Bool, true, false, false≢true}
 use native.Mathlib.Omega.{arith}
 use lib.Dec.{eqb}
-use Rattle.base.specs.Pick.{pick, both}
-use Rattle.base.specs.Answer.{refusal, refuse, numberOf, accept}
-use Rattle.base.specs.Fuel.{paid}
-use Rattle.base.specs.declared.answer.Answer.{Answer}
-use Rattle.base.specs.declared.answer.Answer.the-variants as answer
-use Rattle.base.specs.declared.answer.Refusal.{Refusal}
-use Rattle.base.specs.declared.fuel.Fuel.{Fuel}
-use Rattle.base.specs.declared.limiter.Limiter.{Limiter}
-use Rattle.base.proofs.Picks.{pick-true, pick-false, both-left, both-right, both-then, either}
+use Rattle.types.specs.Pick.{pick, both}
+use Rattle.types.specs.Answer.{refusal, refuse, numberOf, accept}
+use Rattle.types.specs.Fuel.{paid}
+use Rattle.types.specs.declared.answer.Answer.{Answer}
+use Rattle.types.specs.declared.answer.Answer.the-variants as answer
+use Rattle.types.specs.declared.answer.Refusal.{Refusal}
+use Rattle.types.specs.declared.fuel.Fuel.{Fuel}
+use Rattle.types.specs.declared.limiter.Limiter.{Limiter}
+use Rattle.types.proofs.Picks.{pick-true, pick-false, both-left, both-right, both-then, either}
 use Rattle.memory.specs.Access.{loadedOf}
 use Rattle.machine.specs.Machine.{Buffers}
 use Rattle.machine.specs.Sound.{soundOver}
-use Rattle.operations.specs.Operation.{wellFormed}
+use Rattle.machine.specs.Operation.{wellFormed}
 use Rattle.machine.specs.Outcome.{metered, changed, settled}
 use Rattle.machine.specs.Step.{Stepped, Performed, after, answers, perform, decide, step}
 use Rattle.machine.specs.declared.records.Machine.{Machine}
-use Rattle.operations.specs.declared.operation.Operation.{Operation}
-use Rattle.operations.specs.declared.operation.Operation.the-variants.{Make, SetFuel, GetFuel, Charge, SetLimiter, NewMemory, GrowMemory, MemorySize, Load, Store, NewTable, GrowTable, TableSize, TableGet, TableSet, TableFill, TableCopy, TableInit, DropSegment, NewSegment, LinkCheck}
+use Rattle.machine.specs.declared.operation.Operation.{Operation}
+use Rattle.machine.specs.declared.operation.Operation.the-variants.{Make, SetFuel, GetFuel, Charge, SetLimiter, NewMemory, GrowMemory, MemorySize, Load, Store, NewTable, GrowTable, TableSize, TableGet, TableSet, TableFill, TableCopy, TableInit, DropSegment, NewSegment, LinkCheck}
 use Rattle.claims.specs.Answers.{accepted, listed, valueOrListed}
 use Rattle.claims.specs.Metered.{priceOf, paidRefusal}
 use Rattle.claims.specs.Refused.{Leaves}

@@ -6,13 +6,13 @@ use native.Mathlib.Omega.{arith}
 use native.Mathlib.Nat.{add-mul, div-add-mod'}
 use lib.Dec.{eqb, ltb}
 use borrow.Author.Tests.{lt-ltb, le-leb, ltb-false, eqb-false}
-use Rattle.base.specs.Pick.{pick}
-use Rattle.base.specs.Price.{price}
-use Rattle.base.specs.Answer.{refusal, numberOf}
-use Rattle.base.specs.Fuel.{short}
-use Rattle.base.specs.Limiter.{heardOf}
-use Rattle.base.specs.declared.answer.Refusal.{Refusal}
-use Rattle.base.proofs.Picks.{both-then}
+use Rattle.types.specs.Pick.{pick}
+use Rattle.types.specs.Price.{price}
+use Rattle.types.specs.Answer.{refusal, numberOf}
+use Rattle.types.specs.Fuel.{short}
+use Rattle.types.specs.Limiter.{heardOf}
+use Rattle.types.specs.declared.answer.Refusal.{Refusal}
+use Rattle.types.proofs.Picks.{both-then}
 use Rattle.types.specs.MemoryType.{pageBytes}
 use Rattle.memory.specs.Memory.{pagesOf, soundMemory}
 use Rattle.memory.specs.Grow as grow-memory
@@ -25,8 +25,8 @@ use Rattle.machine.specs.Machine.{Buffers, memoryAt}
 use Rattle.machine.specs.Sound.{soundOver}
 use Rattle.machine.specs.Step.{Done, Performed, growMemoryOn, growTableOn, perform, decide, step}
 use Rattle.machine.specs.declared.records.Machine.{Machine}
-use Rattle.operations.specs.declared.operation.Operation.{Operation}
-use Rattle.operations.specs.declared.operation.Operation.the-variants.{GrowMemory, GrowTable}
+use Rattle.machine.specs.declared.operation.Operation.{Operation}
+use Rattle.machine.specs.declared.operation.Operation.the-variants.{GrowMemory, GrowTable}
 use Rattle.claims.specs.Metered.{meteringOf, lengthOf, priceOf, affords}
 use Rattle.claims.proofs.Exiting.{branch}
 

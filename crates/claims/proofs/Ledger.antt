@@ -7,17 +7,17 @@ use native.Mathlib.Omega.{arith}
 use lib.Dec.{eqb, leb, ltb}
 use lib.ListN.{length, getD, set}
 use borrow.Author.Tests.{lt-ltb, leb-true, ltb-true, ltb-false, ne-eqb, eqb-true}
-use Rattle.base.specs.Pick.{pick, both}
-use Rattle.base.specs.Price.{price}
-use Rattle.base.specs.Answer.{numberOf}
-use Rattle.base.specs.Fuel as fuels
-use Rattle.base.specs.Fuel.{paid}
-use Rattle.base.specs.Limiter.{saysOf}
-use Rattle.base.specs.declared.answer.Answer.{Answer}
-use Rattle.base.specs.declared.fuel.Fuel.{Fuel}
-use Rattle.base.specs.declared.fuel.FuelCosts.{FuelCosts}
-use Rattle.base.specs.declared.limiter.Limiter.{Limiter}
-use Rattle.base.proofs.Picks.{pick-true, pick-false, both-true, both-left, both-right, both-then, both-1, both-2, either}
+use Rattle.types.specs.Pick.{pick, both}
+use Rattle.types.specs.Price.{price}
+use Rattle.types.specs.Answer.{numberOf}
+use Rattle.types.specs.Fuel as fuels
+use Rattle.types.specs.Fuel.{paid}
+use Rattle.types.specs.Limiter.{saysOf}
+use Rattle.types.specs.declared.answer.Answer.{Answer}
+use Rattle.types.specs.declared.fuel.Fuel.{Fuel}
+use Rattle.types.specs.declared.fuel.FuelCosts.{FuelCosts}
+use Rattle.types.specs.declared.limiter.Limiter.{Limiter}
+use Rattle.types.proofs.Picks.{pick-true, pick-false, both-true, both-left, both-right, both-then, both-1, both-2, either}
 use Rattle.types.specs.Limits.{admitsOf}
 use Rattle.types.specs.MemoryType.{pageBytes, pageOf, validExponent}
 use Rattle.types.specs.declared.memory_ty.PageSize.the-variants.{One, Wasm}
@@ -26,13 +26,13 @@ use Rattle.table.specs.Table.{resized}
 use Rattle.table.specs.declared.table.Table.{Table}
 use Rattle.machine.specs.Machine.{Buffers, noLimits, noMemory, noTable, memoryAt, tableAt, freshMachine}
 use Rattle.machine.specs.Sound.{soundList, soundMemories, soundTables, soundOver}
-use Rattle.operations.specs.Operation.{limitsOf, exponentOf}
+use Rattle.machine.specs.Operation.{limitsOf, exponentOf}
 use Rattle.machine.specs.Outcome.{changed, metered}
 use Rattle.machine.specs.Step.{Stepped, step, run}
 use Rattle.machine.specs.declared.records.Machine.{Machine}
 use Rattle.machine.specs.declared.outcome.Change.the-variants as change
-use Rattle.operations.specs.declared.operation.Operation.{Operation}
-use Rattle.operations.specs.declared.operation.Operation.the-variants.{Make, SetFuel, GetFuel, Charge, SetLimiter, NewMemory, GrowMemory, MemorySize, Load, Store, NewTable, GrowTable, TableSize, TableGet, TableSet, TableFill, TableCopy, TableInit, DropSegment, NewSegment, LinkCheck}
+use Rattle.machine.specs.declared.operation.Operation.{Operation}
+use Rattle.machine.specs.declared.operation.Operation.the-variants.{Make, SetFuel, GetFuel, Charge, SetLimiter, NewMemory, GrowMemory, MemorySize, Load, Store, NewTable, GrowTable, TableSize, TableGet, TableSet, TableFill, TableCopy, TableInit, DropSegment, NewSegment, LinkCheck}
 use Rattle.machine.proofs.Rooms.{parts}
 use Rattle.machine.proofs.ListLaws as lists
 use Rattle.claims.specs.Answers.{accepted}

@@ -8,22 +8,22 @@ use native.Mathlib.Nat.{add-mul, div-add-mod'}
 use lib.Dec.{eqb, leb, ltb}
 use lib.ListN.{length, replicate}
 use borrow.Author.Tests.{eqb-true, eqb-false, ltb-true, ltb-false, leb-true, lt-ltb, le-ltb, le-leb, lt-leb}
-use Rattle.base.specs.Pick.{pick, both}
-use Rattle.base.specs.Span.{inside, over}
-use Rattle.base.specs.Answer.{refusal, refuse, accept, numberOf}
-use Rattle.base.specs.Price.{price}
-use Rattle.base.specs.Fuel.{short, paid, setFuel, getFuel, consume, consumeUnchecked}
-use Rattle.base.specs.Limiter as limiter
-use Rattle.base.specs.Limiter.{saysOf, moved, noticed, heardOf, handOver}
-use Rattle.base.specs.declared.answer.Answer.{Answer}
-use Rattle.base.specs.declared.answer.Answer.the-variants as answer
-use Rattle.base.specs.declared.answer.Refusal.{Refusal}
-use Rattle.base.specs.declared.fuel.Fuel.{Fuel}
-use Rattle.base.specs.declared.fuel.FuelStep.{FuelStep}
-use Rattle.base.specs.declared.limiter.Limiter.{Limiter}
-use Rattle.base.specs.declared.limiter.HandedOver.{HandedOver}
-use Rattle.base.proofs.Picks.{pick-true, pick-false, both-true, both-left, both-right, both-then, both-2, either}
-use Rattle.base.proofs.Spans.{over-nil}
+use Rattle.types.specs.Pick.{pick, both}
+use Rattle.types.specs.Span.{inside, over}
+use Rattle.types.specs.Answer.{refusal, refuse, accept, numberOf}
+use Rattle.types.specs.Price.{price}
+use Rattle.types.specs.Fuel.{short, paid, setFuel, getFuel, consume, consumeUnchecked}
+use Rattle.types.specs.Limiter as limiter
+use Rattle.types.specs.Limiter.{saysOf, moved, noticed, heardOf, handOver}
+use Rattle.types.specs.declared.answer.Answer.{Answer}
+use Rattle.types.specs.declared.answer.Answer.the-variants as answer
+use Rattle.types.specs.declared.answer.Refusal.{Refusal}
+use Rattle.types.specs.declared.fuel.Fuel.{Fuel}
+use Rattle.types.specs.declared.fuel.FuelStep.{FuelStep}
+use Rattle.types.specs.declared.limiter.Limiter.{Limiter}
+use Rattle.types.specs.declared.limiter.HandedOver.{HandedOver}
+use Rattle.types.proofs.Picks.{pick-true, pick-false, both-true, both-left, both-right, both-then, both-2, either}
+use Rattle.types.proofs.Spans.{over-nil}
 use Rattle.types.specs.MemoryType.{pageBytes, buildMemory}
 use Rattle.types.specs.declared.memory_ty.BuiltMemory.{BuiltMemory}
 use Rattle.memory.specs.Access.{Stored, widthBytes, loadWidth, storeWidth, addressOf, loadFound, loadAt, storeFound, storeAt}
@@ -37,12 +37,12 @@ use Rattle.memory.specs.declared.memory.Memory.{Memory}
 use Rattle.memory.proofs.Sounds.{sound-is}
 use Rattle.machine.specs.Machine.{Buffers, buffers, memoryAt, nextByte}
 use Rattle.machine.specs.Sound.{soundOver}
-use Rattle.operations.specs.Operation.{wellFormed, limitsOf, exponentOf, loadKindOf, storeKindOf, scriptOf}
+use Rattle.machine.specs.Operation.{wellFormed, limitsOf, exponentOf, loadKindOf, storeKindOf, scriptOf}
 use Rattle.machine.specs.Outcome.{changed}
 use Rattle.machine.specs.Step.{Done, setting, charging, handing, madeMemory, madeOn, newMemoryOn, grownOn, growMemoryOn, memorySize, loadOn, storedOn, storeOn, linked, linkCheck, onNone, onBytes, answers, perform, after, step, Stepped}
 use Rattle.machine.specs.declared.records.Machine.{Machine}
-use Rattle.operations.specs.declared.operation.Operation.{Operation}
-use Rattle.operations.specs.declared.operation.Operation.the-variants.{Make, SetFuel, GetFuel, Charge, SetLimiter, NewMemory, GrowMemory, MemorySize, Load, Store, LinkCheck}
+use Rattle.machine.specs.declared.operation.Operation.{Operation}
+use Rattle.machine.specs.declared.operation.Operation.the-variants.{Make, SetFuel, GetFuel, Charge, SetLimiter, NewMemory, GrowMemory, MemorySize, Load, Store, LinkCheck}
 use Rattle.machine.specs.declared.outcome.Change.the-variants as change
 use Rattle.machine.proofs.Rooms.{memory-sound, next-byte-inside}
 use Rattle.claims.specs.Metered.{meteringOf, grows, lengthOf, priceOf, affords, grants, unlimited, paidRefusal}

@@ -5,14 +5,14 @@ use mathlib.Core.Bool.{Bool, true, false}
 use mathlib.Core.List.{List, [], _∷_}
 use lib.ListN.{length}
 use borrow.Author.Tests.{ne-eqb}
-use Rattle.base.specs.Pick.{pick}
-use Rattle.base.specs.declared.fuel.FuelCosts.{FuelCosts}
-use Rattle.base.proofs.Picks.{pick-false}
+use Rattle.types.specs.Pick.{pick}
+use Rattle.types.specs.declared.fuel.FuelCosts.{FuelCosts}
+use Rattle.types.proofs.Picks.{pick-false}
 use Rattle.machine.specs.Machine.{Buffers, freshMachine}
 use Rattle.machine.specs.Sound.{soundReferences, soundOver}
 use Rattle.machine.specs.Step.{step, run}
 use Rattle.machine.specs.declared.records.Machine.{Machine}
-use Rattle.operations.specs.declared.operation.Operation.{Operation}
+use Rattle.machine.specs.declared.operation.Operation.{Operation}
 use Rattle.machine.proofs.Kept.{step-sound, fresh-sound}
 use Rattle.claims.specs.Answers.{never}
 use Rattle.claims.proofs.Exits.{not-unsound}

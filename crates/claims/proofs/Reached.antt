@@ -8,15 +8,15 @@ use native.Mathlib.Nat.{mul-one, zero-mul, div-one, mul-add-div, div-eq-of-lt}
 use lib.Dec.{eqb, leb, ltb}
 use lib.ListN.{length, replicate, length-replicate}
 use borrow.Author.Tests.{le-leb, lt-ltb, eqb-true, eqb-false, ne-eqb}
-use Rattle.base.specs.Pick.{pick, both}
-use Rattle.base.specs.Span.{inside}
-use Rattle.base.specs.Price.{price}
-use Rattle.base.specs.Fuel.{paid}
-use Rattle.base.specs.Limiter.{padded, noLimiter, saysOf, moved}
-use Rattle.base.specs.declared.fuel.Fuel.{Fuel}
-use Rattle.base.specs.declared.limiter.Limiter.{Limiter}
-use Rattle.base.proofs.Picks.{pick-true, pick-false, both-true, both-left, either}
-use Rattle.base.proofs.Prices.{price-word}
+use Rattle.types.specs.Pick.{pick, both}
+use Rattle.types.specs.Span.{inside}
+use Rattle.types.specs.Price.{price}
+use Rattle.types.specs.Fuel.{paid}
+use Rattle.types.specs.Limiter.{padded, noLimiter, saysOf, moved}
+use Rattle.types.specs.declared.fuel.Fuel.{Fuel}
+use Rattle.types.specs.declared.limiter.Limiter.{Limiter}
+use Rattle.types.proofs.Picks.{pick-true, pick-false, both-true, both-left, either}
+use Rattle.types.proofs.Prices.{price-word}
 use Rattle.types.specs.Limits.{admitsOf, validLimits}
 use Rattle.types.specs.MemoryType.{pageBound, validMemory}
 use Rattle.types.specs.TableType.{tableBound, validTable, elementMatches}
@@ -26,13 +26,13 @@ use Rattle.memory.specs.Memory.{pagesOf}
 use Rattle.memory.specs.Grow.{mayHave}
 use Rattle.machine.specs.Machine.{Buffers, noLimits, noMemory, noTable, noSegment, nextByte, nextCell, freshMachine}
 use Rattle.machine.specs.Sound.{soundReferences, soundOver}
-use Rattle.operations.specs.Operation as operation
-use Rattle.operations.specs.Operation.{kindOf, binary, absentAsZero, limitFields, memoryFields, kindFields, tableFields}
+use Rattle.machine.specs.Operation as operation
+use Rattle.machine.specs.Operation.{kindOf, binary, absentAsZero, limitFields, memoryFields, kindFields, tableFields}
 use Rattle.machine.specs.Outcome.{withTables, changed, metered}
 use Rattle.machine.specs.Step.{Stepped, step}
 use Rattle.machine.specs.declared.records.Machine.{Machine}
-use Rattle.operations.specs.declared.operation.Operation.{Operation}
-use Rattle.operations.specs.declared.operation.Operation.the-variants.{SetFuel, NewMemory, GrowMemory, NewTable, TableFill}
+use Rattle.machine.specs.declared.operation.Operation.{Operation}
+use Rattle.machine.specs.declared.operation.Operation.the-variants.{SetFuel, NewMemory, GrowMemory, NewTable, TableFill}
 use Rattle.machine.proofs.Kept.{fresh-sound, step-sound, step-bytes-long}
 use Rattle.claims.specs.Answers.{accepted}
 use Rattle.claims.specs.Metered.{meteringOf, meets, lengthOf, bytesOf, priceOf, affords, grants, passes}

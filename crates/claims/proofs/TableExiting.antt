@@ -7,17 +7,17 @@ use native.Mathlib.Omega.{arith}
 use lib.Dec.{eqb, leb, ltb}
 use lib.ListN.{length, getD, set}
 use borrow.Author.Tests.{le-leb, lt-leb, leb-true, ltb-true, ltb-false}
-use Rattle.base.specs.Pick.{pick, both}
-use Rattle.base.specs.Answer.{refusal, refuse, accept}
-use Rattle.base.specs.Fuel.{short, paid}
-use Rattle.base.specs.Limiter.{heardOf}
-use Rattle.base.specs.Span.{inside, cut, over}
-use Rattle.base.proofs.Spans.{over-nil}
-use Rattle.base.specs.Grant.{SpanDone, spanDone}
-use Rattle.base.specs.declared.answer.Refusal.{Refusal}
-use Rattle.base.specs.declared.answer.Answer.the-variants as answer
-use Rattle.base.specs.declared.limiter.Limiter.{Limiter}
-use Rattle.base.proofs.Picks.{pick-true, pick-false, pick-same, both-true, both-then, both-left, both-1, both-2, either}
+use Rattle.types.specs.Pick.{pick, both}
+use Rattle.types.specs.Answer.{refusal, refuse, accept}
+use Rattle.types.specs.Fuel.{short, paid}
+use Rattle.types.specs.Limiter.{heardOf}
+use Rattle.types.specs.Span.{inside, cut, over}
+use Rattle.types.proofs.Spans.{over-nil}
+use Rattle.types.specs.Grant.{SpanDone, spanDone}
+use Rattle.types.specs.declared.answer.Refusal.{Refusal}
+use Rattle.types.specs.declared.answer.Answer.the-variants as answer
+use Rattle.types.specs.declared.limiter.Limiter.{Limiter}
+use Rattle.types.proofs.Picks.{pick-true, pick-false, pick-same, both-true, both-then, both-left, both-1, both-2, either}
 use Rattle.types.specs.Raw.{sameKind}
 use Rattle.types.specs.TableType.{elementMatches}
 use Rattle.types.specs.declared.table_ty.TableType.{TableType}
@@ -27,12 +27,12 @@ use Rattle.table.specs.Table.{soundBuffer}
 use Rattle.table.specs.Copy.{roomsApart, soundTwo}
 use Rattle.machine.specs.Machine.{Buffers, buffers, tableAt, noTable, tableEnd, nextCell, nextItem}
 use Rattle.machine.specs.Sound.{soundTables, soundReferences, soundOver}
-use Rattle.operations.specs.Operation.{wellFormed}
+use Rattle.machine.specs.Operation.{wellFormed}
 use Rattle.machine.specs.Outcome.{withTables, metered, changed, settled}
 use Rattle.machine.specs.Step.{after, onCells, spannedOn, perform, decide, step}
 use Rattle.machine.specs.declared.records.Machine.{Machine}
 use Rattle.machine.specs.declared.outcome.Change.the-variants as change
-use Rattle.operations.specs.declared.operation.Operation.{Operation}
+use Rattle.machine.specs.declared.operation.Operation.{Operation}
 use Rattle.table.specs.declared.table.Table.{Table}
 use Rattle.machine.proofs.ListLaws.{rooms-apart}
 use Rattle.machine.proofs.Rooms.{parts, table-sound, next-cell-inside, next-item-inside}

@@ -7,19 +7,19 @@ use native.Mathlib.Omega.{arith}
 use lib.Dec.{eqb, ltb}
 use lib.ListN.{replicate}
 use borrow.Author.Tests.{leb-true, ltb-true, lt-ltb, le-ltb, leb-false, eqb-true, eqb-false}
-use Rattle.base.specs.Pick.{pick, both}
-use Rattle.base.specs.Answer.{refusal, refuse, accept, numberOf}
-use Rattle.base.specs.Fuel.{paid}
-use Rattle.base.specs.Limiter.{saysOf, heardOf, moved, noLimiter}
-use Rattle.base.specs.Grant.{SpanDone}
-use Rattle.base.specs.Span.{cut, over}
-use Rattle.base.proofs.Spans.{over-nil}
-use Rattle.base.specs.declared.answer.Refusal.{Refusal}
-use Rattle.base.specs.declared.answer.Answer.{Answer}
-use Rattle.base.specs.declared.answer.Answer.the-variants as answer
-use Rattle.base.specs.declared.fuel.Fuel.{Fuel}
-use Rattle.base.specs.declared.limiter.Limiter.{Limiter}
-use Rattle.base.proofs.Picks.{pick-true, pick-false, both-true, both-then, both-left, both-right, both-1, both-2, either}
+use Rattle.types.specs.Pick.{pick, both}
+use Rattle.types.specs.Answer.{refusal, refuse, accept, numberOf}
+use Rattle.types.specs.Fuel.{paid}
+use Rattle.types.specs.Limiter.{saysOf, heardOf, moved, noLimiter}
+use Rattle.types.specs.Grant.{SpanDone}
+use Rattle.types.specs.Span.{cut, over}
+use Rattle.types.proofs.Spans.{over-nil}
+use Rattle.types.specs.declared.answer.Refusal.{Refusal}
+use Rattle.types.specs.declared.answer.Answer.{Answer}
+use Rattle.types.specs.declared.answer.Answer.the-variants as answer
+use Rattle.types.specs.declared.fuel.Fuel.{Fuel}
+use Rattle.types.specs.declared.limiter.Limiter.{Limiter}
+use Rattle.types.proofs.Picks.{pick-true, pick-false, both-true, both-then, both-left, both-right, both-1, both-2, either}
 use Rattle.types.specs.Limits.{admitsOf}
 use Rattle.table.specs.Table.{resized, Written, getTable, setSound, setTable}
 use Rattle.table.specs.New.{Created, newTable}
@@ -30,14 +30,14 @@ use Rattle.table.specs.Init.{initTable}
 use Rattle.table.specs.Element.{MadeWith, newSegment}
 use Rattle.machine.specs.Machine.{Buffers, buffers, tableAt, segmentAt}
 use Rattle.machine.specs.Sound.{soundMemories, soundTables, soundSegments, soundMachine, soundOver}
-use Rattle.operations.specs.Operation.{wellFormed}
+use Rattle.machine.specs.Operation.{wellFormed}
 use Rattle.machine.specs.Outcome.{metered, changed, settled}
 use Rattle.machine.specs.Step.{Done, Stepped, Performed, after, answers, onNone, onCells, onItems, writtenOn, spannedOn, tableMadeOn, tableGrownOn, growTableOn, segmentMadeOn, madeTable, madeSegment, newTableOn, newSegmentOn, tableSize, getOn, setOn, fillOn, copyKnown, copyOn, initOn, dropOn, perform, decide, step}
 use Rattle.machine.specs.declared.records.Machine.{Machine}
 use Rattle.machine.specs.declared.outcome.Outcome.{Outcome}
 use Rattle.machine.specs.declared.outcome.Change.the-variants as change
-use Rattle.operations.specs.declared.operation.Operation.{Operation}
-use Rattle.operations.specs.declared.operation.Operation.the-variants.{NewTable, GrowTable, TableSize, TableGet, TableSet, TableFill, TableCopy, TableInit, DropSegment, NewSegment}
+use Rattle.machine.specs.declared.operation.Operation.{Operation}
+use Rattle.machine.specs.declared.operation.Operation.the-variants.{NewTable, GrowTable, TableSize, TableGet, TableSet, TableFill, TableCopy, TableInit, DropSegment, NewSegment}
 use Rattle.table.specs.declared.table.Table.{Table}
 use Rattle.machine.proofs.Rooms.{table-sound, segment-sound}
 use Rattle.claims.specs.Metered.{meteringOf, grows, lengthOf, affords, grants, unlimited, erredAfter8, paidRefusal, priceOf}

@@ -5,23 +5,23 @@ use mathlib.Core.Bool.{Bool, true, false}
 use mathlib.Core.List.{List}
 use lib.Dec.{eqb, leb, ltb}
 use lib.ListN.{length, replicate}
-use Rattle.base.specs.Pick.{pick, unless, both}
-use Rattle.base.specs.Answer.{refusal, accept, numberOf}
-use Rattle.base.specs.Fuel.{short, paid}
-use Rattle.base.specs.Limiter.{padded, saysOf, heardOf, moved, noLimiter, noticed}
-use Rattle.base.specs.Span.{over}
-use Rattle.base.specs.declared.answer.Refusal.{Refusal}
-use Rattle.base.specs.declared.answer.Answer.the-variants as answer
-use Rattle.base.specs.declared.fuel.Fuel.{Fuel}
-use Rattle.base.specs.declared.limiter.Limiter.{Limiter}
-use Rattle.base.proofs.Picks.{pick-true, pick-false, both-true, both-left, both-right, either}
+use Rattle.types.specs.Pick.{pick, unless, both}
+use Rattle.types.specs.Answer.{refusal, accept, numberOf}
+use Rattle.types.specs.Fuel.{short, paid}
+use Rattle.types.specs.Limiter.{padded, saysOf, heardOf, moved, noLimiter, noticed}
+use Rattle.types.specs.Span.{over}
+use Rattle.types.specs.declared.answer.Refusal.{Refusal}
+use Rattle.types.specs.declared.answer.Answer.the-variants as answer
+use Rattle.types.specs.declared.fuel.Fuel.{Fuel}
+use Rattle.types.specs.declared.limiter.Limiter.{Limiter}
+use Rattle.types.proofs.Picks.{pick-true, pick-false, both-true, both-left, both-right, either}
 use Rattle.types.specs.IndexType.{maxSize}
 use Rattle.types.specs.Limits.{admitsOf}
 use Rattle.types.specs.TableType.{elementMatches}
 use Rattle.table.specs.Table.{resized, soundTable}
 use Rattle.table.specs.Grow.{Grown, done, answered, cellsPrice, growTable}
 use Rattle.machine.specs.Machine.{tableAt}
-use Rattle.operations.specs.Operation.{kindOf, referenceOf}
+use Rattle.machine.specs.Operation.{kindOf, referenceOf}
 use Rattle.machine.specs.declared.records.Machine.{Machine}
 use Rattle.claims.specs.Metered.{affords, grants}
 use Rattle.claims.proofs.Exiting.{Named, named, named-7, short-not, affords-all, grants-no, grants-error, grants-yes}

@@ -4,13 +4,13 @@ use mathlib.Core.Bool.{Bool, true}
 use mathlib.Core.List.{List, [], _∷_}
 use lib.Dec.{eqb}
 use lib.ListN.{replicate}
-use Rattle.base.specs.Pick.{pick, both}
-use Rattle.base.specs.declared.fuel.FuelCosts.{FuelCosts}
+use Rattle.types.specs.Pick.{pick, both}
+use Rattle.types.specs.declared.fuel.FuelCosts.{FuelCosts}
 use Rattle.machine.specs.Machine.{Buffers, buffers}
 use Rattle.machine.specs.Step.{step}
 use Rattle.machine.specs.declared.records.Machine.{Machine}
-use Rattle.operations.specs.declared.operation.Operation.{Operation}
-use Rattle.operations.specs.declared.operation.Operation.the-variants.{SetFuel, NewMemory, GrowMemory, NewTable, TableFill}
+use Rattle.machine.specs.declared.operation.Operation.{Operation}
+use Rattle.machine.specs.declared.operation.Operation.the-variants.{SetFuel, NewMemory, GrowMemory, NewTable, TableFill}
 use Rattle.claims.specs.Answers.{accepted}
 use Rattle.claims.specs.Metered.{meteringOf, meets, bytesOf, passes}
 

@@ -5,13 +5,13 @@ use mathlib.Core.List.{List, [], _∷_, _++_}
 use mathlib.Core.Path.{_≡_, refl}
 use lib.Dec.{eqb, leb, ltb}
 use lib.ListN.{length, replicate}
-use Rattle.base.specs.Pick.{pick, both}
-use Rattle.base.specs.Price.{capped, price}
-use Rattle.base.specs.Span.{inside, cut, over}
-use Rattle.base.specs.Answer.{bitsOf, float32, float64, numberOf, shownOf}
-use Rattle.base.specs.Fuel.{setFuel}
-use Rattle.base.specs.Limiter.{padded, noLimiter, saysOf, moved, heardOf}
-use Rattle.base.specs.declared.answer.Answer.{Answer}
+use Rattle.types.specs.Pick.{pick, both}
+use Rattle.types.specs.Price.{capped, price}
+use Rattle.types.specs.Span.{inside, cut, over}
+use Rattle.types.specs.Answer.{bitsOf, float32, float64, numberOf, shownOf}
+use Rattle.types.specs.Fuel.{setFuel}
+use Rattle.types.specs.Limiter.{padded, noLimiter, saysOf, moved, heardOf}
+use Rattle.types.specs.declared.answer.Answer.{Answer}
 use Rattle.types.specs.IndexType.{maxSize}
 use Rattle.types.specs.Limits.{validLimits, validMaximum, admitsOf}
 use Rattle.types.specs.MemoryType.{pageBound, validMemory, buildMemory, byteSize, minimumBytes}
@@ -33,11 +33,11 @@ use Rattle.table.specs.Copy.{copyWithin}
 use Rattle.table.specs.Init.{initTable}
 use Rattle.machine.specs.Machine.{Buffers, buffers, nextByte, nextCell, nextItem, freshMachine}
 use Rattle.machine.specs.Sound.{follow, soundList, soundMemories, soundTables, soundSegments, soundReferences, soundMachine}
-use Rattle.operations.specs.Operation.{binary, absentAsZero, limitFields, memoryFields, kindFields, tableFields, narrowStore, storeFields, itemField, itemFields, segmentFields, initFields, wellFormed, kindOf, narrowLoad, wideLoad, wholeLoad, loadKindOf, narrowStoreOf, wholeStore, storeKindOf}
+use Rattle.machine.specs.Operation.{binary, absentAsZero, limitFields, memoryFields, kindFields, tableFields, narrowStore, storeFields, itemField, itemFields, segmentFields, initFields, wellFormed, kindOf, narrowLoad, wideLoad, wholeLoad, loadKindOf, narrowStoreOf, wholeStore, storeKindOf}
 use Rattle.machine.specs.Outcome.{changed, settled}
 use Rattle.machine.specs.Step.{setting, madeMemory, newMemoryOn, loadOn, storeOn, madeTable, newTableOn, copyKnown, copyOn, initOn, madeSegment, newSegmentOn, perform, decide, step, run}
-use Rattle.operations.specs.declared.operation.Operation.{Operation}
-use Rattle.operations.specs.declared.operation.Operation.the-variants.{SetFuel, NewMemory, Load, Store, NewTable, TableCopy, TableInit, NewSegment}
+use Rattle.machine.specs.declared.operation.Operation.{Operation}
+use Rattle.machine.specs.declared.operation.Operation.the-variants.{SetFuel, NewMemory, Load, Store, NewTable, TableCopy, TableInit, NewSegment}
 
 -- every test of a list holds
 unfoldable pub allHold : List Bool → Bool

@@ -4,13 +4,13 @@ use mathlib.Core.Path.{_≡_}
 use mathlib.Core.Bool.{Bool, true, false}
 use mathlib.Core.List.{List}
 use lib.ListN.{length}
-use Rattle.base.specs.declared.fuel.FuelCosts.{FuelCosts}
+use Rattle.types.specs.declared.fuel.FuelCosts.{FuelCosts}
 use Rattle.machine.specs.Machine.{Buffers, freshMachine}
 use Rattle.machine.specs.Sound.{soundReferences, soundOver}
 use Rattle.machine.specs.Step.{step, run}
 use Rattle.machine.specs.Frame.{OthersStay, OnlySizes}
 use Rattle.machine.specs.declared.records.Machine.{Machine}
-use Rattle.operations.specs.declared.operation.Operation.{Operation}
+use Rattle.machine.specs.declared.operation.Operation.{Operation}
 use Rattle.claims.specs.Answers.{accepted, valueOrListed, never}
 use Rattle.claims.specs.Refused.{Leaves}
 use Rattle.claims.specs.Occasions.{acceptedWhen}

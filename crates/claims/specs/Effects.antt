@@ -4,14 +4,14 @@ use mathlib.Core.Bool.{Bool, true, false}
 use mathlib.Core.List.{List}
 use lib.Dec.{ltb}
 use lib.ListN.{length, getD, replicate}
-use Rattle.base.specs.Pick.{pick}
-use Rattle.base.specs.Span.{cut, over}
-use Rattle.base.specs.Answer.{accept}
-use Rattle.base.specs.Fuel.{left, paid}
-use Rattle.base.specs.Limiter.{limiterOf, moved}
-use Rattle.base.specs.declared.answer.Answer.{Answer}
-use Rattle.base.specs.declared.fuel.Fuel.{Fuel}
-use Rattle.base.specs.declared.limiter.Limiter.{Limiter}
+use Rattle.types.specs.Pick.{pick}
+use Rattle.types.specs.Span.{cut, over}
+use Rattle.types.specs.Answer.{accept}
+use Rattle.types.specs.Fuel.{left, paid}
+use Rattle.types.specs.Limiter.{limiterOf, moved}
+use Rattle.types.specs.declared.answer.Answer.{Answer}
+use Rattle.types.specs.declared.fuel.Fuel.{Fuel}
+use Rattle.types.specs.declared.limiter.Limiter.{Limiter}
 use Rattle.types.specs.MemoryType.{matchMemory}
 use Rattle.types.specs.TableType.{tableType}
 use Rattle.memory.specs.LittleEndian.{leBytes}
@@ -24,14 +24,14 @@ use Rattle.table.specs.Table as of-table
 use Rattle.table.specs.New.{tableOf}
 use Rattle.table.specs.Element.{dropped}
 use Rattle.machine.specs.Machine.{Buffers, buffers, memoryAt, tableAt, segmentAt, nextByte, nextCell, nextItem}
-use Rattle.operations.specs.Operation.{yes, limitsOf, exponentOf, kindOf, loadKindOf, storeKindOf, scriptOf, itemsOf}
+use Rattle.machine.specs.Operation.{yes, limitsOf, exponentOf, kindOf, loadKindOf, storeKindOf, scriptOf, itemsOf}
 use Rattle.machine.specs.Outcome.{changed, metered}
 use Rattle.machine.specs.Step.{Stepped}
 use Rattle.machine.specs.declared.records.Machine.{Machine}
 use Rattle.machine.specs.declared.outcome.Change.{Change}
 use Rattle.machine.specs.declared.outcome.Change.the-variants as change
-use Rattle.operations.specs.declared.operation.Operation.{Operation}
-use Rattle.operations.specs.declared.operation.Operation.the-variants.{Make, SetFuel, GetFuel, Charge, SetLimiter, NewMemory, GrowMemory, MemorySize, Load, Store, NewTable, GrowTable, TableSize, TableGet, TableSet, TableFill, TableCopy, TableInit, DropSegment, NewSegment, LinkCheck}
+use Rattle.machine.specs.declared.operation.Operation.{Operation}
+use Rattle.machine.specs.declared.operation.Operation.the-variants.{Make, SetFuel, GetFuel, Charge, SetLimiter, NewMemory, GrowMemory, MemorySize, Load, Store, NewTable, GrowTable, TableSize, TableGet, TableSet, TableFill, TableCopy, TableInit, DropSegment, NewSegment, LinkCheck}
 use Rattle.claims.specs.Metered.{Metering, Free, Sets, Charges, GrowsPages, GrowsCells, Spans, Inits, meteringOf, priceOf}
 
 -- what an accepted operation answers: creations the new number, growths and sizes the size before, 02 and 03 the fuel left, others 0

@@ -4,19 +4,19 @@ use mathlib.Core.Bool.{Bool, true, false}
 use mathlib.Core.List.{List, [], _∷_, _++_}
 use lib.Dec.{eqb, leb, ltb}
 use lib.ListN.{getD, set}
-use Rattle.base.specs.Pick.{pick, both}
-use Rattle.base.specs.Price.{price}
-use Rattle.base.specs.Answer.{numberOf}
-use Rattle.base.specs.Limiter.{saysOf}
-use Rattle.base.specs.declared.answer.Answer.{Answer}
+use Rattle.types.specs.Pick.{pick, both}
+use Rattle.types.specs.Price.{price}
+use Rattle.types.specs.Answer.{numberOf}
+use Rattle.types.specs.Limiter.{saysOf}
+use Rattle.types.specs.declared.answer.Answer.{Answer}
 use Rattle.types.specs.Limits.{admitsOf}
 use Rattle.types.specs.declared.limits.Limits.{Limits}
 use Rattle.machine.specs.Machine.{Buffers, noLimits}
-use Rattle.operations.specs.Operation.{limitsOf}
+use Rattle.machine.specs.Operation.{limitsOf}
 use Rattle.machine.specs.Step.{step}
 use Rattle.machine.specs.declared.records.Machine.{Machine}
-use Rattle.operations.specs.declared.operation.Operation.{Operation}
-use Rattle.operations.specs.declared.operation.Operation.the-variants.{Make, SetFuel, GetFuel, Charge, SetLimiter, NewMemory, GrowMemory, MemorySize, Load, Store, NewTable, GrowTable, TableSize, TableGet, TableSet, TableFill, TableCopy, TableInit, DropSegment, NewSegment, LinkCheck}
+use Rattle.machine.specs.declared.operation.Operation.{Operation}
+use Rattle.machine.specs.declared.operation.Operation.the-variants.{Make, SetFuel, GetFuel, Charge, SetLimiter, NewMemory, GrowMemory, MemorySize, Load, Store, NewTable, GrowTable, TableSize, TableGet, TableSet, TableFill, TableCopy, TableInit, DropSegment, NewSegment, LinkCheck}
 use Rattle.claims.specs.Answers.{accepted}
 use Rattle.claims.specs.Metered.{grants}
 

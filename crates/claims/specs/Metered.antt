@@ -2,17 +2,17 @@
 use Prim.Native.Nat.{ℕ, _*_}
 use mathlib.Core.Bool.{Bool, true, false}
 use lib.Dec.{eqb, leb, ltb}
-use Rattle.base.specs.Pick.{pick, both}
-use Rattle.base.specs.Price.{price}
-use Rattle.base.specs.Answer.{numberOf}
-use Rattle.base.specs.Limiter.{noLimiter, saysOf}
+use Rattle.types.specs.Pick.{pick, both}
+use Rattle.types.specs.Price.{price}
+use Rattle.types.specs.Answer.{numberOf}
+use Rattle.types.specs.Limiter.{noLimiter, saysOf}
 use Rattle.types.specs.MemoryType.{pageBytes}
 use Rattle.machine.specs.Machine.{Buffers, memoryAt}
 use Rattle.machine.specs.Outcome.{metered}
 use Rattle.machine.specs.Step.{step}
 use Rattle.machine.specs.declared.records.Machine.{Machine}
-use Rattle.operations.specs.declared.operation.Operation.{Operation}
-use Rattle.operations.specs.declared.operation.Operation.the-variants.{Make, SetFuel, GetFuel, Charge, SetLimiter, NewMemory, GrowMemory, MemorySize, Load, Store, NewTable, GrowTable, TableSize, TableGet, TableSet, TableFill, TableCopy, TableInit, DropSegment, NewSegment, LinkCheck}
+use Rattle.machine.specs.declared.operation.Operation.{Operation}
+use Rattle.machine.specs.declared.operation.Operation.the-variants.{Make, SetFuel, GetFuel, Charge, SetLimiter, NewMemory, GrowMemory, MemorySize, Load, Store, NewTable, GrowTable, TableSize, TableGet, TableSet, TableFill, TableCopy, TableInit, DropSegment, NewSegment, LinkCheck}
 use Rattle.claims.specs.Answers.{accepted}
 
 -- what an operation has to do with fuel

@@ -4,11 +4,11 @@ use mathlib.Core.Bool.{Bool, true, false}
 use mathlib.Core.List.{List}
 use lib.Dec.{eqb, leb, ltb}
 use lib.ListN.{length, getD, replicate}
-use Rattle.base.specs.Pick.{pick, both}
-use Rattle.base.specs.Span.{inside, cut, over}
-use Rattle.base.specs.Answer.{accept}
-use Rattle.base.specs.Limiter.{saysOf, wellFormed}
-use Rattle.base.specs.declared.answer.Answer.{Answer}
+use Rattle.types.specs.Pick.{pick, both}
+use Rattle.types.specs.Span.{inside, cut, over}
+use Rattle.types.specs.Answer.{accept}
+use Rattle.types.specs.Limiter.{saysOf, wellFormed}
+use Rattle.types.specs.declared.answer.Answer.{Answer}
 use Rattle.types.specs.IndexType.{maxSize}
 use Rattle.types.specs.Limits.{admitsOf}
 use Rattle.types.specs.MemoryType.{validExponent, validMemory, matchMemory}
@@ -21,11 +21,11 @@ use Rattle.memory.specs.New.{wanted, leastBytes}
 use Rattle.memory.specs.Grow.{mayHave, grownSize}
 use Rattle.machine.specs.Machine.{Buffers, buffers, memoryAt, tableAt, segmentAt, nextByte, nextCell, nextItem}
 use Rattle.machine.specs.Sound.{soundOver}
-use Rattle.operations.specs.Operation as operation
-use Rattle.operations.specs.Operation.{yes, limitsOf, exponentOf, kindOf, loadKindOf, storeKindOf, scriptOf, itemsOf}
+use Rattle.machine.specs.Operation as operation
+use Rattle.machine.specs.Operation.{yes, limitsOf, exponentOf, kindOf, loadKindOf, storeKindOf, scriptOf, itemsOf}
 use Rattle.machine.specs.declared.records.Machine.{Machine}
-use Rattle.operations.specs.declared.operation.Operation.{Operation}
-use Rattle.operations.specs.declared.operation.Operation.the-variants.{Make, SetFuel, GetFuel, Charge, SetLimiter, NewMemory, GrowMemory, MemorySize, Load, Store, NewTable, GrowTable, TableSize, TableGet, TableSet, TableFill, TableCopy, TableInit, DropSegment, NewSegment, LinkCheck}
+use Rattle.machine.specs.declared.operation.Operation.{Operation}
+use Rattle.machine.specs.declared.operation.Operation.the-variants.{Make, SetFuel, GetFuel, Charge, SetLimiter, NewMemory, GrowMemory, MemorySize, Load, Store, NewTable, GrowTable, TableSize, TableGet, TableSet, TableFill, TableCopy, TableInit, DropSegment, NewSegment, LinkCheck}
 use Rattle.claims.specs.Metered.{priceOf, affords, grants}
 
 -- the number is one in use

@@ -1,5 +1,5 @@
 // The line that a case prints.
-use base::answer::Answer;
+use types::answer::Answer;
 use memory::grow::GrownMemory;
 use table::grow::GrownTable;
 

@@ -1,8 +1,8 @@
 // What operations are given besides their cells.
 use super::text::Order;
-use base::fuel::Fuel;
-use base::fuel::FuelCosts;
-use base::limiter::Limiter;
+use types::fuel::Fuel;
+use types::fuel::FuelCosts;
+use types::limiter::Limiter;
 
 pub(crate) struct Means {
     pub(crate) fuel: Fuel,

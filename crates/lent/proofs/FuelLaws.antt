@@ -3,14 +3,14 @@ use mathlib.Core.Path.{_≡_, refl, ap, sym, _∙_}
 use mathlib.Core.Bool.{Bool, true, false}
 use Prim.Native.Nat.{ℕ, _-_}
 use lib.Dec.{ltb}
-use Rattle.base.specs.Pick.{pick}
-use Rattle.base.specs.Answer.{refusal}
-use Rattle.base.specs.Fuel.{left, setFuel, getFuel, consume, consumeIf, consumeUnchecked}
+use Rattle.types.specs.Pick.{pick}
+use Rattle.types.specs.Answer.{refusal}
+use Rattle.types.specs.Fuel.{left, setFuel, getFuel, consume, consumeIf, consumeUnchecked}
 use Rattle.lent.specs.Fuel.{FuelDone, fuelDone, setBy, chargedBy, requested, leftOf}
-use Rattle.base.specs.declared.answer.Refusal.{Refusal}
-use Rattle.base.specs.declared.fuel.Fuel.{Fuel}
-use Rattle.base.specs.declared.fuel.FuelStep.{FuelStep}
-use Rattle.base.specs.declared.fuel.FuelStep.the-variants.{Done, Refused}
+use Rattle.types.specs.declared.answer.Refusal.{Refusal}
+use Rattle.types.specs.declared.fuel.Fuel.{Fuel}
+use Rattle.types.specs.declared.fuel.FuelStep.{FuelStep}
+use Rattle.types.specs.declared.fuel.FuelStep.the-variants.{Done, Refused}
 use Rattle.lent.specs.declared.fuel.FuelRequest.{FuelRequest}
 use Rattle.lent.specs.declared.fuel.FuelRequest.the-variants.{Set, Get, Charge, ChargeIf, ChargeUnchecked}
 use Rattle.lent.specs.declared.fuel.FuelLeft.{FuelLeft}

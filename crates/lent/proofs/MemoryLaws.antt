@@ -5,13 +5,13 @@ use mathlib.Core.List.{List}
 use Prim.Native.Nat.{ℕ, _-_}
 use lib.Dec.{ltb}
 use lib.ListN.{length, set}
-use Rattle.base.specs.Pick.{pick}
-use Rattle.base.specs.Answer.{refuse}
-use Rattle.base.specs.Fuel.{left, paid}
-use Rattle.base.specs.Limiter.{moved}
-use Rattle.base.specs.declared.answer.Answer.{Answer}
-use Rattle.base.specs.declared.fuel.Fuel.{Fuel}
-use Rattle.base.specs.declared.limiter.Limiter.{Limiter}
+use Rattle.types.specs.Pick.{pick}
+use Rattle.types.specs.Answer.{refuse}
+use Rattle.types.specs.Fuel.{left, paid}
+use Rattle.types.specs.Limiter.{moved}
+use Rattle.types.specs.declared.answer.Answer.{Answer}
+use Rattle.types.specs.declared.fuel.Fuel.{Fuel}
+use Rattle.types.specs.declared.limiter.Limiter.{Limiter}
 use Rattle.memory.specs.Access as access
 use Rattle.memory.specs.Memory.{resized, loadMemory, storeMemory}
 use Rattle.memory.specs.Grow.{Grown, done, answered, growMemory}

@@ -7,9 +7,9 @@ use native.Mathlib.Omega.{arith}
 use lib.Dec.{ltb}
 use lib.ListN.{length, take, drop, getD, set}
 use borrow.Author.Tests.{ltb-true, leb-true, le-leb}
-use Rattle.base.specs.Pick.{pick}
-use Rattle.base.proofs.Picks.{pick-true, pick-false, pick-ap, both-true, both-1, both-2, either}
-use Rattle.base.specs.declared.fuel.Fuel.{Fuel}
+use Rattle.types.specs.Pick.{pick}
+use Rattle.types.proofs.Picks.{pick-true, pick-false, pick-ap, both-true, both-1, both-2, either}
+use Rattle.types.specs.declared.fuel.Fuel.{Fuel}
 use Rattle.memory.specs.declared.memory.Memory.{Memory}
 use Rattle.table.specs.declared.table.Table.{Table}
 use Rattle.table.specs.declared.element.ElementSegment.{ElementSegment}
@@ -23,8 +23,8 @@ use Rattle.machine.specs.declared.records.Counts.{Counts}
 use Rattle.machine.specs.declared.outcome.Outcome.{Outcome}
 use Rattle.machine.specs.declared.outcome.Change.{Change}
 use Rattle.machine.specs.declared.outcome.Change.the-variants as change
-use Rattle.operations.specs.declared.operation.Operation.{Operation}
-use Rattle.operations.specs.declared.operation.Operation.the-variants.{GetFuel}
+use Rattle.machine.specs.declared.operation.Operation.{Operation}
+use Rattle.machine.specs.declared.operation.Operation.the-variants.{GetFuel}
 use Rattle.lent.specs.Records.{Lent, lent, gathered, machineOf, longEnough, placed, lentBack, LentStepped, unfit, stepPlaced, lentStep}
 use Rattle.lent.specs.Places.{verdict, orFirst, memoryPlace, tablePlace, segmentPlace, orKept, memoryAfter, tableAfter, segmentAfter, oneMore, countsAfter, placedOf, Placing, place, eight}
 

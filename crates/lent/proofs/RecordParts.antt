@@ -30,20 +30,20 @@ use Rattle.table.proofs.element.ElementSegment as G
 use Rattle.table.proofs.element.ElementSegment.Laws as G′
 use Rattle.lent.specs.declared.operate.Standing.{Standing}
 use Rattle.lent.proofs.operate.Standing.Laws as D′
-use Rattle.base.specs.Fuel.{left}
-use Rattle.base.specs.declared.fuel.Fuel.{Fuel}
-use Rattle.base.proofs.fuel.Fuel.Laws as F′
-use Rattle.base.proofs.answer.Answer.Laws as S′
+use Rattle.types.specs.Fuel.{left}
+use Rattle.types.specs.declared.fuel.Fuel.{Fuel}
+use Rattle.types.proofs.fuel.Fuel.Laws as F′
+use Rattle.types.proofs.answer.Answer.Laws as S′
 use Rattle.lent.specs.declared.fuel.FuelLeft.{FuelLeft}
 use Rattle.lent.proofs.fuel.FuelLeft.Laws as L′
 use Rattle.lent.specs.declared.regrown.Regrown.{Regrown}
 use Rattle.lent.proofs.regrown.Regrown.Laws as R′
-use Rattle.base.specs.declared.limiter.Limiter.{Limiter}
-use Rattle.base.proofs.limiter.Limiter.Laws as Lm′
+use Rattle.types.specs.declared.limiter.Limiter.{Limiter}
+use Rattle.types.proofs.limiter.Limiter.Laws as Lm′
 use Rattle.memory.specs.Memory.{resized}
 use Rattle.lent.proofs.MemoryLaws.{placed}
-use Rattle.operations.specs.declared.operation.Operation.{Operation}
-use Rattle.operations.proofs.operation.Operation.Laws as P′
+use Rattle.machine.specs.declared.operation.Operation.{Operation}
+use Rattle.machine.proofs.operation.Operation.Laws as P′
 
 -- the machine values of the records, and their arrays
 abbrev pub AR-Y : RattleType

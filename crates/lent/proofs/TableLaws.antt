@@ -5,15 +5,15 @@ use mathlib.Core.List.{List}
 use Prim.Native.Nat.{ℕ, _-_}
 use lib.Dec.{eqb, ltb}
 use lib.ListN.{length, set}
-use Rattle.base.specs.Pick.{pick}
-use Rattle.base.specs.Answer.{refuse}
-use Rattle.base.specs.Fuel.{left, paid}
-use Rattle.base.specs.Grant.{SpanDone, spanDone}
-use Rattle.base.specs.Limiter.{moved}
-use Rattle.base.specs.declared.answer.Answer.{Answer}
-use Rattle.base.specs.declared.fuel.Fuel.{Fuel}
+use Rattle.types.specs.Pick.{pick}
+use Rattle.types.specs.Answer.{refuse}
+use Rattle.types.specs.Fuel.{left, paid}
+use Rattle.types.specs.Grant.{SpanDone, spanDone}
+use Rattle.types.specs.Limiter.{moved}
+use Rattle.types.specs.declared.answer.Answer.{Answer}
+use Rattle.types.specs.declared.fuel.Fuel.{Fuel}
 use Rattle.lent.specs.declared.fuel.FuelLeft.{FuelLeft}
-use Rattle.base.specs.declared.limiter.Limiter.{Limiter}
+use Rattle.types.specs.declared.limiter.Limiter.{Limiter}
 use Rattle.types.specs.Raw.{rawBytes}
 use Rattle.types.specs.declared.raw.TypedRawRef.{TypedRawRef}
 use Rattle.table.specs.Table.{Written, done, resized, setTable}

@@ -2,9 +2,9 @@
 -- A function proved by a walk has no generated reading, so the statement is over the one definition that its `ensures` cites.
 use mathlib.Core.Path.{_≡_, sym, _∙_, ap}
 use denote.Ref.{now}
-use Rattle.base.proofs.One.{OneWith}
+use Rattle.types.proofs.One.{OneWith}
 use Rattle.types.specs.Raw.{rawBytes}
-use Rattle.operations.specs.declared.operation.Operation.{Operation}
+use Rattle.machine.specs.declared.operation.Operation.{Operation}
 use Rattle.machine.specs.Machine.{Buffers, buffers}
 use Rattle.machine.specs.Step.{Stepped}
 use Rattle.machine.specs.declared.operate.Operated.{Operated}

@@ -1,12 +1,12 @@
 -- Document 01, "Fuel": the fuel record is lent and charged where it stands.
 use Prim.Native.Nat.{ℕ}
-use Rattle.base.specs.Answer.{accept}
-use Rattle.base.specs.Fuel.{setFuel, getFuel, consume, consumeIf, consumeUnchecked}
-use Rattle.base.specs.declared.answer.Answer.{Answer}
-use Rattle.base.specs.declared.answer.Answer.the-variants as answer
-use Rattle.base.specs.declared.fuel.Fuel.{Fuel}
-use Rattle.base.specs.declared.fuel.FuelStep.{FuelStep}
-use Rattle.base.specs.declared.fuel.FuelStep.the-variants.{Done, Refused}
+use Rattle.types.specs.Answer.{accept}
+use Rattle.types.specs.Fuel.{setFuel, getFuel, consume, consumeIf, consumeUnchecked}
+use Rattle.types.specs.declared.answer.Answer.{Answer}
+use Rattle.types.specs.declared.answer.Answer.the-variants as answer
+use Rattle.types.specs.declared.fuel.Fuel.{Fuel}
+use Rattle.types.specs.declared.fuel.FuelStep.{FuelStep}
+use Rattle.types.specs.declared.fuel.FuelStep.the-variants.{Done, Refused}
 use Rattle.lent.specs.declared.fuel.FuelRequest.{FuelRequest}
 use Rattle.lent.specs.declared.fuel.FuelRequest.the-variants.{Set, Get, Charge, ChargeIf, ChargeUnchecked}
 use Rattle.lent.specs.declared.fuel.FuelLeft.{FuelLeft}

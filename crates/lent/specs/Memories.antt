@@ -3,11 +3,11 @@ use Prim.Native.Nat.{ℕ}
 use mathlib.Core.List.{List}
 use lib.Dec.{ltb}
 use lib.ListN.{length, getD, set}
-use Rattle.base.specs.Pick.{pick}
-use Rattle.base.specs.Answer.{refuse}
-use Rattle.base.specs.declared.answer.Answer.{Answer}
-use Rattle.base.specs.declared.fuel.Fuel.{Fuel}
-use Rattle.base.specs.declared.limiter.Limiter.{Limiter}
+use Rattle.types.specs.Pick.{pick}
+use Rattle.types.specs.Answer.{refuse}
+use Rattle.types.specs.declared.answer.Answer.{Answer}
+use Rattle.types.specs.declared.fuel.Fuel.{Fuel}
+use Rattle.types.specs.declared.limiter.Limiter.{Limiter}
 use Rattle.memory.specs.Access.{Stored, done}
 use Rattle.memory.specs.Memory.{loadMemory, storeMemory}
 use Rattle.memory.specs.Grow.{Grown, growMemory}

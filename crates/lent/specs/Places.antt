@@ -4,9 +4,9 @@ use mathlib.Core.Bool.{true, false}
 use mathlib.Core.List.{List, [], _∷_}
 use lib.Dec.{ltb}
 use lib.ListN.{getD}
-use Rattle.base.specs.Pick.{pick, unless}
-use Rattle.base.specs.Answer.{accept}
-use Rattle.base.specs.declared.answer.Answer.{Answer}
+use Rattle.types.specs.Pick.{pick, unless}
+use Rattle.types.specs.Answer.{accept}
+use Rattle.types.specs.declared.answer.Answer.{Answer}
 use Rattle.memory.specs.declared.memory.Memory.{Memory}
 use Rattle.table.specs.declared.table.Table.{Table}
 use Rattle.table.specs.declared.element.ElementSegment.{ElementSegment}
@@ -17,7 +17,7 @@ use Rattle.machine.specs.declared.records.Counts.{Counts}
 use Rattle.machine.specs.declared.outcome.Outcome.{Outcome}
 use Rattle.machine.specs.declared.outcome.Change.{Change}
 use Rattle.machine.specs.declared.outcome.Change.the-variants as change
-use Rattle.operations.specs.declared.operation.Operation.{Operation}
+use Rattle.machine.specs.declared.operation.Operation.{Operation}
 use Rattle.lent.specs.declared.operate.Placed.{Placed}
 use Rattle.lent.specs.declared.operate.Verdict.{Verdict}
 use Rattle.lent.specs.Records.{longEnough, unfit}

@@ -4,18 +4,18 @@ use mathlib.Core.Bool.{Bool}
 use mathlib.Core.List.{List, _++_}
 use lib.Dec.{leb}
 use lib.ListN.{length, take, drop}
-use Rattle.base.specs.Pick.{unless, both}
-use Rattle.base.specs.Answer.{refuse}
-use Rattle.base.specs.declared.answer.Answer.{Answer}
-use Rattle.base.specs.declared.fuel.Fuel.{Fuel}
+use Rattle.types.specs.Pick.{unless, both}
+use Rattle.types.specs.Answer.{refuse}
+use Rattle.types.specs.declared.answer.Answer.{Answer}
+use Rattle.types.specs.declared.fuel.Fuel.{Fuel}
 use Rattle.memory.specs.declared.memory.Memory.{Memory}
 use Rattle.table.specs.declared.table.Table.{Table}
 use Rattle.table.specs.declared.element.ElementSegment.{ElementSegment}
 use Rattle.machine.specs.Machine.{Buffers, buffers}
-use Rattle.operations.specs.Operation.{wellFormed}
+use Rattle.machine.specs.Operation.{wellFormed}
 use Rattle.machine.specs.Step.{step}
 use Rattle.machine.specs.declared.records.Machine.{Machine}
-use Rattle.operations.specs.declared.operation.Operation.{Operation}
+use Rattle.machine.specs.declared.operation.Operation.{Operation}
 use Rattle.lent.specs.declared.operate.Standing.{Standing}
 
 -- what is lent beside the buffers

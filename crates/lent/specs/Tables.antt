@@ -3,14 +3,14 @@ use Prim.Native.Nat.{ℕ}
 use mathlib.Core.List.{List}
 use lib.Dec.{eqb, ltb}
 use lib.ListN.{length, getD, set}
-use Rattle.base.specs.Pick.{pick}
-use Rattle.base.specs.Answer.{refuse}
-use Rattle.base.specs.Grant.{SpanDone, spanDone}
+use Rattle.types.specs.Pick.{pick}
+use Rattle.types.specs.Answer.{refuse}
+use Rattle.types.specs.Grant.{SpanDone, spanDone}
 use Rattle.lent.specs.Fuel.{fuelLeft}
-use Rattle.base.specs.declared.answer.Answer.{Answer}
-use Rattle.base.specs.declared.fuel.Fuel.{Fuel}
+use Rattle.types.specs.declared.answer.Answer.{Answer}
+use Rattle.types.specs.declared.fuel.Fuel.{Fuel}
 use Rattle.lent.specs.declared.fuel.FuelLeft.{FuelLeft}
-use Rattle.base.specs.declared.limiter.Limiter.{Limiter}
+use Rattle.types.specs.declared.limiter.Limiter.{Limiter}
 use Rattle.types.specs.Raw.{rawBytes}
 use Rattle.types.specs.declared.raw.TypedRawRef.{TypedRawRef}
 use Rattle.table.specs.Table.{Written, done, setTable}

@@ -1,11 +1,11 @@
 // The fuel record, lent and charged where it stands.
-use base::answer::Answer;
-use base::answer::Value;
-use base::fuel::Fuel;
-use base::fuel::FuelStep;
+use types::answer::Answer;
+use types::answer::Value;
+use types::fuel::Fuel;
+use types::fuel::FuelStep;
 ghost use mathlib.Core.Path.{_≡_};
 ghost use Rattle.lent.specs.Fuel.{setBy, chargedBy, fuelLeft, leftOf, fuelDone, requested};
-ghost use Rattle.base.specs.Fuel.{setFuel, getFuel, consume, consumeIf, consumeUnchecked};
+ghost use Rattle.types.specs.Fuel.{setFuel, getFuel, consume, consumeIf, consumeUnchecked};
 
 // What the fuel record is asked for.
 pub enum FuelRequest {

@@ -1,9 +1,9 @@
 // Instance records in a lent list: one is read, the operation done on it, and its new size stored.
 use super::regrown::Regrown;
-use base::answer::Answer;
-use base::answer::Refusal;
-use base::fuel::Fuel;
-use base::limiter::Limiter;
+use types::answer::Answer;
+use types::answer::Refusal;
+use types::fuel::Fuel;
+use types::limiter::Limiter;
 use memory::access::LoadKind;
 use memory::access::StoreKind;
 use memory::memory::Memory;

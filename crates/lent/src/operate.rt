@@ -1,16 +1,16 @@
 // One operation on records that stand in lent lists, with the fuel record lent: each list has one record stored to it.
-use base::answer::Answer;
-use base::answer::Refusal;
-use base::answer::Value;
-use base::fuel::Fuel;
-use base::limiter::Limiter;
+use types::answer::Answer;
+use types::answer::Refusal;
+use types::answer::Value;
+use types::fuel::Fuel;
+use types::limiter::Limiter;
 use machine::operate::Operated;
 use machine::outcome::Change;
 use machine::outcome::Outcome;
 use machine::records::Counts;
 use machine::records::Machine;
 use memory::memory::Memory;
-use operations::operation::Operation;
+use machine::operation::Operation;
 use table::element::ElementSegment;
 use table::table::Table;
 ghost use mathlib.Core.Path.{_≡_};

@@ -1,5 +1,5 @@
 // What a growth changes at most, beside its cells: what is written back to lent records.
-use base::answer::Answer;
+use types::answer::Answer;
 
 pub struct Regrown {
     pub answer: Answer,

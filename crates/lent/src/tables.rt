@@ -1,18 +1,18 @@
 // Instance records in lent lists: they are read, the operation done on them, and a new size stored.
 use super::fuel::FuelLeft;
 use super::regrown::Regrown;
-use base::answer::Answer;
-use base::answer::Refusal;
-use base::fuel::Fuel;
-use base::grant::Spanned;
-use base::limiter::Limiter;
+use types::answer::Answer;
+use types::answer::Refusal;
+use types::fuel::Fuel;
+use types::grant::Spanned;
+use types::limiter::Limiter;
 use table::element::ElementSegment;
 use table::table::Table;
 use types::raw::TypedRawRef;
 ghost use mathlib.Core.Path.{_≡_};
 ghost use Prim.Native.Nat.{_<_};
 ghost use lib.ListN.{length, set};
-ghost use Rattle.base.specs.Grant.{spanDone};
+ghost use Rattle.types.specs.Grant.{spanDone};
 ghost use Rattle.types.specs.Raw.{rawBytes};
 ghost use Rattle.table.specs.Table.{resized, done, setTable};
 ghost use Rattle.table.specs.Grow.{growTable};

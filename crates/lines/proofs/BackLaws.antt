@@ -5,11 +5,11 @@ use Prim.Native.Nat.{ℕ, _+_, _≤_}
 use native.Mathlib.Omega.{arith}
 use lib.ListN.{length, take, length-take}
 use lib.Seq.{take-all}
-use Rattle.base.specs.Span.{over}
-use Rattle.operations.specs.declared.operation.Operation.{Operation}
-use Rattle.operations.specs.declared.operation.Operation.the-variants.{Make, SetFuel, GetFuel, Charge, SetLimiter, NewMemory, GrowMemory, MemorySize, Load, Store}
-use Rattle.operations.specs.declared.operation.Operation.the-variants.{NewTable, GrowTable, TableSize, TableGet, TableSet, TableFill}
-use Rattle.operations.specs.declared.operation.Operation.the-variants.{TableCopy, TableInit, DropSegment, NewSegment, LinkCheck}
+use Rattle.types.specs.Span.{over}
+use Rattle.machine.specs.declared.operation.Operation.{Operation}
+use Rattle.machine.specs.declared.operation.Operation.the-variants.{Make, SetFuel, GetFuel, Charge, SetLimiter, NewMemory, GrowMemory, MemorySize, Load, Store}
+use Rattle.machine.specs.declared.operation.Operation.the-variants.{NewTable, GrowTable, TableSize, TableGet, TableSet, TableFill}
+use Rattle.machine.specs.declared.operation.Operation.the-variants.{TableCopy, TableInit, DropSegment, NewSegment, LinkCheck}
 use Rattle.lines.specs.Line.{filled, lineText}
 use Rattle.lines.specs.Code.{codeOf, fieldsBack, writeLine}
 use Rattle.lines.specs.Written.{fieldedOf, backOf, wroteOf, Wrote}

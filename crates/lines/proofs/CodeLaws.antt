@@ -3,11 +3,11 @@ use mathlib.Core.Path.{_≡_, refl, sym, ap, _∙_}
 use Prim.Native.Nat.{ℕ}
 use lib.Dec.{eqb}
 use borrow.Author.Tests.{ne-eqb}
-use Rattle.base.specs.Pick.{pick}
-use Rattle.base.proofs.Picks.{pick-false}
-use Rattle.operations.specs.declared.operation.Operation.the-variants.{Make, SetFuel, GetFuel, Charge, SetLimiter, NewMemory, GrowMemory, MemorySize, Load, Store}
-use Rattle.operations.specs.declared.operation.Operation.the-variants.{NewTable, GrowTable, TableSize, TableGet, TableSet, TableFill}
-use Rattle.operations.specs.declared.operation.Operation.the-variants.{TableCopy, TableInit, DropSegment, LinkCheck}
+use Rattle.types.specs.Pick.{pick}
+use Rattle.types.proofs.Picks.{pick-false}
+use Rattle.machine.specs.declared.operation.Operation.the-variants.{Make, SetFuel, GetFuel, Charge, SetLimiter, NewMemory, GrowMemory, MemorySize, Load, Store}
+use Rattle.machine.specs.declared.operation.Operation.the-variants.{NewTable, GrowTable, TableSize, TableGet, TableSet, TableFill}
+use Rattle.machine.specs.declared.operation.Operation.the-variants.{TableCopy, TableInit, DropSegment, LinkCheck}
 use Rattle.lines.specs.Line.{at}
 use Rattle.lines.specs.Code.{taking, segmentOf, fuelCode, memoryCode, tableCode, spanCode}
 use Rattle.lines.specs.declared.line.Line.{Line}

@@ -5,7 +5,7 @@ use mathlib.Core.Bool.{Bool}
 use Prim.Native.Nat.{ℕ, _<_}
 use lib.Dec.{eqb, eqb→eq}
 use lib.ListN.{getD}
-use Rattle.base.specs.Pick.{pick}
+use Rattle.types.specs.Pick.{pick}
 use Rattle.lines.specs.Digits.{digitTable}
 use Rattle.lines.specs.Hex.{digitOf}
 use Rattle.lines.proofs.Entries.{at}

@@ -8,15 +8,15 @@ use lib.Dec.{ltb, eqb}
 use lib.ListN.{length, drop, getD, set, replicate, length-drop, drop-of-length-le}
 use lib.Seq.{drop-cons, drop-drop}
 use borrow.Author.Tests.{eq-eqb, ne-eqb}
-use Rattle.base.specs.Pick.{pick}
-use Rattle.base.proofs.Picks.{pick-true, pick-false, pick-same}
+use Rattle.types.specs.Pick.{pick}
+use Rattle.types.proofs.Picks.{pick-true, pick-false, pick-same}
 use Rattle.lines.specs.Hex.{digitOf, hexFrom}
-use Rattle.base.specs.Span.{over}
+use Rattle.types.specs.Span.{over}
 use Rattle.lines.specs.Line.{Got, none, some, then, thenField, ended, headed, fieldsOf, filled, noLine, coded, lineOf}
 use Rattle.lines.specs.declared.field.Field.{Field}
 use Rattle.lines.specs.declared.field.Field.the-variants.{Value, Bad}
 use Rattle.lines.specs.declared.line.Line.{Line}
-use Rattle.base.proofs.Spans.{over-nil, over-first}
+use Rattle.types.proofs.Spans.{over-nil, over-first}
 
 -- too few bytes are no number
 pick-bad : (t : Bool) (f : Field) → f ≡ Bad → pick t f Bad ≡ Bad

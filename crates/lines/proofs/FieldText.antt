@@ -8,9 +8,9 @@ use lib.Dec.{eqb}
 use lib.ListN.{length, take, drop, replicate, take-append-drop}
 use lib.Seq.{drop-at, take-at}
 use borrow.Author.Tests.{eqb-true}
-use Rattle.base.specs.Span.{over}
-use Rattle.base.proofs.Picks.{pick-true, pick-false, either}
-use Rattle.base.proofs.Spans.{length-over}
+use Rattle.types.specs.Span.{over}
+use Rattle.types.proofs.Picks.{pick-true, pick-false, either}
+use Rattle.types.proofs.Spans.{length-over}
 use Rattle.lines.specs.Hex.{hexFrom, hexText}
 use Rattle.lines.specs.Line.{Got, none, some, then, thenField, ended, headed, fieldsOf, fieldsText, filled, coded, lineOf, lineText}
 use Rattle.lines.specs.Sayable.{Small}

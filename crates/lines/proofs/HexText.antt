@@ -9,7 +9,7 @@ use native.Mathlib.Nat.{pow-suc, mul-assoc}
 use lib.Dec.{ltb, leb}
 use lib.ListN.{take}
 use borrow.Author.Tests.{ltb-true, ltb-false, leb-true, lt-ltb, le-ltb, le-leb, lt-leb}
-use Rattle.base.proofs.Picks.{pick-true, pick-false, either}
+use Rattle.types.proofs.Picks.{pick-true, pick-false, either}
 use Rattle.lines.specs.Hex.{digitOf, charOf, hexFrom, hexText}
 use Rattle.lines.specs.declared.field.Field.the-variants.{Value}
 

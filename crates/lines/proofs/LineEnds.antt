@@ -8,8 +8,8 @@ use lib.Dec.{ltb, eqb}
 use lib.ListN.{length, take, drop, getD, length-append, length-drop, drop-of-length-le}
 use lib.Seq.{drop-cons, drop-drop, drop-append-le, drop-append-add, take-length}
 use borrow.Author.Tests.{ltb-true, ltb-false, eq-eqb, ne-eqb}
-use Rattle.base.specs.Pick.{pick}
-use Rattle.base.proofs.Picks.{pick-true, pick-false, either}
+use Rattle.types.specs.Pick.{pick}
+use Rattle.types.proofs.Picks.{pick-true, pick-false, either}
 use Rattle.lines.specs.Session.{Held, onto, linesOf, turnOf, textOf, answersOf, session}
 use Rattle.lines.specs.Pieces.{lfAt, wholeLines}
 

@@ -8,12 +8,12 @@ use lib.Dec.{ltb, leb, eqb}
 use lib.ListN.{length, take, drop, length-append, length-drop, drop-of-length-le}
 use lib.Seq.{drop-drop, drop-append-le, drop-append-seam, drop-length, take-append-add, take-at, take-length}
 use borrow.Author.Tests.{ltb-true, ltb-false, leb-false, le-ltb, lt-leb}
-use Rattle.base.specs.Pick.{both}
-use Rattle.base.specs.Answer.{refuse}
-use Rattle.base.proofs.Picks.{pick-true, pick-false, both-right, both-1, both-2, either}
-use Rattle.operations.specs.Operation.{binary}
-use Rattle.operations.specs.declared.operation.Operation.{Operation}
-use Rattle.operations.specs.declared.operation.Operation.the-variants.{Make}
+use Rattle.types.specs.Pick.{both}
+use Rattle.types.specs.Answer.{refuse}
+use Rattle.types.proofs.Picks.{pick-true, pick-false, both-right, both-1, both-2, either}
+use Rattle.machine.specs.Operation.{binary}
+use Rattle.machine.specs.declared.operation.Operation.{Operation}
+use Rattle.machine.specs.declared.operation.Operation.the-variants.{Make}
 use Rattle.lines.specs.Line.{lineOf, at}
 use Rattle.lines.specs.Code.{taking, fuelCode, memoryCode, tableCode, spanCode, operationOf, readLine}
 use Rattle.lines.specs.Session.{Held, Turn, turned, makes, operated, turnBy, turnOf, textOf, session}

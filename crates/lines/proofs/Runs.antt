@@ -8,18 +8,18 @@ use lib.Dec.{ltb, leb}
 use lib.ListN.{length, take, drop, length-append, length-drop}
 use lib.Seq.{drop-drop}
 use borrow.Author.Tests.{ltb-true, ltb-false, lt-ltb, le-ltb, le-leb, lt-leb}
-use Rattle.base.specs.Pick.{pick, both}
-use Rattle.base.specs.Answer.{refuse, accept}
-use Rattle.base.specs.Span.{over}
+use Rattle.types.specs.Pick.{pick, both}
+use Rattle.types.specs.Answer.{refuse, accept}
+use Rattle.types.specs.Span.{over}
 use Rattle.types.specs.Raw.{rawBytes}
 use Rattle.machine.specs.Machine.{Buffers, freshMachine}
-use Rattle.operations.specs.Operation.{yes, wellFormed}
+use Rattle.machine.specs.Operation.{yes, wellFormed}
 use Rattle.machine.specs.Outcome.{changed, settled}
 use Rattle.machine.specs.Step.{Stepped, decide, step}
 use Rattle.machine.specs.declared.records.Machine.{Machine}
-use Rattle.operations.specs.declared.operation.Operation.{Operation}
-use Rattle.base.proofs.Picks.{pick-true, pick-false, both-left, both-then, both-2, either}
-use Rattle.base.proofs.Spans.{over-nil, over-over, length-over}
+use Rattle.machine.specs.declared.operation.Operation.{Operation}
+use Rattle.types.proofs.Picks.{pick-true, pick-false, both-left, both-then, both-2, either}
+use Rattle.types.proofs.Spans.{over-nil, over-over, length-over}
 use Rattle.lines.specs.Line.{lineOf, at}
 use Rattle.lines.specs.Code.{operationOf}
 use Rattle.lines.specs.AnswerLine.{answerLine}

@@ -7,15 +7,15 @@ use native.Mathlib.Omega.{arith}
 use lib.Dec.{eqb}
 use lib.ListN.{length, take, getD, replicate, length-append, length-take}
 use borrow.Author.Tests.{leb-true, eqb-true}
-use Rattle.base.specs.Pick.{pick}
-use Rattle.base.specs.Span.{over}
-use Rattle.base.specs.declared.answer.Answer.{Answer}
-use Rattle.base.specs.declared.fuel.Fuel.{Fuel}
-use Rattle.base.proofs.Picks.{pick-false, either}
-use Rattle.operations.specs.declared.operation.Operation.{Operation}
-use Rattle.operations.specs.declared.operation.Operation.the-variants.{Make, SetFuel, GetFuel, Charge, SetLimiter, NewMemory, GrowMemory, MemorySize, Load, Store}
-use Rattle.operations.specs.declared.operation.Operation.the-variants.{NewTable, GrowTable, TableSize, TableGet, TableSet, TableFill}
-use Rattle.operations.specs.declared.operation.Operation.the-variants.{TableCopy, TableInit, DropSegment, NewSegment, LinkCheck}
+use Rattle.types.specs.Pick.{pick}
+use Rattle.types.specs.Span.{over}
+use Rattle.types.specs.declared.answer.Answer.{Answer}
+use Rattle.types.specs.declared.fuel.Fuel.{Fuel}
+use Rattle.types.proofs.Picks.{pick-false, either}
+use Rattle.machine.specs.declared.operation.Operation.{Operation}
+use Rattle.machine.specs.declared.operation.Operation.the-variants.{Make, SetFuel, GetFuel, Charge, SetLimiter, NewMemory, GrowMemory, MemorySize, Load, Store}
+use Rattle.machine.specs.declared.operation.Operation.the-variants.{NewTable, GrowTable, TableSize, TableGet, TableSet, TableFill}
+use Rattle.machine.specs.declared.operation.Operation.the-variants.{TableCopy, TableInit, DropSegment, NewSegment, LinkCheck}
 use Rattle.lines.specs.Hex.{hexText}
 use Rattle.lines.specs.Line.{lineText, filled, lineOf, at}
 use Rattle.lines.specs.Code.{taking, segmentOf, fuelCode, memoryCode, tableCode, spanCode, operationOf, readLine, codeOf, fieldsBack, writeLine}

@@ -3,7 +3,7 @@ use mathlib.Core.Path.{sym, _∙_, ap}
 use mathlib.Core.List.{List}
 use Prim.Native.Nat.{ℕ}
 use denote.Ref.{now}
-use Rattle.base.proofs.One.{One, OneWith}
+use Rattle.types.proofs.One.{One, OneWith}
 use Rattle.machine.specs.Machine.{Buffers, buffers}
 use Rattle.lines.specs.Progress.{Progressed}
 use Rattle.lines.specs.Written.{Answered, Wrote}

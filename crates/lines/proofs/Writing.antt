@@ -8,11 +8,11 @@ use native.Mathlib.Numerals.{add-one}
 use lib.ListN.{length, take, set, getD, length-append, length-take}
 use lib.Seq.{take-suc}
 use borrow.Author.Tests.{lt-ltb, le-ltb}
-use Rattle.base.specs.Span.{over}
-use Rattle.base.specs.declared.answer.Answer.{Answer}
-use Rattle.base.specs.declared.fuel.Fuel.{Fuel}
-use Rattle.base.proofs.Picks.{pick-true, pick-false}
-use Rattle.base.proofs.Spans.{over-nil, over-put, over-over, over-last}
+use Rattle.types.specs.Span.{over}
+use Rattle.types.specs.declared.answer.Answer.{Answer}
+use Rattle.types.specs.declared.fuel.Fuel.{Fuel}
+use Rattle.types.proofs.Picks.{pick-true, pick-false}
+use Rattle.types.proofs.Spans.{over-nil, over-put, over-over, over-last}
 use Rattle.lines.specs.Hex.{hexText, charOf}
 use Rattle.lines.specs.Line.{fieldsText, lineText}
 use Rattle.lines.specs.AnswerLine.{answerText, answerLine}

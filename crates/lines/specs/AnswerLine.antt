@@ -1,10 +1,10 @@
 -- Document 01, "Operation lines": an answer line has the number, the value or amount, and the fuel left, in hexadecimal.
 use Prim.Native.Nat.{ℕ}
 use mathlib.Core.List.{List, [], _∷_, _++_}
-use Rattle.base.specs.Pick.{pick}
-use Rattle.base.specs.Answer.{numberOf, shownOf}
-use Rattle.base.specs.declared.answer.Answer.{Answer}
-use Rattle.base.specs.declared.fuel.Fuel.{Fuel}
+use Rattle.types.specs.Pick.{pick}
+use Rattle.types.specs.Answer.{numberOf, shownOf}
+use Rattle.types.specs.declared.answer.Answer.{Answer}
+use Rattle.types.specs.declared.fuel.Fuel.{Fuel}
 use Rattle.lines.specs.Hex.{hexText}
 
 unfoldable pub answerText : ℕ → ℕ → ℕ → List ℕ

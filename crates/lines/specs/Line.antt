@@ -4,8 +4,8 @@ use mathlib.Core.Bool.{true, false}
 use mathlib.Core.List.{List, [], _∷_, _++_}
 use lib.Dec.{eqb}
 use lib.ListN.{length, drop, getD, replicate}
-use Rattle.base.specs.Pick.{pick}
-use Rattle.base.specs.Span.{over}
+use Rattle.types.specs.Pick.{pick}
+use Rattle.types.specs.Span.{over}
 use Rattle.lines.specs.Hex.{hexFrom, hexText}
 use Rattle.lines.specs.declared.field.Field.{Field}
 use Rattle.lines.specs.declared.field.Field.the-variants.{Value, Bad}

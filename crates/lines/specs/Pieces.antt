@@ -5,8 +5,8 @@ use mathlib.Core.Bool.{Bool, true, false}
 use mathlib.Core.List.{List, [], _∷_, _++_}
 use lib.Dec.{ltb, leb, eqb}
 use lib.ListN.{length, take, drop}
-use Rattle.base.specs.Pick.{pick}
-use Rattle.base.specs.Answer.{refuse}
+use Rattle.types.specs.Pick.{pick}
+use Rattle.types.specs.Answer.{refuse}
 use Rattle.lines.specs.Session.{Held, Turn, turned, turnOf, textOf, session}
 
 -- the bytes before the first LF

@@ -5,12 +5,12 @@ use mathlib.Core.Bool.{Bool, true, false}
 use mathlib.Core.List.{List}
 use lib.Dec.{ltb, leb}
 use lib.ListN.{length, drop}
-use Rattle.base.specs.Pick.{pick}
-use Rattle.base.specs.Span.{over}
+use Rattle.types.specs.Pick.{pick}
+use Rattle.types.specs.Span.{over}
 use Rattle.machine.specs.Machine.{Buffers, buffers}
 use Rattle.machine.specs.declared.records.Machine.{Machine}
-use Rattle.operations.specs.declared.operation.Operation.{Operation}
-use Rattle.operations.specs.declared.operation.Operation.the-variants.{Make}
+use Rattle.machine.specs.declared.operation.Operation.{Operation}
+use Rattle.machine.specs.declared.operation.Operation.the-variants.{Make}
 use Rattle.lines.specs.Code.{operationOf}
 use Rattle.lines.specs.Session.{Held, Turn, turned}
 use Rattle.lines.specs.Pieces.{lfAt, Run, wholeLines, pieceOf}

@@ -3,11 +3,11 @@ use Prim.Native.Nat.{ℕ, _^_, _<_, _≤_}
 use mathlib.Core.Path.{_≡_}
 use mathlib.Core.List.{List, [], _∷_}
 use lib.ListN.{take, replicate}
-use Rattle.base.specs.Span.{over}
-use Rattle.operations.specs.declared.operation.Operation.{Operation}
-use Rattle.operations.specs.declared.operation.Operation.the-variants.{Make, SetFuel, GetFuel, Charge, SetLimiter, NewMemory, GrowMemory, MemorySize, Load, Store}
-use Rattle.operations.specs.declared.operation.Operation.the-variants.{NewTable, GrowTable, TableSize, TableGet, TableSet, TableFill}
-use Rattle.operations.specs.declared.operation.Operation.the-variants.{TableCopy, TableInit, DropSegment, NewSegment, LinkCheck}
+use Rattle.types.specs.Span.{over}
+use Rattle.machine.specs.declared.operation.Operation.{Operation}
+use Rattle.machine.specs.declared.operation.Operation.the-variants.{Make, SetFuel, GetFuel, Charge, SetLimiter, NewMemory, GrowMemory, MemorySize, Load, Store}
+use Rattle.machine.specs.declared.operation.Operation.the-variants.{NewTable, GrowTable, TableSize, TableGet, TableSet, TableFill}
+use Rattle.machine.specs.declared.operation.Operation.the-variants.{TableCopy, TableInit, DropSegment, NewSegment, LinkCheck}
 
 unfoldable pub Small : List ℕ → Type 0
 Small [] = Unit

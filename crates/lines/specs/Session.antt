@@ -3,16 +3,16 @@ use Prim.Native.Nat.{ℕ, _^_}
 use mathlib.Core.Bool.{Bool, true, false}
 use mathlib.Core.List.{List, [], _∷_, _++_}
 use lib.Dec.{ltb, eqb}
-use Rattle.base.specs.Pick.{pick, both}
-use Rattle.base.specs.Answer.{refuse, accept}
-use Rattle.base.specs.Fuel.{defaultCosts}
-use Rattle.base.specs.declared.answer.Answer.{Answer}
-use Rattle.base.specs.declared.fuel.FuelCosts.{FuelCosts}
+use Rattle.types.specs.Pick.{pick, both}
+use Rattle.types.specs.Answer.{refuse, accept}
+use Rattle.types.specs.Fuel.{defaultCosts}
+use Rattle.types.specs.declared.answer.Answer.{Answer}
+use Rattle.types.specs.declared.fuel.FuelCosts.{FuelCosts}
 use Rattle.machine.specs.Machine.{Buffers, freshMachine}
-use Rattle.operations.specs.Operation.{binary, yes}
+use Rattle.machine.specs.Operation.{binary, yes}
 use Rattle.machine.specs.Step.{Stepped, step}
 use Rattle.machine.specs.declared.records.Machine.{Machine}
-use Rattle.operations.specs.declared.operation.Operation.{Operation}
+use Rattle.machine.specs.declared.operation.Operation.{Operation}
 use Rattle.lines.specs.Line.{lineOf, at}
 use Rattle.lines.specs.Code.{operationOf}
 use Rattle.lines.specs.AnswerLine.{answerLine}

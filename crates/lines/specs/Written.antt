@@ -4,11 +4,11 @@ use mathlib.Core.Bool.{Bool, true, false}
 use mathlib.Core.List.{List}
 use lib.Dec.{ltb}
 use lib.ListN.{length, replicate}
-use Rattle.base.specs.Pick.{pick}
-use Rattle.base.specs.Span.{over}
-use Rattle.base.specs.declared.answer.Answer.{Answer}
-use Rattle.base.specs.declared.fuel.Fuel.{Fuel}
-use Rattle.operations.specs.declared.operation.Operation.{Operation}
+use Rattle.types.specs.Pick.{pick}
+use Rattle.types.specs.Span.{over}
+use Rattle.types.specs.declared.answer.Answer.{Answer}
+use Rattle.types.specs.declared.fuel.Fuel.{Fuel}
+use Rattle.machine.specs.declared.operation.Operation.{Operation}
 use Rattle.lines.specs.Line.{some, filled}
 use Rattle.lines.specs.Code.{codeOf, fieldsBack}
 use Rattle.lines.specs.AnswerLine.{answerLine}

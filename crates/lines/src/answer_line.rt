@@ -1,11 +1,11 @@
 // Answer lines: the number, the value or amount, and the fuel left.
 use super::field;
-use base::answer::Answer;
-use base::fuel::Fuel;
+use types::answer::Answer;
+use types::fuel::Fuel;
 ghost use Prim.Native.Nat.{_+_, _≤_};
 ghost use mathlib.Core.Path.{_≡_};
 ghost use lib.ListN.{length};
-ghost use Rattle.base.specs.Span.{over};
+ghost use Rattle.types.specs.Span.{over};
 ghost use Rattle.lines.specs.AnswerLine.{answerText, fuelShown, answerLine};
 ghost use Rattle.lines.specs.Written.{answered, answeredOf};
 

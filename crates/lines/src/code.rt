@@ -1,7 +1,7 @@
 // A line's numbers as an operation, by code and number of fields.
 use super::line;
 use super::line::Line;
-use operations::operation::Operation;
+use machine::operation::Operation;
 ghost use mathlib.Core.Path.{_≡_};
 ghost use mathlib.Core.List.{[], _∷_};
 ghost use Rattle.lines.specs.Code.{taking, segmentOf, fuelCode, memoryCode, tableCode, spanCode, operationOf, readLine, writeLine};

@@ -4,7 +4,7 @@ use super::field::Field;
 ghost use Prim.Native.Nat.{_+_, _*_, _≤_};
 ghost use mathlib.Core.Path.{_≡_};
 ghost use lib.ListN.{length, take, drop, replicate};
-ghost use Rattle.base.specs.Span.{over};
+ghost use Rattle.types.specs.Span.{over};
 ghost use Rattle.lines.specs.Digits.{digitTable};
 ghost use Rattle.lines.specs.Line.{noLine, filled, fieldsOf, lineOf, fieldsText, lineText};
 ghost use Rattle.lines.specs.Written.{wrote, wroteOf};

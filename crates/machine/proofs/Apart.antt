@@ -7,7 +7,7 @@ use Rattle.machine.specs.Sound.{soundOver}
 use Rattle.machine.specs.Step.{step}
 use Rattle.machine.specs.Frame.{OthersStay, OnlySizes}
 use Rattle.machine.specs.declared.records.Machine.{Machine}
-use Rattle.operations.specs.declared.operation.Operation.{Operation}
+use Rattle.machine.specs.declared.operation.Operation.{Operation}
 use Rattle.machine.proofs.Touched.{step-touched}
 
 -- every instance but the target has its record and the cells of its room as before

@@ -5,15 +5,15 @@ use mathlib.Core.Bool.{Bool, true, false}
 use mathlib.Core.List.{List, [], _∷_}
 use native.Mathlib.Omega.{arith}
 use lib.ListN.{length, replicate, length-replicate}
-use Rattle.base.proofs.Picks.{pick-true, pick-false, either}
-use Rattle.base.specs.declared.fuel.FuelCosts.{FuelCosts}
+use Rattle.types.proofs.Picks.{pick-true, pick-false, either}
+use Rattle.types.specs.declared.fuel.FuelCosts.{FuelCosts}
 use Rattle.machine.specs.Machine.{Buffers, noMemory, noTable, noSegment, freshMachine}
 use Rattle.machine.specs.Sound.{soundMemories, soundTables, soundSegments, soundReferences, soundOver}
-use Rattle.operations.specs.Operation.{wellFormed}
+use Rattle.machine.specs.Operation.{wellFormed}
 use Rattle.machine.specs.Outcome.{changed, settled}
 use Rattle.machine.specs.Step.{Performed, decide, step, run}
 use Rattle.machine.specs.declared.records.Machine.{Machine}
-use Rattle.operations.specs.declared.operation.Operation.{Operation}
+use Rattle.machine.specs.declared.operation.Operation.{Operation}
 use Rattle.machine.proofs.ListLaws.{none-sound}
 use Rattle.machine.proofs.Rooms.{parts, whole}
 use Rattle.machine.proofs.Touched.{Touched, step-touched}

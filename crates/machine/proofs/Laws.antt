@@ -3,8 +3,8 @@ use Prim.Native.Nat.{ℕ, _≤_, _<_}
 use mathlib.Core.Path.{_≡_, sym, _∙_}
 use lib.Dec.{ltb}
 use borrow.Author.Tests.{lt-ltb, le-ltb}
-use Rattle.base.specs.Pick.{pick}
-use Rattle.base.proofs.Picks.{pick-true, pick-false}
+use Rattle.types.specs.Pick.{pick}
+use Rattle.types.proofs.Picks.{pick-true, pick-false}
 
 -- a number that is not in use
 pub unknown : {A : Type 0} {a x : A} (y : A) (i n : ℕ) → n ≤ i → a ≡ x → a ≡ pick (ltb i n) y x

@@ -1,3 +1,4 @@
+pub mod Digits
 pub mod Lists
 pub mod Laws
 pub mod ListLaws

@@ -8,8 +8,8 @@ use native.Mathlib.Numerals.{add-one}
 use lib.Dec.{eqb, leb}
 use lib.ListN.{length, take, getD, set, length-set}
 use borrow.Author.Tests.{le-leb, leb-true, eq-eqb, eqb-true, eqb-false, ne-eqb}
-use Rattle.base.specs.Pick.{pick, both}
-use Rattle.base.proofs.Picks.{pick-true, pick-false, both-true, both-1, both-2, either}
+use Rattle.types.specs.Pick.{pick, both}
+use Rattle.types.proofs.Picks.{pick-true, pick-false, both-true, both-1, both-2, either}
 use Rattle.machine.specs.Sound.{follow, soundList}
 
 module _ {A : Type 0} (sound : A → Bool) (start end : A → ℕ) where

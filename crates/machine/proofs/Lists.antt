@@ -7,8 +7,8 @@ use native.Mathlib.Omega.{arith}
 use lib.Dec.{eqb, leb}
 use lib.ListN.{length, take, drop, getD, set, List·getD-eq-default}
 use borrow.Author.Tests.{le-leb, lt-leb, eq-eqb, ne-eqb}
-use Rattle.base.specs.Pick.{both}
-use Rattle.base.proofs.Picks.{both-true, both-left, both-right, both-then, both-1, both-2}
+use Rattle.types.specs.Pick.{both}
+use Rattle.types.proofs.Picks.{both-true, both-left, both-right, both-then, both-1, both-2}
 use Rattle.machine.specs.Sound.{follow, soundList}
 
 -- past its places a list has nothing

@@ -2,8 +2,8 @@
 use Prim.Native.Nat.{ℕ, _≤_, _<_}
 use mathlib.Core.Path.{_≡_}
 use mathlib.Core.Bool.{Bool, true}
-use Rattle.base.specs.Pick.{both}
-use Rattle.base.proofs.Picks.{both-true, both-1, both-2}
+use Rattle.types.specs.Pick.{both}
+use Rattle.types.proofs.Picks.{both-true, both-1, both-2}
 use Rattle.memory.specs.Memory.{soundMemory}
 use Rattle.memory.specs.declared.memory.Memory.{Memory}
 use Rattle.memory.proofs.Sounds.{sound-is}

@@ -9,14 +9,14 @@ use lib.Dec.{eqb, ltb}
 use lib.ListN.{length, take, drop, getD, set}
 use lib.Seq.{take-take, drop-drop, getD-set-same, getD-set-other}
 use borrow.Author.Tests.{lt-ltb, eqb-true, eqb-false, ltb-true, ltb-false}
-use Rattle.base.specs.Pick.{pick}
-use Rattle.base.specs.Span.{cut}
-use Rattle.base.specs.declared.fuel.FuelStep.{FuelStep}
-use Rattle.base.specs.declared.fuel.FuelStep.the-variants as fuel-step
+use Rattle.types.specs.Pick.{pick}
+use Rattle.types.specs.Span.{cut}
+use Rattle.types.specs.declared.fuel.FuelStep.{FuelStep}
+use Rattle.types.specs.declared.fuel.FuelStep.the-variants as fuel-step
 use Rattle.types.specs.declared.limits.Limits.{Limits}
 use Rattle.types.specs.declared.memory_ty.MemoryType.{MemoryType}
-use Rattle.base.proofs.Picks.{pick-true, both-1, either}
-use Rattle.base.proofs.Spans.{length-over, over-low, over-after, cut-of}
+use Rattle.types.proofs.Picks.{pick-true, both-1, either}
+use Rattle.types.proofs.Spans.{length-over, over-low, over-after, cut-of}
 use Rattle.memory.specs.Memory as of-memory
 use Rattle.memory.specs.Memory.{soundMemory}
 use Rattle.memory.specs.declared.memory.Memory.{Memory}
@@ -45,13 +45,13 @@ use Rattle.machine.specs.Machine.{Buffers, buffers, noMemory, noTable, n
 use Rattle.machine.specs.Sound.{soundList, soundMemories, soundTables, soundSegments, soundOver}
 use Rattle.machine.specs.Frame.{InMemory, InTable, InSegment, NewItems, targetOf}
 use Rattle.machine.specs.Outcome.{withMemories, withTables, withSegments, changed, settled}
-use Rattle.operations.specs.Operation.{wellFormed, yes, limitsOf, exponentOf, kindOf, referenceOf, storeKindOf, itemsOf}
+use Rattle.machine.specs.Operation.{wellFormed, yes, limitsOf, exponentOf, kindOf, referenceOf, storeKindOf, itemsOf}
 use Rattle.machine.specs.Step.{Done, Performed, onNone, onBytes, onCells, onItems, setting, charging, madeMemory, newMemoryOn, growMemoryOn, storeOn, madeTable, newTableOn, growTableOn, setOn, fillOn, copyKnown, copyOn, initOn, dropOn, madeSegment, newSegmentOn, perform, decide, step}
 use Rattle.machine.specs.declared.records.Machine.{Machine}
 use Rattle.machine.specs.declared.outcome.Outcome.{Outcome}
 use Rattle.machine.specs.declared.outcome.Change.the-variants as change
-use Rattle.operations.specs.declared.operation.Operation.{Operation}
-use Rattle.operations.specs.declared.operation.Operation.the-variants.{Make, SetFuel, GetFuel, Charge, SetLimiter, NewMemory, GrowMemory, MemorySize, Load, Store, NewTable, GrowTable, TableSize, TableGet, TableSet, TableFill, TableCopy, TableInit, DropSegment, NewSegment, LinkCheck}
+use Rattle.machine.specs.declared.operation.Operation.{Operation}
+use Rattle.machine.specs.declared.operation.Operation.the-variants.{Make, SetFuel, GetFuel, Charge, SetLimiter, NewMemory, GrowMemory, MemorySize, Load, Store, NewTable, GrowTable, TableSize, TableGet, TableSet, TableFill, TableCopy, TableInit, DropSegment, NewSegment, LinkCheck}
 use Rattle.machine.proofs.Rooms.{Parts, parts, memory-sound, table-sound, segment-sound}
 use Rattle.machine.proofs.ListLaws as lists
 

@@ -1,3 +1,4 @@
+pub mod Operation
 pub mod Machine
 pub mod Sound
 pub mod Outcome

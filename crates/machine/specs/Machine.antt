@@ -4,10 +4,10 @@ use mathlib.Core.Bool.{Bool, false}
 use mathlib.Core.List.{List}
 use lib.Dec.{eqb}
 use lib.ListN.{length, getD, replicate}
-use Rattle.base.specs.Pick.{pick}
-use Rattle.base.specs.Fuel.{newFuel}
-use Rattle.base.specs.Limiter.{noLimiter}
-use Rattle.base.specs.declared.fuel.FuelCosts.{FuelCosts}
+use Rattle.types.specs.Pick.{pick}
+use Rattle.types.specs.Fuel.{newFuel}
+use Rattle.types.specs.Limiter.{noLimiter}
+use Rattle.types.specs.declared.fuel.FuelCosts.{FuelCosts}
 use Rattle.types.specs.declared.index_ty.IndexType.the-variants as index
 use Rattle.types.specs.declared.memory_ty.PageSize.the-variants as page
 use Rattle.types.specs.declared.raw.RefType.the-variants as ref

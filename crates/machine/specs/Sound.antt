@@ -4,7 +4,7 @@ use mathlib.Core.Bool.{Bool, true}
 use mathlib.Core.List.{List, [], _∷_}
 use lib.Dec.{eqb, leb}
 use lib.ListN.{length, take}
-use Rattle.base.specs.Pick.{both}
+use Rattle.types.specs.Pick.{both}
 use Rattle.memory.specs.Memory.{soundMemory}
 use Rattle.table.specs.Table.{soundTable}
 use Rattle.table.specs.Element.{soundSegment}

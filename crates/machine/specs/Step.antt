@@ -5,18 +5,18 @@ use mathlib.Core.Bool.{Bool, true, false}
 use mathlib.Core.List.{List, [], _∷_}
 use lib.Dec.{eqb, leb, ltb}
 use lib.ListN.{length}
-use Rattle.base.specs.Pick.{pick, unless, both}
-use Rattle.base.specs.Answer.{refuse, accept}
-use Rattle.base.specs.Fuel.{setFuel, getFuel, consume}
-use Rattle.base.specs.Limiter.{handOver}
-use Rattle.base.specs.Grant.{SpanDone}
-use Rattle.base.specs.declared.answer.Answer.{Answer}
-use Rattle.base.specs.declared.answer.Answer.the-variants as answer
-use Rattle.base.specs.declared.fuel.FuelStep.{FuelStep}
-use Rattle.base.specs.declared.fuel.FuelStep.the-variants as fuel-step
-use Rattle.base.specs.declared.grant.Spanned.{Spanned}
-use Rattle.base.specs.declared.limiter.HandedOver.{HandedOver}
-use Rattle.base.specs.declared.limiter.Limiter.{Limiter}
+use Rattle.types.specs.Pick.{pick, unless, both}
+use Rattle.types.specs.Answer.{refuse, accept}
+use Rattle.types.specs.Fuel.{setFuel, getFuel, consume}
+use Rattle.types.specs.Limiter.{handOver}
+use Rattle.types.specs.Grant.{SpanDone}
+use Rattle.types.specs.declared.answer.Answer.{Answer}
+use Rattle.types.specs.declared.answer.Answer.the-variants as answer
+use Rattle.types.specs.declared.fuel.FuelStep.{FuelStep}
+use Rattle.types.specs.declared.fuel.FuelStep.the-variants as fuel-step
+use Rattle.types.specs.declared.grant.Spanned.{Spanned}
+use Rattle.types.specs.declared.limiter.HandedOver.{HandedOver}
+use Rattle.types.specs.declared.limiter.Limiter.{Limiter}
 use Rattle.types.specs.MemoryType.{buildMemory, matchMemory}
 use Rattle.types.specs.declared.memory_ty.BuiltMemory.{BuiltMemory}
 use Rattle.types.specs.declared.memory_ty.BuiltMemory.the-variants as built
@@ -48,14 +48,14 @@ use Rattle.table.specs.declared.element.MadeSegment.{MadeSegment}
 use Rattle.table.specs.declared.element.MadeSegment.the-variants as made-segment
 use Rattle.machine.specs.Machine.{Buffers, buffers, memoryAt, tableAt, segmentAt, nextByte, nextCell, nextItem}
 use Rattle.machine.specs.Sound.{soundOver}
-use Rattle.operations.specs.Operation.{wellFormed, yes, limitsOf, exponentOf, kindOf, referenceOf, loadKindOf, storeKindOf, scriptOf, itemsOf}
+use Rattle.machine.specs.Operation.{wellFormed, yes, limitsOf, exponentOf, kindOf, referenceOf, loadKindOf, storeKindOf, scriptOf, itemsOf}
 use Rattle.machine.specs.Outcome.{keeps, settled}
 use Rattle.machine.specs.declared.records.Machine.{Machine}
 use Rattle.machine.specs.declared.outcome.Outcome.{Outcome}
 use Rattle.machine.specs.declared.outcome.Change.{Change}
 use Rattle.machine.specs.declared.outcome.Change.the-variants as change
-use Rattle.operations.specs.declared.operation.Operation.{Operation}
-use Rattle.operations.specs.declared.operation.Operation.the-variants.{Make, SetFuel, GetFuel, Charge, SetLimiter, NewMemory, GrowMemory, MemorySize, Load, Store, NewTable, GrowTable, TableSize, TableGet, TableSet, TableFill, TableCopy, TableInit, DropSegment, NewSegment, LinkCheck}
+use Rattle.machine.specs.declared.operation.Operation.{Operation}
+use Rattle.machine.specs.declared.operation.Operation.the-variants.{Make, SetFuel, GetFuel, Charge, SetLimiter, NewMemory, GrowMemory, MemorySize, Load, Store, NewTable, GrowTable, TableSize, TableGet, TableSet, TableFill, TableCopy, TableInit, DropSegment, NewSegment, LinkCheck}
 
 -- what an operation on one buffer gives back, and the buffer after it
 pub record Done : Type 0 where

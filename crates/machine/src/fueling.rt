@@ -2,15 +2,15 @@
 use super::outcome::Change;
 use super::outcome::Outcome;
 use super::records::Machine;
-use base::answer::Answer;
-use base::answer::Value;
-use base::fuel::FuelStep;
-use base::limiter::HandedOver;
-use operations::fields;
+use types::answer::Answer;
+use types::answer::Value;
+use types::fuel::FuelStep;
+use types::limiter::HandedOver;
+use super::fields;
 ghost use mathlib.Core.Path.{_≡_};
-ghost use Rattle.base.specs.Fuel.{setFuel, getFuel, consume};
-ghost use Rattle.base.specs.Limiter.{handOver};
-ghost use Rattle.operations.specs.Operation.{scriptOf};
+ghost use Rattle.types.specs.Fuel.{setFuel, getFuel, consume};
+ghost use Rattle.types.specs.Limiter.{handOver};
+ghost use Rattle.machine.specs.Operation.{scriptOf};
 ghost use Rattle.machine.specs.Outcome.{keeps};
 ghost use Rattle.machine.specs.Step.{setting, charging, handing};
 

@@ -1,7 +1,9 @@
-// The machine: up to 8 memories, 8 tables and 8 segments in lent buffers, and the operations on them.
+// The machine: up to 8 memories, 8 tables and 8 segments in lent buffers, the operation list, and one operation on them.
+pub mod fields;
 pub mod fueling;
 pub mod memories;
 pub mod operate;
+pub mod operation;
 pub mod outcome;
 pub mod records;
 pub mod segments;

@@ -2,27 +2,27 @@
 use super::outcome::Change;
 use super::outcome::Outcome;
 use super::records::Machine;
-use base::answer::Answer;
-use base::answer::Refusal;
-use base::answer::Value;
-use base::fuel::Fuel;
-use base::limiter::Limiter;
+use types::answer::Answer;
+use types::answer::Refusal;
+use types::answer::Value;
+use types::fuel::Fuel;
+use types::limiter::Limiter;
 use memory::grow::GrownMemory;
 use memory::memory::Memory;
 use memory::new::MadeMemory;
-use operations::fields;
+use super::fields;
 use types::memory_ty::BuiltMemory;
 use types::memory_ty::MemoryType;
 ghost use mathlib.Core.Path.{_≡_};
 ghost use Prim.Native.Nat.{_≤_};
 ghost use lib.ListN.{length};
-ghost use Rattle.base.specs.Pick.{pick};
-ghost use Rattle.base.specs.Answer.{refuse, accept};
+ghost use Rattle.types.specs.Pick.{pick};
+ghost use Rattle.types.specs.Answer.{refuse, accept};
 ghost use Rattle.types.specs.MemoryType.{buildMemory};
 ghost use Rattle.memory.specs.New.{newMemory};
 ghost use Rattle.memory.specs.Grow.{growMemory};
 ghost use Rattle.machine.specs.Machine.{nextByte};
-ghost use Rattle.operations.specs.Operation.{yes, limitsOf, exponentOf};
+ghost use Rattle.machine.specs.Operation.{yes, limitsOf, exponentOf};
 ghost use Rattle.machine.specs.Step.{done, madeMemory, madeOn, newMemoryOn, grownMemory, grownOn, growMemoryOn, memorySize, loadOn, storeOn, linked, linkCheck};
 
 pub(crate) fn refused(number: u8) -> Answer

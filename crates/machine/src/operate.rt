@@ -1,8 +1,8 @@
 // One operation on a machine: 18, 19, then 16 or 17, then the operation's own checks.
 use super::outcome::Outcome;
 use super::records::Machine;
-use base::answer::Answer;
-use operations::operation::Operation;
+use types::answer::Answer;
+use super::operation::Operation;
 ghost use mathlib.Core.Path.{_≡_};
 ghost use mathlib.Core.Bool.{true};
 ghost use lib.ListN.{length};

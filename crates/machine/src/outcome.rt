@@ -1,14 +1,14 @@
 // What an operation gives back, and the machine after it: one record changes at most.
 use super::records::Machine;
-use base::answer::Answer;
-use base::answer::Refusal;
-use base::fuel::Fuel;
-use base::limiter::Limiter;
+use types::answer::Answer;
+use types::answer::Refusal;
+use types::fuel::Fuel;
+use types::limiter::Limiter;
 use memory::memory::Memory;
 use table::element::ElementSegment;
 use table::table::Table;
 ghost use mathlib.Core.Path.{_≡_};
-ghost use Rattle.base.specs.Answer.{refuse};
+ghost use Rattle.types.specs.Answer.{refuse};
 ghost use Rattle.machine.specs.declared.outcome.Change.the-variants as change;
 ghost use Rattle.machine.specs.Outcome.{keeps, changed, settled};
 

@@ -1,7 +1,7 @@
 // The machine's records by number, and where the next room starts.
-use base::fuel::Fuel;
-use base::fuel::FuelCosts;
-use base::limiter::Limiter;
+use types::fuel::Fuel;
+use types::fuel::FuelCosts;
+use types::limiter::Limiter;
 use memory::memory::Memory;
 use table::element::ElementSegment;
 use table::table::Table;
@@ -14,7 +14,7 @@ use types::table_ty::TableType;
 ghost use mathlib.Core.Path.{_≡_};
 ghost use Prim.Native.Nat.{_<_, _^_};
 ghost use lib.Dec.{leb, ltb};
-ghost use Rattle.base.specs.Pick.{both};
+ghost use Rattle.types.specs.Pick.{both};
 ghost use Rattle.machine.specs.Machine.{nextByte, nextCell, nextItem, noLimits, noMemory, noTable, noSegment, memoryAt, tableAt, segmentAt, freshMachine};
 
 // How many instances there are.

@@ -3,11 +3,11 @@ use super::outcome::Change;
 use super::outcome::Outcome;
 use super::records::Machine;
 use super::tables;
-use base::answer::Answer;
-use base::answer::Value;
-use base::fuel::Fuel;
-use base::limiter::Limiter;
-use operations::fields;
+use types::answer::Answer;
+use types::answer::Value;
+use types::fuel::Fuel;
+use types::limiter::Limiter;
+use super::fields;
 use table::element::ElementSegment;
 use table::element::MadeSegment;
 use table::table::Table;
@@ -18,7 +18,7 @@ ghost use Rattle.types.specs.Raw.{rawBytes};
 ghost use Rattle.table.specs.Init.{initTable};
 ghost use Rattle.table.specs.Element.{newSegment};
 ghost use Rattle.machine.specs.Machine.{nextItem};
-ghost use Rattle.operations.specs.Operation.{kindOf};
+ghost use Rattle.machine.specs.Operation.{kindOf};
 ghost use Rattle.machine.specs.Step.{done, spannedOn, initOn, dropOn, madeSegment, segmentMadeOn, newSegmentOn};
 
 fn init_one(

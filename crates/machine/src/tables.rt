@@ -3,12 +3,12 @@ use super::memories::refused;
 use super::outcome::Change;
 use super::outcome::Outcome;
 use super::records::Machine;
-use base::answer::Answer;
-use base::answer::Value;
-use base::fuel::Fuel;
-use base::grant::Spanned;
-use base::limiter::Limiter;
-use operations::fields;
+use types::answer::Answer;
+use types::answer::Value;
+use types::fuel::Fuel;
+use types::grant::Spanned;
+use types::limiter::Limiter;
+use super::fields;
 use table::grow::GrownTable;
 use table::new::MadeTable;
 use table::table::Table;
@@ -21,7 +21,7 @@ ghost use Rattle.table.specs.Grow.{growTable};
 ghost use Rattle.table.specs.Fill.{fillTable};
 ghost use Rattle.table.specs.Copy.{copyTable, copyWithin};
 ghost use Rattle.machine.specs.Machine.{nextCell};
-ghost use Rattle.operations.specs.Operation.{yes, limitsOf, kindOf, referenceOf};
+ghost use Rattle.machine.specs.Operation.{yes, limitsOf, kindOf, referenceOf};
 ghost use Rattle.machine.specs.Step.{done, madeTable, tableMadeOn, newTableOn, grownTable, tableGrownOn, growTableOn, tableSize, getOn, setOn, spannedOn, spannedOut, fillOn, copyKnown, copyOn};
 
 // A growth's outcome, with the record at its place.

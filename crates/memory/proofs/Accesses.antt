@@ -8,15 +8,15 @@ use lib.Dec.{ltb}
 use lib.ListN.{length}
 use borrow.Author.Tests.{lt-ltb, le-ltb}
 use borrow.Rule.Slice.PartMut.{putMid, midOf, mid-len}
-use Rattle.base.specs.Pick.{pick}
-use Rattle.base.specs.Span.{inside, over}
-use Rattle.base.proofs.Picks.{pick-true, pick-false}
-use Rattle.base.proofs.Spans.{within-is}
-use Rattle.base.proofs.Moves.{put-part}
+use Rattle.types.specs.Pick.{pick}
+use Rattle.types.specs.Span.{inside, over}
+use Rattle.types.proofs.Picks.{pick-true, pick-false}
+use Rattle.types.proofs.Spans.{within-is}
+use Rattle.types.proofs.Moves.{put-part}
 use Rattle.memory.specs.LittleEndian.{leBytes}
 use Rattle.memory.specs.Access.{widthBytes, addressOf, storeWidth, done, storeFound}
 use Rattle.memory.specs.Facts.{Found}
-use Rattle.base.specs.Answer.{accept}
+use Rattle.types.specs.Answer.{accept}
 use Rattle.memory.specs.declared.access.Width.{Width}
 use Rattle.memory.specs.declared.access.StoreKind.{StoreKind}
 use Rattle.memory.specs.declared.access.Address.{Address}

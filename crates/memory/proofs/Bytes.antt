@@ -8,7 +8,7 @@ use native.Mathlib.Nat.{lt-of-lt-of-le}
 use lib.Pow.{pow-add, pow-mono, pow-pos}
 use lib.ListN.{length, take, set, getD}
 use lib.Seq.{drop-cons, take-suc-set, take-all}
-use Rattle.base.specs.Span.{cut}
+use Rattle.types.specs.Span.{cut}
 use Rattle.memory.specs.LittleEndian.{leBytes, leValue}
 use Rattle.memory.specs.Facts.{Reach, Read}
 

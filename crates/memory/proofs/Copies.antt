@@ -5,8 +5,8 @@ use mathlib.Core.List.{List}
 use native.Mathlib.Omega.{arith}
 use lib.ListN.{length, take, drop}
 use borrow.Rule.Slice.PartMut.{putMid, midOf}
-use Rattle.base.specs.Span.{over, cut}
-use Rattle.base.proofs.Moves.{put-part}
+use Rattle.types.specs.Span.{over, cut}
+use Rattle.types.proofs.Moves.{put-part}
 
 -- a part that became a list as long
 pub put-list : (a n : ℕ) (l vs ys : List ℕ) → length vs ≡ n → a + n ≤ length l → ys ≡ vs → putMid a (a + n - a) l ys ≡ over l a vs

@@ -11,28 +11,28 @@ use lib.Pow.{mod-pow-add}
 use lib.Dec.{eqb, leb}
 use lib.ListN.{length, take, drop, getD, replicate, length-replicate}
 use borrow.Author.Tests.{leb-true, eqb-true}
-use Rattle.base.specs.Pick.{pick, both}
-use Rattle.base.specs.Span.{inside, cut, over}
-use Rattle.base.specs.Answer.{numberOf, refusal, refuse, accept}
+use Rattle.types.specs.Pick.{pick, both}
+use Rattle.types.specs.Span.{inside, cut, over}
+use Rattle.types.specs.Answer.{numberOf, refusal, refuse, accept}
 use Rattle.types.specs.Limits.{admitsOf, validMaximum, validLimits}
 use Rattle.types.specs.MemoryType.{pageBytes, pageBound, validMemory, buildMemory, minimumBytes}
-use Rattle.base.specs.declared.answer.Answer.the-variants as answer
-use Rattle.base.specs.declared.answer.Refusal.{Refusal}
-use Rattle.base.specs.declared.fuel.Fuel.{Fuel}
+use Rattle.types.specs.declared.answer.Answer.the-variants as answer
+use Rattle.types.specs.declared.answer.Refusal.{Refusal}
+use Rattle.types.specs.declared.fuel.Fuel.{Fuel}
 use Rattle.types.specs.declared.limits.Limits.{Limits}
-use Rattle.base.specs.declared.limiter.Limiter.{Limiter}
-use Rattle.base.specs.declared.limiter.Permit.{Permit}
-use Rattle.base.specs.declared.limiter.Permit.the-variants.{Granted, Denied}
+use Rattle.types.specs.declared.limiter.Limiter.{Limiter}
+use Rattle.types.specs.declared.limiter.Permit.{Permit}
+use Rattle.types.specs.declared.limiter.Permit.the-variants.{Granted, Denied}
 use Rattle.types.specs.declared.memory_ty.MemoryType.{MemoryType}
 use Rattle.types.specs.declared.memory_ty.BuiltMemory.{BuiltMemory}
 use Rattle.types.specs.declared.memory_ty.BuiltMemory.the-variants as built
 use Rattle.types.specs.declared.memory_ty.ByteSize.{ByteSize}
 use Rattle.types.specs.declared.memory_ty.ByteSize.the-variants.{Bytes, Overflow}
-use Rattle.base.proofs.Picks.{pick-true, pick-false, both-1, both-2, either}
-use Rattle.base.proofs.Spans.{within-is, over-nil, over-span, over-after, cut-before, length-over}
-use Rattle.base.proofs.Moves.{length-cut}
+use Rattle.types.proofs.Picks.{pick-true, pick-false, both-1, both-2, either}
+use Rattle.types.proofs.Spans.{within-is, over-nil, over-span, over-after, cut-before, length-over}
+use Rattle.types.proofs.Moves.{length-cut}
 use Rattle.types.proofs.Sizes.{page-pos}
-use Rattle.base.proofs.Grants.{Fair, creation-fair, growth-fair}
+use Rattle.types.proofs.Grants.{Fair, creation-fair, growth-fair}
 use Rattle.types.proofs.Built.{built-valid, built-refused, minimum-is}
 use Rattle.memory.specs.LittleEndian.{leBytes, leValue}
 use Rattle.memory.specs.Access.{widthBytes, addressOf, loadWidth, extend, loadedOf, loadFound, loadAt, storeWidth, Stored, done, storeFound, storeAt}

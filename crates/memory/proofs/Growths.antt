@@ -6,22 +6,22 @@ use native.Mathlib.Omega.{arith}
 use native.Mathlib.Nat.{add-mul, div-add-mod', mul-le-mul-left}
 use lib.Dec.{leb, ltb}
 use borrow.Author.Tests.{lt-ltb, le-ltb, leb-true, leb-false}
-use Rattle.base.specs.Pick.{pick, both}
+use Rattle.types.specs.Pick.{pick, both}
 use Rattle.types.specs.Limits.{admitsOf}
 use Rattle.types.specs.MemoryType.{pageBytes, pageBound, byteSize}
-use Rattle.base.specs.Grant.{grantCreation}
-use Rattle.base.specs.declared.fuel.Fuel.{Fuel}
-use Rattle.base.specs.declared.limiter.Limiter.{Limiter}
-use Rattle.base.specs.declared.limiter.Asked.{Asked}
-use Rattle.base.specs.declared.grant.Growth.{Growth}
-use Rattle.base.specs.declared.limiter.Permit.the-variants.{Granted}
+use Rattle.types.specs.Grant.{grantCreation}
+use Rattle.types.specs.declared.fuel.Fuel.{Fuel}
+use Rattle.types.specs.declared.limiter.Limiter.{Limiter}
+use Rattle.types.specs.declared.limiter.Asked.{Asked}
+use Rattle.types.specs.declared.grant.Growth.{Growth}
+use Rattle.types.specs.declared.limiter.Permit.the-variants.{Granted}
 use Rattle.types.specs.declared.memory_ty.MemoryType.{MemoryType}
 use Rattle.types.specs.declared.memory_ty.ByteSize.{ByteSize}
 use Rattle.types.specs.declared.memory_ty.ByteSize.the-variants.{Bytes, Overflow}
-use Rattle.base.proofs.Picks.{pick-true, pick-false, both-2, both-left, both-right, both-then}
-use Rattle.base.proofs.Prices.{too-large, product-fits}
+use Rattle.types.proofs.Picks.{pick-true, pick-false, both-2, both-left, both-right, both-then}
+use Rattle.types.proofs.Prices.{too-large, product-fits}
 use Rattle.types.proofs.Sizes.{page-pos}
-use Rattle.base.proofs.Grants.{creation-fair, granted-growth}
+use Rattle.types.proofs.Grants.{creation-fair, granted-growth}
 use Rattle.memory.specs.Memory.{pagesOf, soundMemory}
 use Rattle.memory.specs.Grow.{mayHave}
 use Rattle.memory.specs.GrowStages.{reachPages, reachOf, grantOf}

@@ -5,15 +5,15 @@ use mathlib.Core.List.{List}
 use Prim.Native.Nat.{ℕ, _+_, _-_, _*_, _^_}
 use lib.Dec.{eqb, leb, ltb}
 use lib.ListN.{length, replicate}
-use Rattle.base.specs.Pick.{pick, both, unless}
-use Rattle.base.specs.Span.{over}
-use Rattle.base.specs.Answer.{refusal, refuse, accept}
-use Rattle.base.specs.Fuel.{short, paid}
-use Rattle.base.specs.Limiter.{saysOf, moved, heardOf, noticed}
-use Rattle.base.specs.declared.fuel.Fuel.{Fuel}
-use Rattle.base.specs.declared.limiter.Limiter.{Limiter}
-use Rattle.base.proofs.Picks.{pick-ap, pick-true, pick-false}
-use Rattle.base.proofs.Chains.{growth-chain, creation-chain}
+use Rattle.types.specs.Pick.{pick, both, unless}
+use Rattle.types.specs.Span.{over}
+use Rattle.types.specs.Answer.{refusal, refuse, accept}
+use Rattle.types.specs.Fuel.{short, paid}
+use Rattle.types.specs.Limiter.{saysOf, moved, heardOf, noticed}
+use Rattle.types.specs.declared.fuel.Fuel.{Fuel}
+use Rattle.types.specs.declared.limiter.Limiter.{Limiter}
+use Rattle.types.proofs.Picks.{pick-ap, pick-true, pick-false}
+use Rattle.types.proofs.Chains.{growth-chain, creation-chain}
 use Rattle.types.specs.MemoryType.{pageBytes, pageOf, memoryType, validExponent, validMemory, buildMemory, byteSize, minimumBytes}
 use Rattle.types.specs.declared.limits.Limits.{Limits}
 use Rattle.types.specs.declared.memory_ty.BuiltMemory.the-variants as built

@@ -5,10 +5,10 @@ use mathlib.Core.Bool.{Bool, true, false}
 use native.Mathlib.Omega.{arith}
 use lib.Dec.{leb}
 use borrow.Author.Tests.{le-leb, lt-leb, leb-true, eq-eqb, ne-eqb, eqb-true}
-use Rattle.base.specs.Pick.{both}
+use Rattle.types.specs.Pick.{both}
 use Rattle.types.specs.Limits.{admitsOf}
 use Rattle.types.specs.MemoryType.{pageBytes, pageBound, validMemory}
-use Rattle.base.proofs.Picks.{both-true, both-left, both-right, both-then, both-1, both-2}
+use Rattle.types.proofs.Picks.{both-true, both-left, both-right, both-then, both-1, both-2}
 use Rattle.types.specs.IndexType.{maxSize}
 use Rattle.types.specs.declared.index_ty.IndexType.{IndexType}
 use Rattle.types.specs.declared.index_ty.IndexType.the-variants.{I64}

@@ -3,8 +3,8 @@ use mathlib.Core.Path.{_≡_, ap}
 use mathlib.Core.List.{List}
 use Prim.Native.Nat.{ℕ}
 use borrow.Author.Tests.{eq-eqb, ne-eqb}
-use Rattle.base.specs.declared.answer.Answer.{Answer}
-use Rattle.base.proofs.Picks.{pick-true, pick-false, known-test}
+use Rattle.types.specs.declared.answer.Answer.{Answer}
+use Rattle.types.proofs.Picks.{pick-true, pick-false, known-test}
 use Rattle.memory.specs.Access as access
 use Rattle.memory.specs.New as new
 use Rattle.memory.specs.Grow as grow

@@ -3,7 +3,7 @@ use mathlib.Core.Path.{sym, _∙_, ap}
 use mathlib.Core.List.{List}
 use Prim.Native.Nat.{ℕ}
 use denote.Ref.{now}
-use Rattle.base.proofs.One.{One, OneWith}
+use Rattle.types.proofs.One.{One, OneWith}
 use Rattle.memory.specs.Access as access
 use Rattle.memory.specs.Grow as grow
 use Rattle.memory.specs.New as new

@@ -7,8 +7,8 @@ use mir.Syntax.{w32, w64}
 use mir.Syntax as machine
 use mir.Val.{SFits, toZ, ofZ, hbits}
 use mir.Facts.{toZ-pos, toZ-ofZ}
-use Rattle.base.specs.declared.answer.Value.{Value}
-use Rattle.base.specs.declared.answer.Value.the-variants as value
+use Rattle.types.specs.declared.answer.Value.{Value}
+use Rattle.types.specs.declared.answer.Value.the-variants as value
 use Rattle.memory.specs.Access.{widthBytes, loadWidth, extend}
 use Rattle.memory.specs.Facts.{Reach, SignsBy, signedOf}
 use Rattle.memory.specs.declared.access.Width.{Width}

@@ -6,13 +6,13 @@ use lib.IntN.{pos}
 use lib.ListN.{length}
 use mir.Syntax.{w8, w16, w32, w64}
 use mir.Val.{toZ}
-use Rattle.base.specs.Pick.{pick}
-use Rattle.base.specs.Span.{inside, cut, over}
-use Rattle.base.specs.Answer.{float32, float64, refuse, accept}
-use Rattle.base.specs.declared.answer.Answer.{Answer}
-use Rattle.base.specs.declared.answer.Answer.the-variants as answer
-use Rattle.base.specs.declared.answer.Value.{Value}
-use Rattle.base.specs.declared.answer.Value.the-variants as value
+use Rattle.types.specs.Pick.{pick}
+use Rattle.types.specs.Span.{inside, cut, over}
+use Rattle.types.specs.Answer.{float32, float64, refuse, accept}
+use Rattle.types.specs.declared.answer.Answer.{Answer}
+use Rattle.types.specs.declared.answer.Answer.the-variants as answer
+use Rattle.types.specs.declared.answer.Value.{Value}
+use Rattle.types.specs.declared.answer.Value.the-variants as value
 use Rattle.memory.specs.LittleEndian.{leBytes, leValue}
 use Rattle.memory.specs.declared.access.Width.{Width}
 use Rattle.memory.specs.declared.access.Width.the-variants.{W8, W16, W32, W64}

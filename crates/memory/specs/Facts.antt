@@ -5,7 +5,7 @@ use mathlib.Core.List.{List}
 use lib.Dec.{ltb}
 use lib.IntN.{ℤ, pos, negsuc}
 use mir.Val.{sel}
-use Rattle.base.specs.Span.{cut}
+use Rattle.types.specs.Span.{cut}
 use Rattle.types.specs.declared.memory_ty.ByteSize.{ByteSize}
 use Rattle.types.specs.declared.memory_ty.ByteSize.the-variants.{Bytes}
 use Rattle.memory.specs.LittleEndian.{leValue}

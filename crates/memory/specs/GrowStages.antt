@@ -4,17 +4,17 @@ use mathlib.Core.Bool.{true}
 use mathlib.Core.List.{List}
 use lib.Dec.{eqb, leb}
 use lib.ListN.{replicate}
-use Rattle.base.specs.Pick.{pick}
-use Rattle.base.specs.Span.{over}
-use Rattle.base.specs.Answer.{refuse, accept}
-use Rattle.base.specs.Price.{price}
-use Rattle.base.specs.Grant.{grantGrowth}
-use Rattle.base.specs.declared.answer.Answer.the-variants as answer
-use Rattle.base.specs.declared.fuel.Fuel.{Fuel}
-use Rattle.base.specs.declared.grant.Growth.{Growth}
-use Rattle.base.specs.declared.limiter.Limiter.{Limiter}
-use Rattle.base.specs.declared.limiter.Permit.{Permit}
-use Rattle.base.specs.declared.limiter.Permit.the-variants.{Granted, Denied}
+use Rattle.types.specs.Pick.{pick}
+use Rattle.types.specs.Span.{over}
+use Rattle.types.specs.Answer.{refuse, accept}
+use Rattle.types.specs.Price.{price}
+use Rattle.types.specs.Grant.{grantGrowth}
+use Rattle.types.specs.declared.answer.Answer.the-variants as answer
+use Rattle.types.specs.declared.fuel.Fuel.{Fuel}
+use Rattle.types.specs.declared.grant.Growth.{Growth}
+use Rattle.types.specs.declared.limiter.Limiter.{Limiter}
+use Rattle.types.specs.declared.limiter.Permit.{Permit}
+use Rattle.types.specs.declared.limiter.Permit.the-variants.{Granted, Denied}
 use Rattle.types.specs.MemoryType.{pageBytes}
 use Rattle.types.specs.declared.memory_ty.MemoryType.{MemoryType}
 use Rattle.types.specs.declared.memory_ty.ByteSize.{ByteSize}

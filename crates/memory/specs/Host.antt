@@ -2,9 +2,9 @@
 use Prim.Native.Nat.{ℕ, _+_}
 use mathlib.Core.List.{List}
 use lib.ListN.{length}
-use Rattle.base.specs.Pick.{pick}
-use Rattle.base.specs.Span.{inside, cut, over}
-use Rattle.base.specs.Answer.{refuse, accept}
+use Rattle.types.specs.Pick.{pick}
+use Rattle.types.specs.Span.{inside, cut, over}
+use Rattle.types.specs.Answer.{refuse, accept}
 use Rattle.memory.specs.Access.{Stored, done}
 use Rattle.memory.specs.Memory.{soundMemory}
 use Rattle.memory.specs.declared.memory.Memory.{Memory}

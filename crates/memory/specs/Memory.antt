@@ -4,11 +4,11 @@ use mathlib.Core.Bool.{Bool}
 use mathlib.Core.List.{List}
 use lib.Dec.{eqb, leb}
 use lib.ListN.{length}
-use Rattle.base.specs.Pick.{pick, both}
+use Rattle.types.specs.Pick.{pick, both}
 use Rattle.types.specs.Limits.{admitsOf}
 use Rattle.types.specs.MemoryType.{pageBytes, pageBound, validMemory}
-use Rattle.base.specs.Answer.{refuse}
-use Rattle.base.specs.declared.answer.Answer.{Answer}
+use Rattle.types.specs.Answer.{refuse}
+use Rattle.types.specs.declared.answer.Answer.{Answer}
 use Rattle.memory.specs.Access.{Stored, done, loadAt, storeAt}
 use Rattle.memory.specs.declared.access.LoadKind.{LoadKind}
 use Rattle.memory.specs.declared.access.StoreKind.{StoreKind}

@@ -4,12 +4,12 @@ use mathlib.Core.Bool.{Bool, true}
 use mathlib.Core.List.{List}
 use lib.Dec.{eqb, leb, ltb}
 use lib.ListN.{length, replicate}
-use Rattle.base.specs.Pick.{pick, unless, both}
-use Rattle.base.specs.Span.{over}
-use Rattle.base.specs.Answer.{refusal}
-use Rattle.base.specs.Limiter.{saysOf, moved, heardOf}
-use Rattle.base.specs.declared.answer.Refusal.{Refusal}
-use Rattle.base.specs.declared.limiter.Limiter.{Limiter}
+use Rattle.types.specs.Pick.{pick, unless, both}
+use Rattle.types.specs.Span.{over}
+use Rattle.types.specs.Answer.{refusal}
+use Rattle.types.specs.Limiter.{saysOf, moved, heardOf}
+use Rattle.types.specs.declared.answer.Refusal.{Refusal}
+use Rattle.types.specs.declared.limiter.Limiter.{Limiter}
 use Rattle.types.specs.MemoryType.{pageBytes, pageOf, memoryType, validExponent, validMemory}
 use Rattle.types.specs.declared.limits.Limits.{Limits}
 use Rattle.types.specs.declared.memory_ty.MemoryType.{MemoryType}

@@ -3,12 +3,12 @@ use Prim.Native.Nat.{ℕ}
 use mathlib.Core.List.{List}
 use lib.Dec.{leb}
 use lib.ListN.{replicate}
-use Rattle.base.specs.Span.{over}
-use Rattle.base.specs.Answer.{refusal}
-use Rattle.base.specs.Grant.{grantCreation}
-use Rattle.base.specs.declared.limiter.Limiter.{Limiter}
-use Rattle.base.specs.declared.limiter.Permit.{Permit}
-use Rattle.base.specs.declared.limiter.Permit.the-variants.{Granted, Denied}
+use Rattle.types.specs.Span.{over}
+use Rattle.types.specs.Answer.{refusal}
+use Rattle.types.specs.Grant.{grantCreation}
+use Rattle.types.specs.declared.limiter.Limiter.{Limiter}
+use Rattle.types.specs.declared.limiter.Permit.{Permit}
+use Rattle.types.specs.declared.limiter.Permit.the-variants.{Granted, Denied}
 use Rattle.types.specs.MemoryType.{minimumBytes}
 use Rattle.types.specs.declared.memory_ty.MemoryType.{MemoryType}
 use Rattle.types.specs.declared.memory_ty.BuiltMemory.{BuiltMemory}

@@ -1,14 +1,14 @@
 // Little-endian loads and stores: one routine over a byte count each, and the typed ones above them.
 use super::buffer;
-use base::answer::Answer;
-use base::answer::Refusal;
-use base::answer::Value;
+use types::answer::Answer;
+use types::answer::Refusal;
+use types::answer::Value;
 ghost use mathlib.Core.Path.{_≡_};
 ghost use Prim.Native.Nat.{_+_, _*_, _^_, _≤_, _<_};
 ghost use mir.Syntax.{w64};
 ghost use mir.Val.{toZ};
 ghost use lib.ListN.{length};
-ghost use Rattle.base.specs.Span.{over};
+ghost use Rattle.types.specs.Span.{over};
 ghost use Rattle.memory.specs.LittleEndian.{leBytes};
 ghost use Rattle.memory.specs.Facts.{Read, Reach, SignsBy, signedOf, Found};
 ghost use Rattle.memory.specs.Access.{addressOf, widthBytes, loadWidth, extend, loadedOf, loadFound, loadAt, load, storeWidth, done, storeFound, storeAt, store};
@@ -117,7 +117,7 @@ pub fn locate(size: u64, ptr: u64, offset: u64, n: u64) -> Address
     if 18446744073709551615 - ptr < offset {
         return Address::Outside;
     }
-    if base::span::within(ptr + offset, n, size) {
+    if types::span::within(ptr + offset, n, size) {
         return Address::At(ptr + offset);
     }
     Address::Outside

@@ -2,7 +2,7 @@
 ghost use mathlib.Core.Path.{_≡_};
 ghost use Prim.Native.Nat.{_+_, _≤_};
 ghost use lib.ListN.{length, replicate};
-ghost use Rattle.base.specs.Span.{over, cut};
+ghost use Rattle.types.specs.Span.{over, cut};
 ghost use Rattle.memory.specs.LittleEndian.{leBytes};
 
 // Every byte of the part becomes `v`.

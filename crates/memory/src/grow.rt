@@ -2,21 +2,21 @@
 use super::memory;
 use super::memory::Memory;
 use super::new;
-use base::answer::Answer;
-use base::answer::Refusal;
-use base::answer::Value;
-use base::fuel::Fuel;
-use base::grant::Growth;
-use base::limiter::Limiter;
-use base::limiter::Permit;
+use types::answer::Answer;
+use types::answer::Refusal;
+use types::answer::Value;
+use types::fuel::Fuel;
+use types::grant::Growth;
+use types::limiter::Limiter;
+use types::limiter::Permit;
 use types::memory_ty::ByteSize;
 use types::memory_ty::MemoryType;
 ghost use mathlib.Core.Path.{_≡_};
 ghost use mathlib.Core.Bool.{true};
 ghost use Prim.Native.Nat.{_+_, _≤_};
 ghost use lib.ListN.{length};
-ghost use Rattle.base.specs.declared.limiter.Permit.the-variants.{Granted};
-ghost use Rattle.base.specs.Answer.{refuse, accept};
+ghost use Rattle.types.specs.declared.limiter.Permit.the-variants.{Granted};
+ghost use Rattle.types.specs.Answer.{refuse, accept};
 ghost use Rattle.memory.specs.Memory.{pagesOf, soundMemory};
 ghost use Rattle.memory.specs.Facts.{Roomy, Held, Reaches};
 ghost use Rattle.memory.specs.Grow.{done, answered, mayHave, growMemory};
@@ -126,7 +126,7 @@ fn grant(memory: Memory, size: u64, fuel: Fuel, limiter: Limiter) -> Growth
     let costs = fuel.costs;
     let price = costs.fuel_for_copying_bytes(size - memory.size);
     let fits = size <= memory.room;
-    base::grant::grant_growth(limiter, fuel, true, price, fits)
+    types::grant::grant_growth(limiter, fuel, true, price, fits)
 }
 
 fn grow_to(memory: Memory, bytes: &mut [u8], size: u64, fuel: Fuel, limiter: Limiter) -> GrownMemory

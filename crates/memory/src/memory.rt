@@ -3,9 +3,9 @@ use super::access;
 use super::access::LoadKind;
 use super::access::StoreKind;
 use super::buffer;
-use base::answer::Answer;
-use base::answer::Refusal;
-use base::answer::Value;
+use types::answer::Answer;
+use types::answer::Refusal;
+use types::answer::Value;
 use types::index_ty::IndexType;
 use types::memory_ty::MemoryType;
 use types::memory_ty::PageSize;
@@ -13,10 +13,10 @@ ghost use mathlib.Core.Path.{_≡_};
 ghost use Prim.Native.Nat.{_+_, _≤_};
 ghost use lib.ListN.{length};
 ghost use lib.Dec.{leb};
-ghost use Rattle.base.specs.Pick.{both};
+ghost use Rattle.types.specs.Pick.{both};
 ghost use Rattle.types.specs.Limits.{admitsOf};
 ghost use Rattle.types.specs.MemoryType.{pageBound};
-ghost use Rattle.base.specs.Answer.{refuse};
+ghost use Rattle.types.specs.Answer.{refuse};
 ghost use Rattle.memory.specs.Access.{done};
 ghost use Rattle.memory.specs.Memory.{pagesOf, soundRoom, soundSize, soundMemory, loadMemory, storeMemory};
 ghost use Rattle.memory.specs.Host.{readUsed, readMemory, writeUsed, writeMemory};
@@ -164,7 +164,7 @@ impl Memory {
         requires { ⌜ self .start + self .size ≤ length (now bytes) ⌝ }
         ensures { λ r. ⌜ done r (now (to .exit)) ≡ readUsed self (now (bytes .entry)) offset (now (to .entry)) ⌝ }
     {
-        if base::span::within(offset, to.len() as u64, self.size) {
+        if types::span::within(offset, to.len() as u64, self.size) {
             buffer::get_part(to, bytes, self.start + (offset as usize));
             return Answer::Value(Value::Number(0));
         }
@@ -187,7 +187,7 @@ impl Memory {
         requires { ⌜ self .start + self .size ≤ length (now bytes) ⌝ }
         ensures { λ r. ⌜ done r (now (bytes .exit)) ≡ writeUsed self (now (bytes .entry)) offset (now (from .entry)) ⌝ }
     {
-        if base::span::within(offset, from.len() as u64, self.size) {
+        if types::span::within(offset, from.len() as u64, self.size) {
             buffer::put_part(bytes, self.start + (offset as usize), from);
             return Answer::Value(Value::Number(0));
         }

@@ -1,9 +1,9 @@
 // Making a memory in a room of the buffer, in the order of checks of document 01.
 use super::buffer;
 use super::memory::Memory;
-use base::answer::Refusal;
-use base::limiter::Limiter;
-use base::limiter::Permit;
+use types::answer::Refusal;
+use types::limiter::Limiter;
+use types::limiter::Permit;
 use types::limits::Limits;
 use types::memory_ty::BuiltMemory;
 use types::memory_ty::ByteSize;
@@ -11,10 +11,10 @@ use types::memory_ty::MemoryType;
 ghost use mathlib.Core.Path.{_≡_};
 ghost use Prim.Native.Nat.{_+_, _≤_};
 ghost use lib.ListN.{length, replicate};
-ghost use Rattle.base.specs.declared.limiter.Permit.the-variants.{Granted};
-ghost use Rattle.base.specs.Answer.{refusal};
+ghost use Rattle.types.specs.declared.limiter.Permit.the-variants.{Granted};
+ghost use Rattle.types.specs.Answer.{refusal};
 ghost use Rattle.types.specs.MemoryType.{buildMemory, minimumBytes};
-ghost use Rattle.base.specs.Span.{over};
+ghost use Rattle.types.specs.Span.{over};
 ghost use Rattle.memory.specs.New.{done, refused, newMemory};
 ghost use Rattle.memory.specs.NewStages.{madeBy, madeOf, bySize, byType};
 
@@ -99,7 +99,7 @@ fn make_sized(
     requires { ⌜ start + room ≤ length (now bytes) ⌝ }
     ensures { λ r. ⌜ done r (now (bytes .exit)) ≡ madeOf limiter ty start room size (now (bytes .entry)) ⌝ }
 {
-    let asked = base::grant::grant_creation(limiter, size <= room);
+    let asked = types::grant::grant_creation(limiter, size <= room);
     let permit = asked.permit;
     let left = asked.limiter;
     make_by(permit, left, ty, start, room, size, bytes)
@@ -188,7 +188,7 @@ pub fn new_memory(
 ) -> CreatedMemory
     ensures { λ r. ⌜ done r (now (bytes .exit)) ≡ newMemory is_64 limits exponent start room (now (bytes .entry)) limiter ⌝ }
 {
-    if base::span::within(start as u64, room, bytes.len() as u64) {
+    if types::span::within(start as u64, room, bytes.len() as u64) {
         return make_in(is_64, limits, exponent, start, room, bytes, limiter);
     }
     no_memory(

@@ -2,7 +2,7 @@
 // for each on standard output, and after them the cells of every memory and table.
 mod cells;
 
-use base::fuel::FuelCosts;
+use types::fuel::FuelCosts;
 use lines::session::Session;
 use lines::session::piece;
 ghost use Prim.Native.Nat.{_≤_};

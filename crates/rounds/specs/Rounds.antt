@@ -6,8 +6,8 @@ use Rattle.types.specs.Raw.{rawBytes}
 use Rattle.machine.specs.Machine.{Buffers, buffers}
 use Rattle.machine.specs.Step.{Stepped, step}
 use Rattle.machine.specs.declared.records.Machine.{Machine}
-use Rattle.operations.specs.declared.operation.Operation.{Operation}
-use Rattle.operations.specs.declared.operation.Operation.the-variants.{NewMemory, NewTable, NewSegment}
+use Rattle.machine.specs.declared.operation.Operation.{Operation}
+use Rattle.machine.specs.declared.operation.Operation.the-variants.{NewMemory, NewTable, NewSegment}
 use Rattle.lines.specs.declared.code.Parsed.{Parsed}
 use Rattle.lines.specs.declared.code.Parsed.the-variants.{Good, Malformed}
 

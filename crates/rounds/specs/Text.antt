@@ -2,8 +2,8 @@
 use Prim.Native.Nat.{ℕ}
 use mathlib.Core.Path.{_≡_}
 use mathlib.Core.List.{List}
-use Rattle.base.specs.Answer.{refuse, accept}
-use Rattle.base.specs.declared.answer.Answer.{Answer}
+use Rattle.types.specs.Answer.{refuse, accept}
+use Rattle.types.specs.declared.answer.Answer.{Answer}
 use Rattle.machine.specs.Machine.{buffers}
 use Rattle.lines.specs.Progress.{Progressed}
 use Rattle.lines.specs.declared.code.Parsed.{Parsed}

@@ -1,13 +1,13 @@
 // One operation line again and again on a machine with so many instances of each kind.
-use base::fuel::FuelCosts;
+use types::fuel::FuelCosts;
 use lent::operate::operate_kept;
 use lines::code::Parsed;
 use lines::code::read_line;
 use machine::records::Machine;
-use operations::operation::Operation;
+use machine::operation::Operation;
 ghost use mathlib.Core.Path.{_≡_};
 ghost use Rattle.machine.specs.Machine.{freshMachine};
-ghost use Rattle.base.specs.Fuel.{defaultCosts};
+ghost use Rattle.types.specs.Fuel.{defaultCosts};
 ghost use Rattle.lines.specs.Code.{readLine};
 ghost use mathlib.Core.Bool.{true};
 ghost use Rattle.rounds.specs.Rounds.{oneMemory, oneTable, oneSegment, held, again, places, setUp, timedBy, Timed};

@@ -1,9 +1,9 @@
 // Operation lines: one read and answered at once, and a whole session over lines in one buffer.
-use base::answer::Answer;
-use base::answer::Refusal;
-use base::answer::Value;
-use base::fuel::Fuel;
-use base::fuel::FuelCosts;
+use types::answer::Answer;
+use types::answer::Refusal;
+use types::answer::Value;
+use types::fuel::Fuel;
+use types::fuel::FuelCosts;
 use lines::answer_line::write_answer_line;
 use lines::code::Parsed;
 use lines::code::read_line;
@@ -13,7 +13,7 @@ ghost use Prim.Native.Nat.{_/_};
 ghost use mathlib.Core.Path.{_≡_};
 ghost use mathlib.Core.Bool.{true, false};
 ghost use lib.ListN.{length};
-ghost use Rattle.base.specs.Fuel.{newFuel, defaultCosts};
+ghost use Rattle.types.specs.Fuel.{newFuel, defaultCosts};
 ghost use Rattle.types.specs.Raw.{rawBytes};
 ghost use Rattle.machine.specs.Machine.{freshMachine};
 ghost use Rattle.lines.specs.Code.{readLine};

@@ -1,5 +1,5 @@
 // Operation lines on standard input, one answer line for each on standard output.
-use base::fuel::FuelCosts;
+use types::fuel::FuelCosts;
 use lines::session::Session;
 use lines::session::piece;
 ghost use Prim.Native.Nat.{_≤_};

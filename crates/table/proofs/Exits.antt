@@ -5,9 +5,9 @@ use mathlib.Core.List.{List}
 use Prim.Native.Nat.{ℕ, _≤_, _<_}
 use lib.Dec.{leb, eqb}
 use borrow.Author.Tests.{le-leb, lt-leb, eq-eqb, ne-eqb, not-true, not-false}
-use Rattle.base.specs.Pick.{pick, both}
-use Rattle.base.proofs.Picks.{pick-true, pick-false, both-left, both-then, known-test}
-use Rattle.base.specs.declared.answer.Answer.{Answer}
+use Rattle.types.specs.Pick.{pick, both}
+use Rattle.types.proofs.Picks.{pick-true, pick-false, both-left, both-then, known-test}
+use Rattle.types.specs.declared.answer.Answer.{Answer}
 use Rattle.table.specs.Table as table
 use Rattle.table.specs.Element as element
 use Rattle.table.specs.New as new

@@ -9,36 +9,36 @@ use native.Mathlib.Nat.{le-refl}
 use borrow.Author.Tests.{le-leb, leb-true, leb-false, ltb-true, eqb-true}
 use lib.Dec.{leb, eqb}
 use lib.ListN.{length, take, drop, set, replicate, length-replicate}
-use Rattle.base.specs.Pick.{pick, both}
-use Rattle.base.specs.Span.{over}
-use Rattle.base.specs.Steps.{fillSteps, initSteps, copySteps, Apart}
-use Rattle.base.specs.Answer.{accept, numberOf}
+use Rattle.types.specs.Pick.{pick, both}
+use Rattle.types.specs.Span.{over}
+use Rattle.types.specs.Steps.{fillSteps, initSteps, copySteps, Apart}
+use Rattle.types.specs.Answer.{accept, numberOf}
 use Rattle.types.specs.IndexType.{maxSize}
 use Rattle.types.specs.Limits.{admitsOf, validMaximum, validLimits}
 use Rattle.types.specs.TableType.{tableBound, validTable, validated, buildTable, tableType}
-use Rattle.base.specs.Grant.{SpanDone, spanDone, spanned}
-use Rattle.base.specs.declared.answer.Answer.{Answer}
-use Rattle.base.specs.declared.answer.Answer.the-variants as answer
-use Rattle.base.specs.declared.answer.Refusal.{Refusal}
-use Rattle.base.specs.declared.answer.Value.{Value}
-use Rattle.base.specs.declared.fuel.Fuel.{Fuel}
-use Rattle.base.specs.declared.fuel.FuelStep.{FuelStep}
-use Rattle.base.specs.declared.fuel.FuelStep.the-variants as step
-use Rattle.base.specs.declared.limiter.Limiter.{Limiter}
-use Rattle.base.specs.declared.limiter.Permit.{Permit}
-use Rattle.base.specs.declared.limiter.Permit.the-variants.{Granted, Denied}
+use Rattle.types.specs.Grant.{SpanDone, spanDone, spanned}
+use Rattle.types.specs.declared.answer.Answer.{Answer}
+use Rattle.types.specs.declared.answer.Answer.the-variants as answer
+use Rattle.types.specs.declared.answer.Refusal.{Refusal}
+use Rattle.types.specs.declared.answer.Value.{Value}
+use Rattle.types.specs.declared.fuel.Fuel.{Fuel}
+use Rattle.types.specs.declared.fuel.FuelStep.{FuelStep}
+use Rattle.types.specs.declared.fuel.FuelStep.the-variants as step
+use Rattle.types.specs.declared.limiter.Limiter.{Limiter}
+use Rattle.types.specs.declared.limiter.Permit.{Permit}
+use Rattle.types.specs.declared.limiter.Permit.the-variants.{Granted, Denied}
 use Rattle.types.specs.declared.limits.Limits.{Limits}
 use Rattle.types.specs.declared.raw.RefType.{RefType}
 use Rattle.types.specs.declared.raw.TypedRawRef.{TypedRawRef}
 use Rattle.types.specs.declared.table_ty.TableType.{TableType}
 use Rattle.types.specs.declared.table_ty.BuiltTable.{BuiltTable}
 use Rattle.types.specs.declared.table_ty.BuiltTable.the-variants as built
-use Rattle.base.proofs.Picks.{pick-true, pick-false, both-true, both-1, both-2}
-use Rattle.base.proofs.Spans.{within-is, length-over, over-low, over-after}
-use Rattle.base.proofs.Moves.{length-cut}
-use Rattle.base.proofs.Stepping.{fill-closed, init-closed, copy-closed}
+use Rattle.types.proofs.Picks.{pick-true, pick-false, both-true, both-1, both-2}
+use Rattle.types.proofs.Spans.{within-is, length-over, over-low, over-after}
+use Rattle.types.proofs.Moves.{length-cut}
+use Rattle.types.proofs.Stepping.{fill-closed, init-closed, copy-closed}
 use Rattle.table.proofs.Readings.{grow-reads, new-reads, fill-reads, copy-reads, within-reads, init-reads}
-use Rattle.base.proofs.Grants.{granted-span, granted-creation, granted-admits}
+use Rattle.types.proofs.Grants.{granted-span, granted-creation, granted-admits}
 use Rattle.table.specs.Table.{Written, resized, soundBuffer, soundSize, soundTable, setSound, setTable}
 use Rattle.table.specs.Element.{MadeWith, dropped, soundSegment, newSegment}
 use Rattle.table.specs.New.{Created, refused, tableOf, newTable}

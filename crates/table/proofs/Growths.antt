@@ -4,18 +4,18 @@ use Prim.Native.Nat.{ℕ, _+_, _-_, _^_, _≤_, _<_}
 use native.Mathlib.Omega.{arith}
 use borrow.Author.Tests.{leb-true, le-ltb}
 use lib.Dec.{leb, ltb}
-use Rattle.base.specs.Pick.{pick}
+use Rattle.types.specs.Pick.{pick}
 use Rattle.types.specs.IndexType.{maxSize}
-use Rattle.base.specs.Grant.{grantCreation}
-use Rattle.base.specs.declared.fuel.Fuel.{Fuel}
-use Rattle.base.specs.declared.grant.Growth.{Growth}
+use Rattle.types.specs.Grant.{grantCreation}
+use Rattle.types.specs.declared.fuel.Fuel.{Fuel}
+use Rattle.types.specs.declared.grant.Growth.{Growth}
 use Rattle.types.specs.declared.index_ty.IndexType.{IndexType}
 use Rattle.types.specs.declared.index_ty.IndexType.the-variants.{I32, I64}
-use Rattle.base.specs.declared.limiter.Asked.{Asked}
-use Rattle.base.specs.declared.limiter.Limiter.{Limiter}
-use Rattle.base.specs.declared.limiter.Permit.the-variants.{Granted}
-use Rattle.base.proofs.Picks.{pick-false}
-use Rattle.base.proofs.Grants.{granted-creation, granted-growth}
+use Rattle.types.specs.declared.limiter.Asked.{Asked}
+use Rattle.types.specs.declared.limiter.Limiter.{Limiter}
+use Rattle.types.specs.declared.limiter.Permit.the-variants.{Granted}
+use Rattle.types.proofs.Picks.{pick-false}
+use Rattle.types.proofs.Grants.{granted-creation, granted-growth}
 use Rattle.table.specs.Facts.{Roomed, Roomy}
 use Rattle.table.specs.Stages.{grantOf}
 use Rattle.table.specs.declared.table.Table.{Table}

@@ -5,19 +5,19 @@ use mathlib.Core.List.{List}
 use Prim.Native.Nat.{ℕ, _+_, _≤_}
 use native.Mathlib.Omega.{arith}
 use borrow.Author.Tests.{not-false}
-use Rattle.base.specs.Pick.{both}
-use Rattle.base.specs.Span.{inside}
-use Rattle.base.specs.Answer.{accept}
-use Rattle.base.specs.Grant.{grantSpan, spanDone, spanned}
-use Rattle.base.specs.declared.answer.Answer.{Answer}
-use Rattle.base.specs.declared.answer.Answer.the-variants as answer
-use Rattle.base.specs.declared.answer.Refusal.{Refusal}
-use Rattle.base.specs.declared.fuel.Fuel.{Fuel}
-use Rattle.base.specs.declared.fuel.FuelStep.{FuelStep}
-use Rattle.base.specs.declared.fuel.FuelStep.the-variants.{Done, Refused}
-use Rattle.base.proofs.Picks.{both-1, both-2, known-test}
-use Rattle.base.proofs.Spans.{within-is}
-use Rattle.base.proofs.Grants.{granted-span}
+use Rattle.types.specs.Pick.{both}
+use Rattle.types.specs.Span.{inside}
+use Rattle.types.specs.Answer.{accept}
+use Rattle.types.specs.Grant.{grantSpan, spanDone, spanned}
+use Rattle.types.specs.declared.answer.Answer.{Answer}
+use Rattle.types.specs.declared.answer.Answer.the-variants as answer
+use Rattle.types.specs.declared.answer.Refusal.{Refusal}
+use Rattle.types.specs.declared.fuel.Fuel.{Fuel}
+use Rattle.types.specs.declared.fuel.FuelStep.{FuelStep}
+use Rattle.types.specs.declared.fuel.FuelStep.the-variants.{Done, Refused}
+use Rattle.types.proofs.Picks.{both-1, both-2, known-test}
+use Rattle.types.proofs.Spans.{within-is}
+use Rattle.types.proofs.Grants.{granted-span}
 use Rattle.table.specs.Facts.{Within, Places, Goes}
 use Rattle.table.specs.declared.table.Table.{Table}
 use Rattle.table.specs.declared.element.ElementSegment.{ElementSegment}

@@ -5,8 +5,8 @@ use Prim.Native.Nat.{ℕ, _+_, _-_, _≤_}
 use native.Mathlib.Omega.{arith}
 use lib.ListN.{length, take, drop, replicate, length-replicate, replicate-append-replicate}
 use lib.Seq.{take-all, take-at, take-take}
-use Rattle.base.specs.Span.{over, cut}
-use Rattle.base.proofs.Spans.{over-after, over-before, over-over, over-span}
+use Rattle.types.specs.Span.{over, cut}
+use Rattle.types.proofs.Spans.{over-after, over-before, over-over, over-span}
 
 -- m filled cells more, after k
 pub fill-on : (l cs r : List ℕ) (to k m n v : ℕ) → n ≡ k + m → to + n ≤ length l → cs ≡ over l to (replicate k v) → r ≡ over cs (to + k) (replicate m v) → r ≡ over l to (replicate n v)

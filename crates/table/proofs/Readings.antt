@@ -6,17 +6,17 @@ use Prim.Native.Nat.{ℕ, _+_, _-_, _*_}
 use native.Mathlib.Nat.{add-sub-cancel-left}
 use lib.Dec.{eqb, leb, ltb}
 use lib.ListN.{length, replicate}
-use Rattle.base.specs.Pick.{pick, both, unless}
-use Rattle.base.specs.Span.{inside, cut, over}
-use Rattle.base.specs.Answer.{refusal, refuse, accept}
-use Rattle.base.specs.Price.{price}
-use Rattle.base.specs.Fuel.{short, paid}
-use Rattle.base.specs.Grant.{SpanDone, spanDone}
-use Rattle.base.specs.Limiter.{saysOf, moved, heardOf, noticed}
-use Rattle.base.specs.declared.fuel.Fuel.{Fuel}
-use Rattle.base.specs.declared.limiter.Limiter.{Limiter}
-use Rattle.base.proofs.Picks.{pick-ap}
-use Rattle.base.proofs.Chains.{growth-chain, creation-chain, charge-chain, span-chain}
+use Rattle.types.specs.Pick.{pick, both, unless}
+use Rattle.types.specs.Span.{inside, cut, over}
+use Rattle.types.specs.Answer.{refusal, refuse, accept}
+use Rattle.types.specs.Price.{price}
+use Rattle.types.specs.Fuel.{short, paid}
+use Rattle.types.specs.Grant.{SpanDone, spanDone}
+use Rattle.types.specs.Limiter.{saysOf, moved, heardOf, noticed}
+use Rattle.types.specs.declared.fuel.Fuel.{Fuel}
+use Rattle.types.specs.declared.limiter.Limiter.{Limiter}
+use Rattle.types.proofs.Picks.{pick-ap}
+use Rattle.types.proofs.Chains.{growth-chain, creation-chain, charge-chain, span-chain}
 use Rattle.types.specs.IndexType.{maxSize}
 use Rattle.types.specs.Limits.{admitsOf}
 use Rattle.types.specs.TableType.{tableType, validTable, validated, buildTable, elementMatches}

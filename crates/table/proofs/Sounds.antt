@@ -4,9 +4,9 @@ use mathlib.Core.Bool.{Bool, true, false, not}
 use Prim.Native.Nat.{ℕ, _+_, _≤_, _<_, _^_}
 use native.Mathlib.Omega.{arith}
 use borrow.Author.Tests.{leb-true, not-false}
-use Rattle.base.specs.Pick.{both}
-use Rattle.base.proofs.Picks.{both-1, both-2, known-test}
-use Rattle.base.proofs.Spans.{within-is}
+use Rattle.types.specs.Pick.{both}
+use Rattle.types.proofs.Picks.{both-1, both-2, known-test}
+use Rattle.types.proofs.Spans.{within-is}
 use Rattle.table.specs.Table.{soundBuffer, soundSize, soundTable}
 use Rattle.table.specs.Element.{soundSegment}
 use Rattle.table.specs.Copy.{soundTwo}

@@ -3,8 +3,8 @@ use mathlib.Core.Path.{sym, _∙_, ap}
 use mathlib.Core.List.{List}
 use Prim.Native.Nat.{ℕ}
 use denote.Ref.{now}
-use Rattle.base.proofs.One.{One, OneWith}
-use Rattle.base.proofs.Grants.{spans}
+use Rattle.types.proofs.One.{One, OneWith}
+use Rattle.types.proofs.Grants.{spans}
 use Rattle.table.specs.Element as element
 use Rattle.table.specs.Grow as grow
 use Rattle.table.specs.New as new

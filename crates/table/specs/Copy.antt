@@ -4,13 +4,13 @@ use lib.Dec.{leb}
 use Prim.Native.Nat.{ℕ, _+_, _*_}
 use mathlib.Core.List.{List}
 use lib.ListN.{length}
-use Rattle.base.specs.Pick.{pick, unless, both}
-use Rattle.base.specs.Span.{inside, cut, over}
-use Rattle.base.specs.Answer.{refuse, accept}
-use Rattle.base.specs.Price.{price}
-use Rattle.base.specs.Fuel.{short, paid}
-use Rattle.base.specs.Grant.{SpanDone, spanDone}
-use Rattle.base.specs.declared.fuel.Fuel.{Fuel}
+use Rattle.types.specs.Pick.{pick, unless, both}
+use Rattle.types.specs.Span.{inside, cut, over}
+use Rattle.types.specs.Answer.{refuse, accept}
+use Rattle.types.specs.Price.{price}
+use Rattle.types.specs.Fuel.{short, paid}
+use Rattle.types.specs.Grant.{SpanDone, spanDone}
+use Rattle.types.specs.declared.fuel.Fuel.{Fuel}
 use Rattle.types.specs.TableType.{elementMatches}
 use Rattle.table.specs.Table.{soundTable}
 use Rattle.table.specs.declared.table.Table.{Table}

@@ -4,10 +4,10 @@ use mathlib.Core.Bool.{Bool}
 use mathlib.Core.List.{List}
 use lib.Dec.{leb}
 use lib.ListN.{length, getD}
-use Rattle.base.specs.Pick.{pick, both}
-use Rattle.base.specs.Span.{over}
-use Rattle.base.specs.Answer.{refusal, refuse, accept}
-use Rattle.base.specs.declared.answer.Answer.{Answer}
+use Rattle.types.specs.Pick.{pick, both}
+use Rattle.types.specs.Span.{over}
+use Rattle.types.specs.Answer.{refusal, refuse, accept}
+use Rattle.types.specs.declared.answer.Answer.{Answer}
 use Rattle.types.specs.declared.raw.RefType.{RefType}
 use Rattle.table.specs.Table.{soundBuffer}
 use Rattle.table.specs.declared.element.ElementSegment.{ElementSegment}

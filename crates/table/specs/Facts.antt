@@ -1,9 +1,9 @@
 -- What the inner functions of this crate ask of each other, as records of plain facts; no public function asks any.
 use Prim.Native.Nat.{ℕ, _+_, _≤_}
 use mathlib.Core.Path.{_≡_}
-use Rattle.base.specs.declared.fuel.Fuel.{Fuel}
-use Rattle.base.specs.declared.fuel.FuelStep.{FuelStep}
-use Rattle.base.specs.declared.fuel.FuelStep.the-variants.{Done}
+use Rattle.types.specs.declared.fuel.Fuel.{Fuel}
+use Rattle.types.specs.declared.fuel.FuelStep.{FuelStep}
+use Rattle.types.specs.declared.fuel.FuelStep.the-variants.{Done}
 use Rattle.table.specs.declared.table.Table.{Table}
 use Rattle.table.specs.declared.element.ElementSegment.{ElementSegment}
 

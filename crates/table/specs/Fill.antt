@@ -2,13 +2,13 @@
 use Prim.Native.Nat.{ℕ, _+_, _*_}
 use mathlib.Core.List.{List}
 use lib.ListN.{length, replicate}
-use Rattle.base.specs.Pick.{pick, unless}
-use Rattle.base.specs.Span.{inside, over}
-use Rattle.base.specs.Answer.{refuse, accept}
-use Rattle.base.specs.Price.{price}
-use Rattle.base.specs.Fuel.{short, paid}
-use Rattle.base.specs.Grant.{SpanDone, spanDone}
-use Rattle.base.specs.declared.fuel.Fuel.{Fuel}
+use Rattle.types.specs.Pick.{pick, unless}
+use Rattle.types.specs.Span.{inside, over}
+use Rattle.types.specs.Answer.{refuse, accept}
+use Rattle.types.specs.Price.{price}
+use Rattle.types.specs.Fuel.{short, paid}
+use Rattle.types.specs.Grant.{SpanDone, spanDone}
+use Rattle.types.specs.declared.fuel.Fuel.{Fuel}
 use Rattle.types.specs.TableType.{elementMatches}
 use Rattle.types.specs.declared.raw.TypedRawRef.{TypedRawRef}
 use Rattle.table.specs.Table.{soundTable}

@@ -4,15 +4,15 @@ use Prim.Native.Nat.{ℕ, _+_, _*_}
 use mathlib.Core.List.{List}
 use lib.Dec.{eqb, leb, ltb}
 use lib.ListN.{length, replicate}
-use Rattle.base.specs.Pick.{pick, unless}
-use Rattle.base.specs.Span.{over}
-use Rattle.base.specs.Answer.{refuse, accept}
-use Rattle.base.specs.Price.{price}
-use Rattle.base.specs.Fuel.{short, paid}
-use Rattle.base.specs.Limiter.{saysOf, moved, noticed}
-use Rattle.base.specs.declared.answer.Answer.{Answer}
-use Rattle.base.specs.declared.fuel.Fuel.{Fuel}
-use Rattle.base.specs.declared.limiter.Limiter.{Limiter}
+use Rattle.types.specs.Pick.{pick, unless}
+use Rattle.types.specs.Span.{over}
+use Rattle.types.specs.Answer.{refuse, accept}
+use Rattle.types.specs.Price.{price}
+use Rattle.types.specs.Fuel.{short, paid}
+use Rattle.types.specs.Limiter.{saysOf, moved, noticed}
+use Rattle.types.specs.declared.answer.Answer.{Answer}
+use Rattle.types.specs.declared.fuel.Fuel.{Fuel}
+use Rattle.types.specs.declared.limiter.Limiter.{Limiter}
 use Rattle.types.specs.IndexType.{maxSize}
 use Rattle.types.specs.Limits.{admitsOf}
 use Rattle.types.specs.TableType.{elementMatches}

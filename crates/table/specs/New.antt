@@ -4,12 +4,12 @@ use mathlib.Core.Bool.{Bool}
 use mathlib.Core.List.{List}
 use lib.Dec.{eqb, leb}
 use lib.ListN.{length, replicate}
-use Rattle.base.specs.Pick.{pick, unless}
-use Rattle.base.specs.Span.{over}
-use Rattle.base.specs.Answer.{refusal}
-use Rattle.base.specs.Limiter.{saysOf, moved, heardOf}
-use Rattle.base.specs.declared.answer.Refusal.{Refusal}
-use Rattle.base.specs.declared.limiter.Limiter.{Limiter}
+use Rattle.types.specs.Pick.{pick, unless}
+use Rattle.types.specs.Span.{over}
+use Rattle.types.specs.Answer.{refusal}
+use Rattle.types.specs.Limiter.{saysOf, moved, heardOf}
+use Rattle.types.specs.declared.answer.Refusal.{Refusal}
+use Rattle.types.specs.declared.limiter.Limiter.{Limiter}
 use Rattle.types.specs.TableType.{tableType, validTable, elementMatches}
 use Rattle.types.specs.declared.limits.Limits.{Limits}
 use Rattle.types.specs.declared.raw.RefType.{RefType}

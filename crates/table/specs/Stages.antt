@@ -4,18 +4,18 @@ use mathlib.Core.Bool.{Bool}
 use mathlib.Core.List.{List}
 use lib.Dec.{eqb, leb, ltb}
 use lib.ListN.{length, replicate}
-use Rattle.base.specs.Pick.{pick, both}
-use Rattle.base.specs.Span.{inside, cut, over}
-use Rattle.base.specs.Answer.{refusal, refuse, accept}
-use Rattle.base.specs.Price.{price}
-use Rattle.base.specs.Fuel.{consumeIf}
-use Rattle.base.specs.Grant.{grantCreation, grantGrowth, grantSpan, SpanDone, spanDone, spanned}
-use Rattle.base.specs.declared.answer.Answer.the-variants as answer
-use Rattle.base.specs.declared.fuel.Fuel.{Fuel}
-use Rattle.base.specs.declared.grant.Growth.{Growth}
-use Rattle.base.specs.declared.limiter.Limiter.{Limiter}
-use Rattle.base.specs.declared.limiter.Permit.{Permit}
-use Rattle.base.specs.declared.limiter.Permit.the-variants.{Granted, Denied}
+use Rattle.types.specs.Pick.{pick, both}
+use Rattle.types.specs.Span.{inside, cut, over}
+use Rattle.types.specs.Answer.{refusal, refuse, accept}
+use Rattle.types.specs.Price.{price}
+use Rattle.types.specs.Fuel.{consumeIf}
+use Rattle.types.specs.Grant.{grantCreation, grantGrowth, grantSpan, SpanDone, spanDone, spanned}
+use Rattle.types.specs.declared.answer.Answer.the-variants as answer
+use Rattle.types.specs.declared.fuel.Fuel.{Fuel}
+use Rattle.types.specs.declared.grant.Growth.{Growth}
+use Rattle.types.specs.declared.limiter.Limiter.{Limiter}
+use Rattle.types.specs.declared.limiter.Permit.{Permit}
+use Rattle.types.specs.declared.limiter.Permit.the-variants.{Granted, Denied}
 use Rattle.types.specs.IndexType.{maxSize}
 use Rattle.types.specs.Limits.{admitsOf}
 use Rattle.types.specs.TableType.{elementMatches, buildTable}

@@ -4,12 +4,12 @@ use mathlib.Core.Bool.{Bool}
 use mathlib.Core.List.{List}
 use lib.Dec.{leb}
 use lib.ListN.{length, getD, replicate}
-use Rattle.base.specs.Pick.{pick, both}
-use Rattle.base.specs.Span.{inside, over}
+use Rattle.types.specs.Pick.{pick, both}
+use Rattle.types.specs.Span.{inside, over}
 use Rattle.types.specs.Limits.{admitsOf}
 use Rattle.types.specs.TableType.{tableBound, validTable, elementMatches}
-use Rattle.base.specs.Answer.{refuse, accept}
-use Rattle.base.specs.declared.answer.Answer.{Answer}
+use Rattle.types.specs.Answer.{refuse, accept}
+use Rattle.types.specs.declared.answer.Answer.{Answer}
 use Rattle.types.specs.declared.raw.TypedRawRef.{TypedRawRef}
 use Rattle.table.specs.declared.table.Table.{Table}
 

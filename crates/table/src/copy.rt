@@ -2,17 +2,17 @@
 use super::cells;
 use super::table;
 use super::table::Table;
-use base::answer::Answer;
-use base::answer::Value;
-use base::fuel::Fuel;
-use base::fuel::FuelStep;
-use base::grant::Spanned;
+use types::answer::Answer;
+use types::answer::Value;
+use types::fuel::Fuel;
+use types::fuel::FuelStep;
+use types::grant::Spanned;
 use types::raw::RawRef;
 ghost use mathlib.Core.Path.{_≡_};
 ghost use Prim.Native.Nat.{_+_};
 ghost use lib.ListN.{length};
-ghost use Rattle.base.specs.Span.{over, cut};
-ghost use Rattle.base.specs.Grant.{spanDone, spanned};
+ghost use Rattle.types.specs.Span.{over, cut};
+ghost use Rattle.types.specs.Grant.{spanDone, spanned};
 ghost use Rattle.types.specs.Raw.{rawBytes};
 ghost use Rattle.table.specs.Facts.{Goes, Within};
 ghost use Rattle.table.specs.Copy.{roomsApart, soundTwo, copyTable, copyWithin};
@@ -64,7 +64,7 @@ fn copy_span(
     let costs = fuel.costs;
     let ok = table::both_within(i, to.size, j, from.size, n);
     let price = costs.fuel_for_copying_values(n, RawRef::size());
-    let step = base::grant::grant_span(fuel, ok, 12, price);
+    let step = types::grant::grant_span(fuel, ok, 12, price);
     copy_by(step, fuel, to, from, cells, i, j, n)
 }
 
@@ -72,10 +72,10 @@ fn copy_span(
 fn rooms_apart(to: Table, from: Table) -> bool
     ensures { λ r. ⌜ r ≡ roomsApart to from ⌝ }
 {
-    if base::span::within(to.start as u64, to.room, from.start as u64) {
+    if types::span::within(to.start as u64, to.room, from.start as u64) {
         return true;
     }
-    base::span::within(from.start as u64, from.room, to.start as u64)
+    types::span::within(from.start as u64, from.room, to.start as u64)
 }
 
 fn sound_two(to: Table, from: Table, len: usize) -> bool

@@ -1,9 +1,9 @@
 // Element segments: a kind, and items at places of a lent buffer.
 use super::cells;
 use super::table;
-use base::answer::Answer;
-use base::answer::Refusal;
-use base::answer::Value;
+use types::answer::Answer;
+use types::answer::Refusal;
+use types::answer::Value;
 use types::raw::RefType;
 ghost use mathlib.Core.Path.{_≡_};
 ghost use Rattle.table.specs.Element.{soundSegment, dropped, itemOf, done, newSegment};

@@ -2,18 +2,18 @@
 use super::cells;
 use super::table;
 use super::table::Table;
-use base::answer::Answer;
-use base::answer::Value;
-use base::fuel::Fuel;
-use base::fuel::FuelStep;
-use base::grant::Spanned;
+use types::answer::Answer;
+use types::answer::Value;
+use types::fuel::Fuel;
+use types::fuel::FuelStep;
+use types::grant::Spanned;
 use types::raw::RawRef;
 use types::raw::TypedRawRef;
 ghost use mathlib.Core.Path.{_≡_};
 ghost use Prim.Native.Nat.{_+_};
 ghost use lib.ListN.{length, replicate};
-ghost use Rattle.base.specs.Span.{over};
-ghost use Rattle.base.specs.Grant.{spanDone, spanned};
+ghost use Rattle.types.specs.Span.{over};
+ghost use Rattle.types.specs.Grant.{spanDone, spanned};
 ghost use Rattle.types.specs.Raw.{rawBytes};
 ghost use Rattle.table.specs.Facts.{Goes, Within};
 ghost use Rattle.table.specs.Fill.{fillTable};
@@ -53,9 +53,9 @@ fn fill_kind(table: Table, cells: &mut [u64], start: u64, bits: u64, n: u64, fue
     ensures { λ r. ⌜ spanDone (r .answer) (r .fuel) (now (cells .exit)) ≡ fillKind rawBytes table (now (cells .entry)) start bits n fuel ⌝ }
 {
     let costs = fuel.costs;
-    let in_bounds = base::span::within(start, n, table.size);
+    let in_bounds = types::span::within(start, n, table.size);
     let price = costs.fuel_for_copying_values(n, RawRef::size());
-    let step = base::grant::grant_span(fuel, in_bounds, 11, price);
+    let step = types::grant::grant_span(fuel, in_bounds, 11, price);
     fill_by(step, fuel, table, cells, start, bits, n)
 }
 

@@ -1,13 +1,13 @@
 // Growing a table, in the order of checks of document 01: the limiter is asked before the maximum.
 use super::cells;
 use super::table::Table;
-use base::answer::Answer;
-use base::answer::Refusal;
-use base::answer::Value;
-use base::fuel::Fuel;
-use base::grant::Growth;
-use base::limiter::Limiter;
-use base::limiter::Permit;
+use types::answer::Answer;
+use types::answer::Refusal;
+use types::answer::Value;
+use types::fuel::Fuel;
+use types::grant::Growth;
+use types::limiter::Limiter;
+use types::limiter::Permit;
 use types::index_ty::IndexType;
 use types::raw::RawRef;
 use types::raw::TypedRawRef;
@@ -15,8 +15,8 @@ ghost use mathlib.Core.Path.{_≡_};
 ghost use Prim.Native.Nat.{_≤_};
 ghost use lib.Dec.{ltb};
 ghost use lib.ListN.{length};
-ghost use Rattle.base.specs.declared.limiter.Permit.the-variants.{Granted};
-ghost use Rattle.base.specs.Answer.{refuse};
+ghost use Rattle.types.specs.declared.limiter.Permit.the-variants.{Granted};
+ghost use Rattle.types.specs.Answer.{refuse};
 ghost use Rattle.types.specs.IndexType.{maxSize};
 ghost use Rattle.types.specs.Raw.{rawBytes};
 ghost use Rattle.table.specs.Facts.{Roomy, Roomed};
@@ -103,7 +103,7 @@ fn grant(table: Table, size: u64, fuel: Fuel, limiter: Limiter) -> Growth
     let price = costs.fuel_for_copying_values(size - table.size, RawRef::size());
     let admits = limits.admits(size);
     let fits = size <= table.room;
-    base::grant::grant_growth(limiter, fuel, admits, price, fits)
+    types::grant::grant_growth(limiter, fuel, admits, price, fits)
 }
 
 fn grow_to(

@@ -2,9 +2,9 @@
 use super::cells;
 use super::table;
 use super::table::Table;
-use base::answer::Refusal;
-use base::limiter::Limiter;
-use base::limiter::Permit;
+use types::answer::Refusal;
+use types::limiter::Limiter;
+use types::limiter::Permit;
 use types::limits::Limits;
 use types::raw::RefType;
 use types::raw::TypedRawRef;
@@ -13,7 +13,7 @@ use types::table_ty::TableType;
 ghost use mathlib.Core.Path.{_≡_};
 ghost use Prim.Native.Nat.{_+_, _≤_};
 ghost use lib.ListN.{length};
-ghost use Rattle.base.specs.declared.limiter.Permit.the-variants.{Granted};
+ghost use Rattle.types.specs.declared.limiter.Permit.the-variants.{Granted};
 ghost use Rattle.types.specs.TableType.{buildTable};
 ghost use Rattle.table.specs.New.{done, refused, newTable};
 ghost use Rattle.table.specs.Stages.{madeBy, madeOf, byKind, byType};
@@ -92,7 +92,7 @@ fn make_granted(
     requires { ⌜ start + room ≤ length (now cells) ⌝ }
     ensures { λ r. ⌜ done r (now (cells .exit)) ≡ madeOf limiter ty start room bits (now (cells .entry)) ⌝ }
 {
-    let asked = base::grant::grant_creation(limiter, ty.limits.minimum <= room);
+    let asked = types::grant::grant_creation(limiter, ty.limits.minimum <= room);
     let permit = asked.permit;
     let left = asked.limiter;
     make_by(permit, left, ty, start, room, bits, cells)

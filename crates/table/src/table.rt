@@ -1,18 +1,18 @@
 // A table's record: size, soundness, get and set.
 use super::cells;
-use base::answer::Answer;
-use base::answer::Refusal;
-use base::answer::Value;
-use base::fuel::Fuel;
-use base::grant::Spanned;
+use types::answer::Answer;
+use types::answer::Refusal;
+use types::answer::Value;
+use types::fuel::Fuel;
+use types::grant::Spanned;
 use types::raw::TypedRawRef;
 use types::table_ty::TableType;
 ghost use mathlib.Core.Path.{_≡_};
 ghost use lib.Dec.{leb};
 ghost use lib.ListN.{length};
-ghost use Rattle.base.specs.Answer.{refuse};
-ghost use Rattle.base.specs.Pick.{both};
-ghost use Rattle.base.specs.Span.{inside};
+ghost use Rattle.types.specs.Answer.{refuse};
+ghost use Rattle.types.specs.Pick.{both};
+ghost use Rattle.types.specs.Span.{inside};
 ghost use Rattle.types.specs.TableType.{tableBound};
 ghost use Rattle.table.specs.Facts.{Within};
 ghost use Rattle.table.specs.Table.{done, soundBuffer, soundSize, soundTable, getTable, setSound, setTable};
@@ -48,15 +48,15 @@ pub(crate) fn sound_buffer(start: usize, places: u64, len: usize) -> bool
     if 4294967296 < len {
         return false;
     }
-    base::span::within(start as u64, places, len as u64)
+    types::span::within(start as u64, places, len as u64)
 }
 
 // Whether `n` cells lie within sizes `a` from `i` on and `b` from `j` on.
 pub(crate) fn both_within(i: u64, a: u64, j: u64, b: u64, n: u64) -> bool
     ensures { λ r. ⌜ r ≡ both (inside i n a) (inside j n b) ⌝ }
 {
-    if base::span::within(i, n, a) {
-        return base::span::within(j, n, b);
+    if types::span::within(i, n, a) {
+        return types::span::within(j, n, b);
     }
     false
 }

@@ -3,12 +3,12 @@ use Prim.Native.Nat.{ℕ}
 use mathlib.Core.Bool.{Bool, true, false}
 use mathlib.Core.Path.{_≡_}
 use mathlib.Core.List.{List}
-use Rattle.base.specs.Answer.{numberOf, shownOf}
-use Rattle.base.specs.declared.answer.Answer.{Answer}
-use Rattle.base.specs.declared.fuel.Fuel.{Fuel}
-use Rattle.base.specs.declared.fuel.FuelStep.{FuelStep}
-use Rattle.base.specs.declared.fuel.FuelStep.the-variants.{Done, Refused}
-use Rattle.base.specs.Grant.{SpanDone}
+use Rattle.types.specs.Answer.{numberOf, shownOf}
+use Rattle.types.specs.declared.answer.Answer.{Answer}
+use Rattle.types.specs.declared.fuel.Fuel.{Fuel}
+use Rattle.types.specs.declared.fuel.FuelStep.{FuelStep}
+use Rattle.types.specs.declared.fuel.FuelStep.the-variants.{Done, Refused}
+use Rattle.types.specs.Grant.{SpanDone}
 use Rattle.types.specs.IndexType.{indexOf}
 use Rattle.types.specs.declared.memory_ty.PageSize.{PageSize}
 use Rattle.types.specs.declared.memory_ty.PageSize.the-variants.{One, Wasm}

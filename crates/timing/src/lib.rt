@@ -1,8 +1,8 @@
 // Exports for the benches only: each builds the records of one operation from numbers, and leaves what a host would keep.
-use base::fuel::Fuel;
-use base::fuel::FuelCosts;
-use base::fuel::FuelStep;
-use base::limiter::Limiter;
+use types::fuel::Fuel;
+use types::fuel::FuelCosts;
+use types::fuel::FuelStep;
+use types::limiter::Limiter;
 use memory::memory::Memory;
 use table::element::ElementSegment;
 use table::table::Table;
@@ -16,8 +16,8 @@ use types::raw::TypedRawRef;
 use types::table_ty::TableType;
 ghost use mathlib.Core.Path.{_≡_};
 ghost use lib.ListN.{length};
-ghost use Rattle.base.specs.Fuel.{consume};
-ghost use Rattle.base.specs.Limiter.{noLimiter};
+ghost use Rattle.types.specs.Fuel.{consume};
+ghost use Rattle.types.specs.Limiter.{noLimiter};
 ghost use Rattle.types.specs.Raw.{rawBytes};
 ghost use Rattle.memory.specs.Grow.{growMemory};
 ghost use Rattle.memory.specs.Host.{readMemory, writeMemory};

@@ -1,3 +1,15 @@
+pub mod One
+pub mod Picks
+pub mod Prices
+pub mod Floats
+pub mod Signs
+pub mod Scripts
+pub mod Spans
+pub mod Moves
+pub mod Parts
+pub mod Stepping
+pub mod Grants
+pub mod Chains
 pub mod Unique
 pub mod Halves
 pub mod Sizes

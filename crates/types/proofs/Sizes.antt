@@ -13,8 +13,8 @@ use Rattle.types.specs.declared.index_ty.IndexType.{IndexType}
 use Rattle.types.specs.declared.index_ty.IndexType.the-variants.{I32, I64}
 use Rattle.types.specs.declared.memory_ty.MemoryType.{MemoryType}
 use Rattle.types.specs.MemoryType.{log2Of, pageBytes, byteSize, maximumBytes}
-use Rattle.base.proofs.Picks.{pick-true, pick-false}
-use Rattle.base.proofs.Prices.{too-large, product-fits}
+use Rattle.types.proofs.Picks.{pick-true, pick-false}
+use Rattle.types.proofs.Prices.{too-large, product-fits}
 
 pub log2-few : (p : PageSize) → log2Of p < 64
 log2-few One = omega arith

@@ -2,7 +2,7 @@
 use Prim.Native.Nat.{ℕ}
 use mathlib.Core.Bool.{Bool, true}
 use lib.Dec.{leb}
-use Rattle.base.specs.Pick.{pick, both}
+use Rattle.types.specs.Pick.{pick, both}
 use Rattle.types.specs.declared.limits.Limits.{Limits}
 
 -- a size at most the maximum, if there is one

@@ -2,8 +2,8 @@
 use Prim.Native.Nat.{ℕ, _*_, _/_, _^_}
 use mathlib.Core.Bool.{Bool, true, false}
 use lib.Dec.{eqb, ltb}
-use Rattle.base.specs.Pick.{pick, both}
-use Rattle.base.specs.Answer.{refusal}
+use Rattle.types.specs.Pick.{pick, both}
+use Rattle.types.specs.Answer.{refusal}
 use Rattle.types.specs.IndexType.{maxSize, indexOf, sameIndex}
 use Rattle.types.specs.Limits.{validLimits, matchLimits, fromMinimum}
 use Rattle.types.specs.declared.limits.Limits.{Limits}

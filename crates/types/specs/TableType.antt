@@ -1,11 +1,11 @@
 -- WebAssembly Core Specification 3.0, Validation, Types and Matching, table types; document 01, "Types".
 use Prim.Native.Nat.{ℕ, _-_}
 use mathlib.Core.Bool.{Bool}
-use Rattle.base.specs.Pick.{pick, both}
+use Rattle.types.specs.Pick.{pick, both}
 use Rattle.types.specs.IndexType.{maxSize, indexOf, sameIndex}
 use Rattle.types.specs.Limits.{validLimits, matchLimits, fromMinimum}
 use Rattle.types.specs.Raw.{sameKind}
-use Rattle.base.specs.Answer.{refusal}
+use Rattle.types.specs.Answer.{refusal}
 use Rattle.types.specs.declared.limits.Limits.{Limits}
 use Rattle.types.specs.declared.raw.RefType.{RefType}
 use Rattle.types.specs.declared.table_ty.TableType.{TableType}

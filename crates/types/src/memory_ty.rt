@@ -2,7 +2,7 @@
 use super::index_ty::IndexType;
 use super::limits::Limits;
 use super::wide::Wide;
-use base::answer::Refusal;
+use super::answer::Refusal;
 ghost use mathlib.Core.Path.{_≡_};
 ghost use Prim.Native.Nat.{_*_};
 ghost use Rattle.types.specs.MemoryType.{log2Of, pageBytes, pageBound, memoryType, validMemory, buildMemory, validated, byteSize, minimumBytes, maximumBytes, matchMemory, dynamicMemory, samePage};

@@ -3,7 +3,7 @@ use super::index_ty::IndexType;
 use super::limits::Limits;
 use super::raw::RefType;
 use super::wide::Wide;
-use base::answer::Refusal;
+use super::answer::Refusal;
 ghost use mathlib.Core.Path.{_≡_};
 ghost use Rattle.types.specs.TableType.{tableBound, tableType, validTable, validated, buildTable, matchTable, dynamicTable, elementMatches};
 ghost use Rattle.types.specs.Wide.{halves};

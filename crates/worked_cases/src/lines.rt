@@ -1,5 +1,5 @@
 // The line of a case.
-use base::answer::Answer;
+use types::answer::Answer;
 ghost use mathlib.Core.Path.{_≡_};
 
 // The case and a number.

@@ -1,8 +1,8 @@
 // The cases that run on a machine.
 use super::lines::answer_line;
-use base::fuel::FuelCosts;
+use types::fuel::FuelCosts;
 use machine::records::Machine;
-use operations::operation::Operation;
+use machine::operation::Operation;
 
 fn fresh(copied: u32) -> Machine {
     let costs = FuelCosts {

@@ -1,6 +1,6 @@
 // The cases that need no machine: prices, types, and the bound of a table.
 use super::lines::number_line;
-use base::fuel::FuelCosts;
+use types::fuel::FuelCosts;
 use types::index_ty::IndexType;
 use types::limits::Limits;
 use types::memory_ty::BuiltMemory;

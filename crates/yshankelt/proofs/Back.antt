@@ -7,10 +7,10 @@ use native.Mathlib.Omega.{arith}
 use lib.Dec.{eqb}
 use lib.ListN.{length, getD, take, drop, replicate, take-append-drop}
 use borrow.Author.Tests.{eqb-true, eq-eqb, le-leb}
-use Rattle.base.specs.Span.{over}
-use Rattle.base.specs.Limiter.{noLimiter}
-use Rattle.base.proofs.Picks.{both-true, both-1, both-2}
-use Rattle.base.proofs.Spans.{length-over}
+use Rattle.types.specs.Span.{over}
+use Rattle.types.specs.Limiter.{noLimiter}
+use Rattle.types.proofs.Picks.{both-true, both-1, both-2}
+use Rattle.types.proofs.Spans.{length-over}
 use Rattle.types.specs.IndexType.{is64, indexOf}
 use Rattle.types.specs.declared.index_ty.IndexType.{IndexType}
 use Rattle.types.specs.declared.index_ty.IndexType.the-variants.{I32, I64}
@@ -23,7 +23,7 @@ use Rattle.table.specs.declared.table.Table.{Table}
 use Rattle.table.specs.declared.element.ElementSegment.{ElementSegment}
 use Rattle.yshankelt.proofs.Rows.{join}
 use Rattle.machine.specs.Machine.{noMemory, noTable, noSegment, freshMachine}
-use Rattle.operations.specs.Operation.{yes}
+use Rattle.machine.specs.Operation.{yes}
 use Rattle.machine.specs.declared.records.Machine.{Machine}
 use Rattle.lines.specs.Session.{costsOf}
 use Rattle.yshankelt.specs.Words.{rowLength, yesWord, isWasm, pageOf, isExtern, elementOf, rowsOf, wordsOf}

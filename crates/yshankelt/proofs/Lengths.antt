@@ -4,8 +4,8 @@ use lib.ListN.{length}
 use Rattle.memory.specs.declared.memory.Memory.{Memory}
 use Rattle.table.specs.declared.table.Table.{Table}
 use Rattle.table.specs.declared.element.ElementSegment.{ElementSegment}
-use Rattle.base.specs.declared.fuel.Fuel.{Fuel}
-use Rattle.base.specs.declared.limiter.Limiter.{Limiter}
+use Rattle.types.specs.declared.fuel.Fuel.{Fuel}
+use Rattle.types.specs.declared.limiter.Limiter.{Limiter}
 use Rattle.machine.specs.declared.records.Counts.{Counts}
 use Rattle.yshankelt.specs.Words.{memoryWords, tableWords, segmentWords, countWords, fuelWords, placeWords}
 

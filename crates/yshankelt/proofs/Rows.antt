@@ -8,10 +8,10 @@ use native.Mathlib.Numerals.{add-one}
 use lib.ListN.{length, take, drop, set, getD, length-append, drop-of-length-le}
 use lib.Seq.{take-all, drop-cons, length-take-le}
 use borrow.Author.Tests.{eq-eqb, ne-eqb}
-use Rattle.base.specs.Span.{over}
-use Rattle.base.proofs.Picks.{both-left, both-then}
-use Rattle.base.proofs.Spans.{over-nil, over-over}
-use Rattle.base.proofs.Moves.{put-more}
+use Rattle.types.specs.Span.{over}
+use Rattle.types.proofs.Picks.{both-left, both-then}
+use Rattle.types.proofs.Spans.{over-nil, over-over}
+use Rattle.types.proofs.Moves.{put-more}
 use Rattle.yshankelt.specs.Words.{rowsOf, startsWith}
 
 -- a loop that writes a row word by word: before it, a turn, after it

@@ -6,8 +6,8 @@ use mathlib.Core.List.{List}
 use native.Mathlib.Omega.{arith}
 use lib.ListN.{length, replicate}
 use borrow.Author.Tests.{leb-true, le-leb}
-use Rattle.base.proofs.Picks.{pick-true, pick-false, both-left, both-1}
-use Rattle.base.specs.Span.{over}
+use Rattle.types.proofs.Picks.{pick-true, pick-false, both-left, both-1}
+use Rattle.types.specs.Span.{over}
 use Rattle.types.specs.Raw.{rawBytes}
 use Rattle.machine.specs.Machine.{Buffers, buffers}
 use Rattle.machine.specs.declared.records.Machine.{Machine}

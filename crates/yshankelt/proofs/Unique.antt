@@ -3,7 +3,7 @@ use mathlib.Core.Path.{sym, ap, _∙_}
 use mathlib.Core.List.{List}
 use Prim.Native.Nat.{ℕ}
 use denote.Ref.{now}
-use Rattle.base.proofs.One.{One, OneWith}
+use Rattle.types.proofs.One.{One, OneWith}
 use Rattle.machine.specs.Machine.{Buffers, buffers}
 use Rattle.yshankelt.specs.Whole.{Rowed, Call}
 use Rattle.yshankelt.proofs.ysh_load_i32.Reads as ysh-load-i32-reads

@@ -5,10 +5,10 @@ use mathlib.Core.Path.{_≡_}
 use mathlib.Core.List.{List}
 use lib.Dec.{leb, ltb}
 use lib.ListN.{length, replicate}
-use Rattle.base.specs.Pick.{pick, unless, both}
-use Rattle.base.specs.Span.{over}
-use Rattle.base.specs.Answer.{refuse, accept, numberOf, shownOf}
-use Rattle.base.specs.declared.answer.Answer.{Answer}
+use Rattle.types.specs.Pick.{pick, unless, both}
+use Rattle.types.specs.Span.{over}
+use Rattle.types.specs.Answer.{refuse, accept, numberOf, shownOf}
+use Rattle.types.specs.declared.answer.Answer.{Answer}
 use Rattle.types.specs.Raw.{rawBytes}
 use Rattle.memory.specs.Memory.{pagesOf}
 use Rattle.machine.specs.Machine.{Buffers, buffers, memoryAt, tableAt, freshMachine}

@@ -2,14 +2,14 @@
 pub mod whole;
 mod words;
 
-use base::answer::Answer;
-use base::fuel::FuelCosts;
+use types::answer::Answer;
+use types::fuel::FuelCosts;
 use memory::access;
 use memory::access::LoadKind;
 use memory::access::StoreKind;
 ghost use mathlib.Core.Path.{_≡_};
 ghost use Prim.Native.Nat.{_*_};
-ghost use Rattle.base.specs.Price.{price};
+ghost use Rattle.types.specs.Price.{price};
 ghost use Rattle.memory.specs.Access.{load, store};
 ghost use Rattle.memory.specs.declared.access.LoadKind.{LoadKind};
 ghost use Rattle.memory.specs.declared.access.StoreKind.{StoreKind};

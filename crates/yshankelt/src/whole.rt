@@ -1,11 +1,11 @@
 // A whole machine in a row of words that the host owns: made, operated, and asked for its sizes.
 use super::deliver;
 use super::words;
-use base::answer::Answer;
-use base::answer::Refusal;
-use base::answer::Value;
-use base::fuel::Fuel;
-use base::fuel::FuelCosts;
+use types::answer::Answer;
+use types::answer::Refusal;
+use types::answer::Value;
+use types::fuel::Fuel;
+use types::fuel::FuelCosts;
 use lines::code;
 use lines::code::Parsed;
 use lines::line;
@@ -15,8 +15,8 @@ use machine::records::Machine;
 ghost use mathlib.Core.Path.{_≡_};
 ghost use Prim.Native.Nat.{_≤_};
 ghost use lib.ListN.{length, replicate};
-ghost use Rattle.base.specs.Answer.{refuse};
-ghost use Rattle.base.specs.Span.{over};
+ghost use Rattle.types.specs.Answer.{refuse};
+ghost use Rattle.types.specs.Span.{over};
 ghost use Rattle.types.specs.Raw.{rawBytes};
 ghost use Rattle.machine.specs.Machine.{buffers, freshMachine};
 ghost use Rattle.lines.specs.Session.{costsOf, operated};

@@ -1,7 +1,7 @@
 // A machine as a row of words that its host owns: its words written, and the machine that a row says.
-use base::fuel::Fuel;
-use base::fuel::FuelCosts;
-use base::limiter::Limiter;
+use types::fuel::Fuel;
+use types::fuel::FuelCosts;
+use types::limiter::Limiter;
 use machine::records::Counts;
 use machine::records::Machine;
 use memory::memory::Memory;
@@ -16,7 +16,7 @@ use types::table_ty::TableType;
 ghost use mathlib.Core.Path.{_≡_};
 ghost use Prim.Native.Nat.{_+_, _≤_};
 ghost use lib.ListN.{length, replicate};
-ghost use Rattle.base.specs.Span.{over};
+ghost use Rattle.types.specs.Span.{over};
 ghost use Rattle.yshankelt.specs.Words.{rowLength, yesWord, isWasm, pageOf, isExtern, elementOf, memoryWords, tableWords, segmentWords};
 ghost use Rattle.yshankelt.specs.Words.{countWords, fuelWords, placeWords, rowsOf, instanceWords, limiterWords, stateWords, wordsOf};
 ghost use Rattle.yshankelt.specs.Words.{limitsFrom, memoryFrom, tableFrom, segmentFrom, memoriesFrom, tablesFrom, segmentsFrom};

@@ -1,5 +1,5 @@
 -- `timing::settle` meets its contract. Assumes nothing.
-use Rattle.base.specs.Fuel.{left}
+use Rattle.types.specs.Fuel.{left}
 use Rattle.timing.specs.Timing.{stepLeft, stepNumber}
 use borrow.Author.Needs.{needs}
 use Rattle.timing.proofs.settle.Statement.{statement}

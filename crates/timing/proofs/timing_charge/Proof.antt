@@ -1,5 +1,5 @@
 -- `timing::timing_charge` meets its contract. Assumes nothing.
-use Rattle.base.specs.Fuel.{left}
+use Rattle.types.specs.Fuel.{left}
 use borrow.Author.Needs.{needs}
 use Rattle.timing.proofs.timing_charge.Statement.{statement}
 use Rattle.timing.proofs.timing_charge.Tie as tie

@@ -1,5 +1,5 @@
 -- `yshankelt::deliver` meets its contract. Assumes nothing.
-use Rattle.base.specs.Answer.{numberOf}
+use Rattle.types.specs.Answer.{numberOf}
 use Rattle.yshankelt.specs.Face.{delivered}
 use borrow.Author.Needs.{needs}
 use Rattle.yshankelt.proofs.deliver.Statement.{statement}

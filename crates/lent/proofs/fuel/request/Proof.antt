@@ -36,20 +36,20 @@ use denote.Triple.Spec.{Meets, tripleOf}
 use denote.Triple.Table.{entered, cited}
 use denote.Triple.Walked.{says, Stays, stay-ref, stay-none, walkOf, AllGo, goes-none, goes-ref, Walks, ends-at, walked, walk-meets}
 use denote.Exit.{yes}
-use Rattle.base.specs.Fuel.{left}
+use Rattle.types.specs.Fuel.{left}
 use Rattle.lent.specs.Fuel.{requested, leftOf}
-use Rattle.base.specs.declared.fuel.Fuel.{Fuel}
+use Rattle.types.specs.declared.fuel.Fuel.{Fuel}
 use Rattle.lent.specs.declared.fuel.FuelLeft.{FuelLeft}
 use Rattle.lent.specs.declared.fuel.FuelRequest.{FuelRequest}
 use Rattle.lent.proofs.FuelLaws.{request-done}
-use Rattle.base.proofs.fuel.Fuel as T
-use Rattle.base.proofs.fuel.Fuel.Laws as T′
+use Rattle.types.proofs.fuel.Fuel as T
+use Rattle.types.proofs.fuel.Fuel.Laws as T′
 use Rattle.lent.proofs.fuel.FuelLeft as R
 use Rattle.lent.proofs.fuel.FuelLeft.Laws as R′
 use Rattle.lent.proofs.fuel.FuelRequest as Q
 use Rattle.lent.proofs.fuel.FuelRequest.Laws as Q′
-use Rattle.base.proofs.answer.Answer as S
-use Rattle.base.proofs.answer.Answer.Laws as S′
+use Rattle.types.proofs.answer.Answer as S
+use Rattle.types.proofs.answer.Answer.Laws as S′
 use Rattle.lent.proofs.fuel.requested as core
 use Rattle.lent.proofs.fuel.requested.Symbol as core-def
 use Rattle.lent.proofs.fuel.requested.Symbol.{name as #base·requested}

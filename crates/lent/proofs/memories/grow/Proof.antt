@@ -39,20 +39,20 @@ use denote.Triple.Table.{entered, cited}
 use denote.Triple.Walked.{says, Stays, gave-slice, gave-ref, stay-none, walkOf, AllGo, goes-none, goes-gave-ref, goes-gave-slice, Walks, ends-at, walked, walk-meets}
 use denote.Exit.{yes}
 use borrow.Author.Tests.{lt-ltb, le-ltb}
-use Rattle.base.specs.Answer.{refusal, refuse}
+use Rattle.types.specs.Answer.{refusal, refuse}
 use Rattle.lent.specs.Memories.{lentGrown, grownHere, grownAt}
 use Rattle.lent.proofs.MemoryLaws.{grown-inside, grown-outside}
 use Rattle.memory.specs.declared.memory.Memory.{Memory as Rec}
 use Rattle.memory.proofs.memory.Memory as T
-use Rattle.base.specs.declared.fuel.Fuel.{Fuel}
-use Rattle.base.proofs.fuel.Fuel as F
-use Rattle.base.specs.declared.limiter.Limiter.{Limiter}
-use Rattle.base.proofs.limiter.Limiter as Lm
-use Rattle.base.proofs.answer.Refusal as R
-use Rattle.base.proofs.answer.Refusal.Laws as R′
-use Rattle.base.specs.declared.answer.Answer.{Answer}
-use Rattle.base.proofs.answer.Answer as S
-use Rattle.base.proofs.answer.Answer.Laws as S′
+use Rattle.types.specs.declared.fuel.Fuel.{Fuel}
+use Rattle.types.proofs.fuel.Fuel as F
+use Rattle.types.specs.declared.limiter.Limiter.{Limiter}
+use Rattle.types.proofs.limiter.Limiter as Lm
+use Rattle.types.proofs.answer.Refusal as R
+use Rattle.types.proofs.answer.Refusal.Laws as R′
+use Rattle.types.specs.declared.answer.Answer.{Answer}
+use Rattle.types.proofs.answer.Answer as S
+use Rattle.types.proofs.answer.Answer.Laws as S′
 use Rattle.lent.proofs.memories.grow_here as core
 use Rattle.lent.proofs.memories.grow_here.Symbol as core-def
 use Rattle.lent.proofs.memories.grow_here.Symbol.{name as #memory·grow-here}

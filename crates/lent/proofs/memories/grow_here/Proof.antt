@@ -44,7 +44,7 @@ use denote.Triple.Spec.{Meets, tripleOf}
 use denote.Triple.Table.{entered, cited}
 use denote.Triple.Walked.{says, needs, Stays, stay-slice, stay-ref, gave-slice, stay-none, walkOf, AllGo, goes-none, goes-ref, goes-slice, goes-gave-slice, Walks, ends-at, walked, walk-meets}
 use denote.Exit.{yes}
-use Rattle.base.specs.Fuel.{left}
+use Rattle.types.specs.Fuel.{left}
 use Rattle.memory.specs.Memory.{resized}
 use Rattle.memory.specs.Grow.{growMemory}
 use Rattle.lent.specs.Regrown.{rewritten}
@@ -54,17 +54,17 @@ use Rattle.lent.proofs.MemoryLaws.{placed, grown-here}
 use Rattle.memory.specs.declared.memory.Memory.{Memory as Rec}
 use Rattle.memory.proofs.memory.Memory as T
 use Rattle.memory.proofs.memory.Memory.Laws as T′
-use Rattle.base.specs.declared.fuel.Fuel.{Fuel}
-use Rattle.base.proofs.fuel.Fuel as F
-use Rattle.base.proofs.fuel.Fuel.Laws as F′
-use Rattle.base.specs.declared.limiter.Limiter.{Limiter}
-use Rattle.base.proofs.limiter.Limiter as Lm
-use Rattle.base.proofs.limiter.Limiter.Laws as Lm′
+use Rattle.types.specs.declared.fuel.Fuel.{Fuel}
+use Rattle.types.proofs.fuel.Fuel as F
+use Rattle.types.proofs.fuel.Fuel.Laws as F′
+use Rattle.types.specs.declared.limiter.Limiter.{Limiter}
+use Rattle.types.proofs.limiter.Limiter as Lm
+use Rattle.types.proofs.limiter.Limiter.Laws as Lm′
 use Rattle.lent.specs.declared.regrown.Regrown.{Regrown}
 use Rattle.lent.proofs.regrown.Regrown as G
 use Rattle.lent.proofs.regrown.Regrown.Laws as G′
-use Rattle.base.proofs.answer.Answer as S
-use Rattle.base.proofs.answer.Answer.Laws as S′
+use Rattle.types.proofs.answer.Answer as S
+use Rattle.types.proofs.answer.Answer.Laws as S′
 use Rattle.lent.proofs.memories.regrow as core
 use Rattle.lent.proofs.memories.regrow.Symbol as core-def
 use Rattle.lent.proofs.memories.regrow.Symbol.{name as #memory·regrow}

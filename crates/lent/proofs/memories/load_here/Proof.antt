@@ -47,9 +47,9 @@ use Rattle.memory.proofs.memory.Memory.Laws as T′
 use Rattle.memory.specs.declared.access.LoadKind.{LoadKind}
 use Rattle.memory.proofs.access.LoadKind as K
 use Rattle.memory.proofs.access.LoadKind.Laws as K′
-use Rattle.base.specs.declared.answer.Answer.{Answer}
-use Rattle.base.proofs.answer.Answer as S
-use Rattle.base.proofs.answer.Answer.Laws as S′
+use Rattle.types.specs.declared.answer.Answer.{Answer}
+use Rattle.types.proofs.answer.Answer as S
+use Rattle.types.proofs.answer.Answer.Laws as S′
 use Rattle.memory.proofs.memory.Memory.load as core
 use Rattle.memory.proofs.memory.Memory.load.Symbol as core-def
 use Rattle.memory.proofs.memory.Memory.load.Symbol.{name as #memory·memory-load}

@@ -39,7 +39,7 @@ use denote.Triple.Table.{entered, cited}
 use denote.Triple.Walked.{says, Stays, gave-slice, stay-none, stay-none-slice, walkOf, AllGo, goes-none, goes-none-slice, goes-gave-slice, Walks, ends-at, walked, walk-meets}
 use denote.Exit.{yes}
 use borrow.Author.Tests.{lt-ltb, le-ltb}
-use Rattle.base.specs.Answer.{refusal, refuse}
+use Rattle.types.specs.Answer.{refusal, refuse}
 use Rattle.memory.specs.Access as access
 use Rattle.memory.specs.Memory.{storeMemory}
 use Rattle.lent.specs.Memories.{memoryAt, storedAt}
@@ -49,11 +49,11 @@ use Rattle.memory.proofs.memory.Memory as T
 use Rattle.memory.specs.declared.access.StoreKind.{StoreKind}
 use Rattle.memory.proofs.access.StoreKind as K
 use Rattle.memory.proofs.access.StoreKind.Laws as K′
-use Rattle.base.proofs.answer.Refusal as R
-use Rattle.base.proofs.answer.Refusal.Laws as R′
-use Rattle.base.specs.declared.answer.Answer.{Answer}
-use Rattle.base.proofs.answer.Answer as S
-use Rattle.base.proofs.answer.Answer.Laws as S′
+use Rattle.types.proofs.answer.Refusal as R
+use Rattle.types.proofs.answer.Refusal.Laws as R′
+use Rattle.types.specs.declared.answer.Answer.{Answer}
+use Rattle.types.proofs.answer.Answer as S
+use Rattle.types.proofs.answer.Answer.Laws as S′
 use Rattle.lent.proofs.memories.store_here as core
 use Rattle.lent.proofs.memories.store_here.Symbol as core-def
 use Rattle.lent.proofs.memories.store_here.Symbol.{name as #memory·store-here}

@@ -48,9 +48,9 @@ use Rattle.memory.proofs.memory.Memory.Laws as T′
 use Rattle.memory.specs.declared.access.StoreKind.{StoreKind}
 use Rattle.memory.proofs.access.StoreKind as K
 use Rattle.memory.proofs.access.StoreKind.Laws as K′
-use Rattle.base.specs.declared.answer.Answer.{Answer}
-use Rattle.base.proofs.answer.Answer as S
-use Rattle.base.proofs.answer.Answer.Laws as S′
+use Rattle.types.specs.declared.answer.Answer.{Answer}
+use Rattle.types.proofs.answer.Answer as S
+use Rattle.types.proofs.answer.Answer.Laws as S′
 use Rattle.memory.proofs.memory.Memory.store as core
 use Rattle.memory.proofs.memory.Memory.store.Symbol as core-def
 use Rattle.memory.proofs.memory.Memory.store.Symbol.{name as #memory·memory-store}

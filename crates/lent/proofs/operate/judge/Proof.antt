@@ -1,8 +1,8 @@
 -- `lent::operate::judge` meets its contract. Assumes nothing.
 use mathlib.Core.Path.{sym, ap, _∙_}
 use mathlib.Core.Bool.{true}
-use Rattle.base.proofs.Picks.{pick-false, cases}
-use Rattle.base.specs.declared.answer.Answer.{Answer}
+use Rattle.types.proofs.Picks.{pick-false, cases}
+use Rattle.types.specs.declared.answer.Answer.{Answer}
 use Rattle.lent.specs.declared.operate.Verdict.{Verdict}
 use Rattle.lent.specs.Places.{verdict}
 use borrow.Author.Needs.{needs}

@@ -66,15 +66,15 @@ use Rattle.table.proofs.element.ElementSegment.Laws as G′
 use Rattle.lent.specs.declared.operate.Standing.{Standing}
 use Rattle.lent.proofs.operate.Standing as D
 use Rattle.lent.proofs.operate.Standing.Laws as D′
-use Rattle.base.specs.declared.fuel.Fuel.{Fuel}
-use Rattle.base.proofs.fuel.Fuel as F
-use Rattle.base.proofs.fuel.Fuel.Laws as F′
-use Rattle.operations.specs.declared.operation.Operation.{Operation}
-use Rattle.operations.proofs.operation.Operation as P
-use Rattle.operations.proofs.operation.Operation.Laws as P′
-use Rattle.base.specs.declared.answer.Answer.{Answer}
-use Rattle.base.proofs.answer.Answer as S
-use Rattle.base.proofs.answer.Answer.Laws as S′
+use Rattle.types.specs.declared.fuel.Fuel.{Fuel}
+use Rattle.types.proofs.fuel.Fuel as F
+use Rattle.types.proofs.fuel.Fuel.Laws as F′
+use Rattle.machine.specs.declared.operation.Operation.{Operation}
+use Rattle.machine.proofs.operation.Operation as P
+use Rattle.machine.proofs.operation.Operation.Laws as P′
+use Rattle.types.specs.declared.answer.Answer.{Answer}
+use Rattle.types.proofs.answer.Answer as S
+use Rattle.types.proofs.answer.Answer.Laws as S′
 use Rattle.lent.specs.declared.operate.Kept.{Kept}
 use Rattle.lent.proofs.operate.Kept as K
 use Rattle.lent.proofs.operate.Kept.Laws as K′

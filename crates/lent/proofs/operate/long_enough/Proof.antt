@@ -1,5 +1,5 @@
 -- `lent::operate::long_enough` meets its contract. Assumes nothing.
-use Rattle.base.proofs.Picks.{cases}
+use Rattle.types.proofs.Picks.{cases}
 use Rattle.lent.specs.Records.{longEnough}
 use Rattle.lent.proofs.operate.long_enough.Statement.{statement}
 use Rattle.lent.proofs.operate.long_enough.Tie as tie

@@ -1,5 +1,5 @@
 -- `lent::operate::one_more` meets its contract. Assumes nothing.
-use Rattle.base.proofs.Picks.{cases}
+use Rattle.types.proofs.Picks.{cases}
 use Rattle.lent.specs.Places.{oneMore}
 use borrow.Author.Needs.{needs}
 use Rattle.lent.proofs.operate.one_more.Statement.{statement}

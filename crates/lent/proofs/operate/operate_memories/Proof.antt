@@ -59,11 +59,11 @@ use Rattle.table.specs.declared.element.ElementSegment.{ElementSegment}
 use Rattle.table.proofs.element.ElementSegment as G
 use Rattle.lent.specs.declared.operate.Standing.{Standing}
 use Rattle.lent.proofs.operate.Standing as D
-use Rattle.base.specs.declared.fuel.Fuel.{Fuel}
-use Rattle.base.proofs.fuel.Fuel as F
-use Rattle.operations.specs.declared.operation.Operation.{Operation}
-use Rattle.operations.proofs.operation.Operation as P
-use Rattle.operations.proofs.operation.Operation.Laws as P′
+use Rattle.types.specs.declared.fuel.Fuel.{Fuel}
+use Rattle.types.proofs.fuel.Fuel as F
+use Rattle.machine.specs.declared.operation.Operation.{Operation}
+use Rattle.machine.proofs.operation.Operation as P
+use Rattle.machine.proofs.operation.Operation.Laws as P′
 use Rattle.lent.specs.declared.operate.Placed.{Placed}
 use Rattle.lent.proofs.operate.Placed as O
 use Rattle.lent.proofs.operate.Placed.Laws as O′

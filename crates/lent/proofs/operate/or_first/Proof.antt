@@ -1,5 +1,5 @@
 -- `lent::operate::or_first` meets its contract. Assumes nothing.
-use Rattle.base.proofs.Picks.{cases}
+use Rattle.types.proofs.Picks.{cases}
 use Rattle.lent.specs.Places.{orFirst}
 use Rattle.lent.proofs.operate.or_first.Statement.{statement}
 use Rattle.lent.proofs.operate.or_first.Tie as tie

@@ -1,5 +1,5 @@
 -- `lent::operate::or_memory` meets its contract. Assumes nothing.
-use Rattle.base.proofs.Picks.{cases}
+use Rattle.types.proofs.Picks.{cases}
 use Rattle.lent.specs.Places.{orKept}
 use Rattle.lent.proofs.operate.or_memory.Statement.{statement}
 use Rattle.lent.proofs.operate.or_memory.Tie as tie

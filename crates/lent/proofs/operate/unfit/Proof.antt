@@ -1,5 +1,5 @@
 -- `lent::operate::unfit` meets its contract. Assumes nothing.
-use Rattle.base.proofs.Picks.{cases}
+use Rattle.types.proofs.Picks.{cases}
 use Rattle.lent.specs.Records.{unfit}
 use borrow.Author.Needs.{needs}
 use Rattle.lent.proofs.operate.unfit.Statement.{statement}

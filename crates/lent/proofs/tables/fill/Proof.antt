@@ -39,8 +39,8 @@ use denote.Triple.Table.{entered, cited}
 use denote.Triple.Walked.{says, Stays, gave-slice, gave-ref, stay-none, stay-none-slice, walkOf, AllGo, goes-none, goes-gave-ref, goes-none-slice, goes-gave-slice, Walks, ends-at, walked, walk-meets}
 use denote.Exit.{yes}
 use borrow.Author.Tests.{lt-ltb, le-ltb}
-use Rattle.base.specs.Answer.{refusal, refuse}
-use Rattle.base.specs.Grant.{spanDone}
+use Rattle.types.specs.Answer.{refusal, refuse}
+use Rattle.types.specs.Grant.{spanDone}
 use Rattle.types.specs.Raw.{rawBytes}
 use Rattle.table.specs.Fill.{fillTable}
 use Rattle.lent.specs.Tables.{tableAt, filledAt}
@@ -50,13 +50,13 @@ use Rattle.table.proofs.table.Table as T
 use Rattle.types.specs.declared.raw.TypedRawRef.{TypedRawRef}
 use Rattle.types.proofs.raw.TypedRawRef as Rf
 use Rattle.types.proofs.raw.TypedRawRef.Laws as Rf′
-use Rattle.base.specs.declared.fuel.Fuel.{Fuel}
-use Rattle.base.proofs.fuel.Fuel as F
-use Rattle.base.proofs.answer.Refusal as R
-use Rattle.base.proofs.answer.Refusal.Laws as R′
-use Rattle.base.specs.declared.answer.Answer.{Answer}
-use Rattle.base.proofs.answer.Answer as S
-use Rattle.base.proofs.answer.Answer.Laws as S′
+use Rattle.types.specs.declared.fuel.Fuel.{Fuel}
+use Rattle.types.proofs.fuel.Fuel as F
+use Rattle.types.proofs.answer.Refusal as R
+use Rattle.types.proofs.answer.Refusal.Laws as R′
+use Rattle.types.specs.declared.answer.Answer.{Answer}
+use Rattle.types.proofs.answer.Answer as S
+use Rattle.types.proofs.answer.Answer.Laws as S′
 use Rattle.lent.proofs.tables.fill_here as core
 use Rattle.lent.proofs.tables.fill_here.Symbol as core-def
 use Rattle.lent.proofs.tables.fill_here.Symbol.{name as #table·fill-here}

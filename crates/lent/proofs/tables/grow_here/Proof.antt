@@ -40,7 +40,7 @@ use denote.Triple.Spec.{Meets, tripleOf}
 use denote.Triple.Table.{entered, cited}
 use denote.Triple.Walked.{says, needs, Stays, stay-ref, gave-slice, stay-none, walkOf, AllGo, goes-none, goes-ref, goes-gave-slice, Walks, ends-at, walked, walk-meets}
 use denote.Exit.{yes}
-use Rattle.base.specs.Fuel.{left}
+use Rattle.types.specs.Fuel.{left}
 use Rattle.lent.specs.Tables.{resizedOne, grownOne}
 use Rattle.lent.proofs.RecordParts.{grown-answer, grown-left, grown-place, put-left, put-place}
 use Rattle.lent.proofs.MemoryLaws.{placed}
@@ -50,17 +50,17 @@ use Rattle.table.proofs.table.Table as T
 use Rattle.types.specs.declared.raw.TypedRawRef.{TypedRawRef}
 use Rattle.types.proofs.raw.TypedRawRef as Rf
 use Rattle.types.proofs.raw.TypedRawRef.Laws as Rf′
-use Rattle.base.specs.declared.fuel.Fuel.{Fuel}
-use Rattle.base.proofs.fuel.Fuel as F
-use Rattle.base.proofs.fuel.Fuel.Laws as F′
-use Rattle.base.specs.declared.limiter.Limiter.{Limiter}
-use Rattle.base.proofs.limiter.Limiter as Lm
-use Rattle.base.proofs.limiter.Limiter.Laws as Lm′
+use Rattle.types.specs.declared.fuel.Fuel.{Fuel}
+use Rattle.types.proofs.fuel.Fuel as F
+use Rattle.types.proofs.fuel.Fuel.Laws as F′
+use Rattle.types.specs.declared.limiter.Limiter.{Limiter}
+use Rattle.types.proofs.limiter.Limiter as Lm
+use Rattle.types.proofs.limiter.Limiter.Laws as Lm′
 use Rattle.lent.specs.declared.regrown.Regrown.{Regrown}
 use Rattle.lent.proofs.regrown.Regrown as G
 use Rattle.lent.proofs.regrown.Regrown.Laws as G′
-use Rattle.base.proofs.answer.Answer as S
-use Rattle.base.proofs.answer.Answer.Laws as S′
+use Rattle.types.proofs.answer.Answer as S
+use Rattle.types.proofs.answer.Answer.Laws as S′
 use Rattle.lent.proofs.tables.grow_one as core
 use Rattle.lent.proofs.tables.grow_one.Symbol as core-def
 use Rattle.lent.proofs.tables.grow_one.Symbol.{name as #table·grow-one}

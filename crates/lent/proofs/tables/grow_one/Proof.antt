@@ -50,12 +50,12 @@ use Rattle.table.proofs.table.Table.Laws as T′
 use Rattle.types.specs.declared.raw.TypedRawRef.{TypedRawRef}
 use Rattle.types.proofs.raw.TypedRawRef as Rf
 use Rattle.types.proofs.raw.TypedRawRef.Laws as Rf′
-use Rattle.base.specs.declared.fuel.Fuel.{Fuel}
-use Rattle.base.proofs.fuel.Fuel as F
-use Rattle.base.proofs.fuel.Fuel.Laws as F′
-use Rattle.base.specs.declared.limiter.Limiter.{Limiter}
-use Rattle.base.proofs.limiter.Limiter as Lm
-use Rattle.base.proofs.limiter.Limiter.Laws as Lm′
+use Rattle.types.specs.declared.fuel.Fuel.{Fuel}
+use Rattle.types.proofs.fuel.Fuel as F
+use Rattle.types.proofs.fuel.Fuel.Laws as F′
+use Rattle.types.specs.declared.limiter.Limiter.{Limiter}
+use Rattle.types.proofs.limiter.Limiter as Lm
+use Rattle.types.proofs.limiter.Limiter.Laws as Lm′
 use Rattle.lent.specs.declared.regrown.Regrown.{Regrown}
 use Rattle.lent.proofs.regrown.Regrown as G
 use Rattle.lent.proofs.regrown.Regrown.Laws as G′

@@ -39,21 +39,21 @@ use denote.Triple.Table.{entered, cited}
 use denote.Triple.Walked.{says, Stays, gave-slice, gave-ref, stay-none, stay-none-slice, walkOf, AllGo, goes-none, goes-gave-ref, goes-none-slice, goes-gave-slice, Walks, ends-at, walked, walk-meets}
 use denote.Exit.{yes}
 use borrow.Author.Tests.{lt-ltb, le-ltb}
-use Rattle.base.specs.Answer.{refusal, refuse}
-use Rattle.base.specs.Grant.{spanDone}
+use Rattle.types.specs.Answer.{refusal, refuse}
+use Rattle.types.specs.Grant.{spanDone}
 use Rattle.lent.specs.Tables.{initFrom, initAt}
 use Rattle.lent.proofs.TableLaws.{init-inside, init-outside}
 use Rattle.table.specs.declared.table.Table.{Table}
 use Rattle.table.proofs.table.Table as T
 use Rattle.table.specs.declared.element.ElementSegment.{ElementSegment}
 use Rattle.table.proofs.element.ElementSegment as Sg
-use Rattle.base.specs.declared.fuel.Fuel.{Fuel}
-use Rattle.base.proofs.fuel.Fuel as F
-use Rattle.base.proofs.answer.Refusal as R
-use Rattle.base.proofs.answer.Refusal.Laws as R′
-use Rattle.base.specs.declared.answer.Answer.{Answer}
-use Rattle.base.proofs.answer.Answer as S
-use Rattle.base.proofs.answer.Answer.Laws as S′
+use Rattle.types.specs.declared.fuel.Fuel.{Fuel}
+use Rattle.types.proofs.fuel.Fuel as F
+use Rattle.types.proofs.answer.Refusal as R
+use Rattle.types.proofs.answer.Refusal.Laws as R′
+use Rattle.types.specs.declared.answer.Answer.{Answer}
+use Rattle.types.proofs.answer.Answer as S
+use Rattle.types.proofs.answer.Answer.Laws as S′
 use Rattle.lent.proofs.tables.init_from as core
 use Rattle.lent.proofs.tables.init_from.Symbol as core-def
 use Rattle.lent.proofs.tables.init_from.Symbol.{name as #table·init-from}

@@ -42,7 +42,7 @@ use denote.Triple.Spec.{Meets, tripleOf}
 use denote.Triple.Table.{entered, cited}
 use denote.Triple.Walked.{says, needs, Stays, stay-ref, gave-slice, stay-none, stay-none-slice, walkOf, AllGo, goes-none, goes-ref, goes-none-slice, goes-gave-slice, Walks, ends-at, walked, walk-meets}
 use denote.Exit.{yes}
-use Rattle.base.specs.Fuel.{left}
+use Rattle.types.specs.Fuel.{left}
 use Rattle.types.specs.Raw.{rawBytes}
 use Rattle.table.specs.Init.{initTable}
 use Rattle.lent.specs.Tables.{noTable, noSegment, spanLeft, leftBack}
@@ -54,14 +54,14 @@ use Rattle.table.proofs.table.Table.Laws as T′
 use Rattle.table.specs.declared.element.ElementSegment.{ElementSegment}
 use Rattle.table.proofs.element.ElementSegment as Sg
 use Rattle.table.proofs.element.ElementSegment.Laws as Sg′
-use Rattle.base.specs.declared.fuel.Fuel.{Fuel}
-use Rattle.base.proofs.fuel.Fuel as F
-use Rattle.base.proofs.fuel.Fuel.Laws as F′
+use Rattle.types.specs.declared.fuel.Fuel.{Fuel}
+use Rattle.types.proofs.fuel.Fuel as F
+use Rattle.types.proofs.fuel.Fuel.Laws as F′
 use Rattle.lent.specs.declared.fuel.FuelLeft.{FuelLeft}
 use Rattle.lent.proofs.fuel.FuelLeft as B
 use Rattle.lent.proofs.fuel.FuelLeft.Laws as B′
-use Rattle.base.proofs.answer.Answer as S
-use Rattle.base.proofs.answer.Answer.Laws as S′
+use Rattle.types.proofs.answer.Answer as S
+use Rattle.types.proofs.answer.Answer.Laws as S′
 use Rattle.lent.proofs.tables.init_left as core
 use Rattle.lent.proofs.tables.init_left.Symbol as core-def
 use Rattle.lent.proofs.tables.init_left.Symbol.{name as #table·init-left}

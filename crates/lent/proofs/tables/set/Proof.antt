@@ -39,7 +39,7 @@ use denote.Triple.Table.{entered, cited}
 use denote.Triple.Walked.{says, Stays, gave-slice, stay-none, stay-none-slice, walkOf, AllGo, goes-none, goes-none-slice, goes-gave-slice, Walks, ends-at, walked, walk-meets}
 use denote.Exit.{yes}
 use borrow.Author.Tests.{lt-ltb, le-ltb}
-use Rattle.base.specs.Answer.{refusal, refuse}
+use Rattle.types.specs.Answer.{refusal, refuse}
 use Rattle.table.specs.Table as table
 use Rattle.lent.specs.Tables.{tableAt, setAt}
 use Rattle.lent.proofs.TableLaws.{set-inside, set-outside}
@@ -48,11 +48,11 @@ use Rattle.table.proofs.table.Table as T
 use Rattle.types.specs.declared.raw.TypedRawRef.{TypedRawRef}
 use Rattle.types.proofs.raw.TypedRawRef as Rf
 use Rattle.types.proofs.raw.TypedRawRef.Laws as Rf′
-use Rattle.base.proofs.answer.Refusal as R
-use Rattle.base.proofs.answer.Refusal.Laws as R′
-use Rattle.base.specs.declared.answer.Answer.{Answer}
-use Rattle.base.proofs.answer.Answer as S
-use Rattle.base.proofs.answer.Answer.Laws as S′
+use Rattle.types.proofs.answer.Refusal as R
+use Rattle.types.proofs.answer.Refusal.Laws as R′
+use Rattle.types.specs.declared.answer.Answer.{Answer}
+use Rattle.types.proofs.answer.Answer as S
+use Rattle.types.proofs.answer.Answer.Laws as S′
 use Rattle.lent.proofs.tables.set_here as core
 use Rattle.lent.proofs.tables.set_here.Symbol as core-def
 use Rattle.lent.proofs.tables.set_here.Symbol.{name as #table·set-here}

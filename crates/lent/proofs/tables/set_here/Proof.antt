@@ -47,9 +47,9 @@ use Rattle.table.proofs.table.Table.Laws as T′
 use Rattle.types.specs.declared.raw.TypedRawRef.{TypedRawRef}
 use Rattle.types.proofs.raw.TypedRawRef as Rf
 use Rattle.types.proofs.raw.TypedRawRef.Laws as Rf′
-use Rattle.base.specs.declared.answer.Answer.{Answer}
-use Rattle.base.proofs.answer.Answer as S
-use Rattle.base.proofs.answer.Answer.Laws as S′
+use Rattle.types.specs.declared.answer.Answer.{Answer}
+use Rattle.types.proofs.answer.Answer as S
+use Rattle.types.proofs.answer.Answer.Laws as S′
 use Rattle.table.proofs.table.Table.set as core
 use Rattle.table.proofs.table.Table.set.Symbol as core-def
 use Rattle.table.proofs.table.Table.set.Symbol.{name as #table·table-set}

@@ -1,5 +1,5 @@
 -- `lines::answer_line::fuel_shown` meets its contract. Assumes nothing.
-use Rattle.base.proofs.Picks.{cases}
+use Rattle.types.proofs.Picks.{cases}
 use Rattle.lines.specs.AnswerLine.{fuelShown}
 use Rattle.lines.proofs.answer_line.fuel_shown.Statement.{statement}
 use Rattle.lines.proofs.answer_line.fuel_shown.Tie as tie

@@ -1,5 +1,5 @@
 -- `lines::answer_line::write_answer_line` meets its contract. Assumes nothing.
-use Rattle.base.proofs.Picks.{cases}
+use Rattle.types.proofs.Picks.{cases}
 use Rattle.lines.proofs.Writing.{room-for}
 use Rattle.lines.specs.Written.{answeredOf}
 use borrow.Author.Needs.{needs}

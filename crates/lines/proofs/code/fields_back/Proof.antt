@@ -1,5 +1,5 @@
 -- `lines::code::fields_back` meets its contract. Assumes nothing.
-use Rattle.base.specs.Span.{over}
+use Rattle.types.specs.Span.{over}
 use Rattle.lines.specs.Line.{filled}
 use Rattle.lines.specs.Code.{codeOf, fieldsBack}
 use Rattle.lines.specs.Written.{backOf}

@@ -1,6 +1,6 @@
 -- `lines::code::operation_by` meets its contract. Assumes nothing.
 use mathlib.Core.Path.{refl}
-use Rattle.base.specs.Pick.{pick}
+use Rattle.types.specs.Pick.{pick}
 use Rattle.lines.proofs.CodeLaws.{byCode, by-code, by-none}
 use borrow.Author.Needs.{needs}
 use Rattle.lines.proofs.code.operation_by.Statement.{statement}

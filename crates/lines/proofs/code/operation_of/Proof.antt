@@ -1,5 +1,5 @@
 -- `lines::code::operation_of` meets its contract. Assumes nothing.
-use Rattle.base.proofs.Picks.{cases}
+use Rattle.types.proofs.Picks.{cases}
 use Rattle.lines.specs.Code.{operationOf}
 use borrow.Author.Needs.{needs}
 use Rattle.lines.proofs.code.operation_of.Statement.{statement}

@@ -1,5 +1,5 @@
 -- `lines::code::segment_of` meets its contract. Assumes nothing.
-use Rattle.base.proofs.Picks.{cases}
+use Rattle.types.proofs.Picks.{cases}
 use Rattle.lines.specs.Code.{segmentOf}
 use borrow.Author.Needs.{needs}
 use Rattle.lines.proofs.code.segment_of.Statement.{statement}

@@ -1,5 +1,5 @@
 -- `lines::code::taking` meets its contract. Assumes nothing.
-use Rattle.base.proofs.Picks.{cases}
+use Rattle.types.proofs.Picks.{cases}
 use Rattle.lines.specs.Code.{taking}
 use Rattle.lines.proofs.code.taking.Statement.{statement}
 use Rattle.lines.proofs.code.taking.Tie as tie

@@ -5,7 +5,7 @@ use native.Mathlib.Omega.{arith}
 use borrow.Author.Needs.{needs}
 use lib.ListN.{length}
 use Rattle.lines.specs.Hex.{hexText}
-use Rattle.base.specs.Span.{over}
+use Rattle.types.specs.Span.{over}
 use Rattle.lines.proofs.Writing.{put-on, put-end}
 use Rattle.lines.proofs.field.put_hex.Statement.{statement}
 use Rattle.lines.proofs.field.put_hex.Tie as tie

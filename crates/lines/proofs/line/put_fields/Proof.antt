@@ -4,7 +4,7 @@ use Prim.Native.Nat.{_≤_, _+_, _-_, _*_}
 use native.Mathlib.Omega.{arith}
 use borrow.Author.Needs.{needs}
 use lib.ListN.{length, take, length-set}
-use Rattle.base.specs.Span.{over}
+use Rattle.types.specs.Span.{over}
 use Rattle.lines.specs.Line.{fieldsText}
 use Rattle.lines.proofs.Writing.{fields-none, fields-put, fields-all}
 use Rattle.lines.proofs.line.put_fields.Statement.{statement}

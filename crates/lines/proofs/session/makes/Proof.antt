@@ -1,7 +1,7 @@
 use mathlib.Core.Path.{_≡_, refl, sym, ap, _∙_}
 use borrow.Author.Tests.{lt-ltb, le-ltb, eq-eqb, ne-eqb, not-true, not-false}
-use Rattle.base.proofs.Picks.{both-left, both-then}
-use Rattle.operations.specs.Operation.{binary}
+use Rattle.types.proofs.Picks.{both-left, both-then}
+use Rattle.machine.specs.Operation.{binary}
 use Rattle.lines.specs.Session.{makes}
 use borrow.Author.Needs.{needs}
 use Rattle.lines.proofs.session.makes.Statement.{statement}

@@ -2,7 +2,7 @@
 use Prim.Native.Nat.{ℕ}
 use Rattle.types.specs.declared.limits.Limits.{Limits}
 use Rattle.types.specs.MemoryType.{buildMemory}
-use Rattle.operations.specs.Operation.{yes, exponentOf}
+use Rattle.machine.specs.Operation.{yes, exponentOf}
 use Rattle.machine.specs.Step.{linked}
 use mathlib.Core.Path.{ap, _∙_}
 use borrow.Author.Needs.{needs}

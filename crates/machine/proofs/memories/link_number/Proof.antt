@@ -1,6 +1,6 @@
 -- `machine::memories::link_number` meets its contract. Assumes nothing.
-use Rattle.base.specs.Answer.{accept}
-use Rattle.base.proofs.Picks.{pick-true, pick-false}
+use Rattle.types.specs.Answer.{accept}
+use Rattle.types.proofs.Picks.{pick-true, pick-false}
 use mathlib.Core.Path.{sym, ap}
 use Rattle.machine.proofs.memories.link_number.Statement.{statement}
 use Rattle.machine.proofs.memories.link_number.Tie as tie

@@ -1,6 +1,6 @@
 -- `machine::memories::linked` meets its contract. Assumes nothing.
-use Rattle.base.specs.Answer.{accept}
-use Rattle.base.specs.Pick.{pick}
+use Rattle.types.specs.Answer.{accept}
+use Rattle.types.specs.Pick.{pick}
 use mathlib.Core.Bool.{Bool}
 use Rattle.machine.specs.Step.{linked}
 use mathlib.Core.Path.{refl, ap, _∙_}

@@ -1,5 +1,5 @@
 -- `machine::records::finds_room` meets its contract. Assumes nothing.
-use Rattle.base.proofs.Picks.{cases}
+use Rattle.types.proofs.Picks.{cases}
 use Rattle.machine.proofs.records.finds_room.Statement.{statement}
 use Rattle.machine.proofs.records.finds_room.Tie as tie
 

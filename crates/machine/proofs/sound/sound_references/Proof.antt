@@ -1,6 +1,6 @@
 -- `machine::sound::sound_references` meets its contract. Assumes nothing.
 use Rattle.machine.specs.Sound.{soundReferences}
-use Rattle.base.proofs.Picks.{cases}
+use Rattle.types.proofs.Picks.{cases}
 use Rattle.machine.proofs.sound.sound_references.Statement.{statement}
 use Rattle.machine.proofs.sound.sound_references.Tie as tie
 

@@ -2,7 +2,7 @@
 use Prim.Native.Nat.{_*_, _+_, _-_, _<_, _^_, _≤_}
 use Rattle.memory.proofs.Bytes.{load-all, load-more, load-none, load-room, load-small, load-zero}
 use Rattle.memory.specs.LittleEndian.{leValue}
-use Rattle.base.specs.Span.{cut}
+use Rattle.types.specs.Span.{cut}
 use borrow.Author.Needs.{needs}
 use mathlib.Core.Path.{_≡_}
 use native.Mathlib.Omega.{arith}

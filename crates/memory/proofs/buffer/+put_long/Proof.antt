@@ -1,6 +1,6 @@
 -- `memory::buffer::put_long` meets its contract. The measure is the length. Assumes nothing.
 use Prim.Native.Nat.{ℕ, _-_, _/_, _<_}
-use Rattle.base.proofs.Parts.{high-less, low-less, parts-same, two-parts}
+use Rattle.types.proofs.Parts.{high-less, low-less, parts-same, two-parts}
 use borrow.Author.Needs.{needs}
 use borrow.Fn.Kinds.{In}
 use borrow.Rule.Slice.PartMut.{putMid}

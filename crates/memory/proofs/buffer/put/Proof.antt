@@ -1,7 +1,7 @@
 -- `memory::buffer::put` meets its contract. Assumes nothing.
 use Prim.Native.Nat.{_-_, _≤_}
-use Rattle.base.proofs.Moves.{put-all, put-none, put-turn}
-use Rattle.base.specs.Span.{over}
+use Rattle.types.proofs.Moves.{put-all, put-none, put-turn}
+use Rattle.types.specs.Span.{over}
 use borrow.Author.Needs.{needs}
 use lib.ListN.{length, length-set, take}
 use mathlib.Core.Path.{_≡_, refl}

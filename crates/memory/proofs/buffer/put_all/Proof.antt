@@ -1,5 +1,5 @@
 -- `memory::buffer::put_all` meets its contract. Assumes nothing.
-use Rattle.base.proofs.Parts.{part-all}
+use Rattle.types.proofs.Parts.{part-all}
 use borrow.Author.Needs.{needs}
 use mathlib.Core.Path.{_∙_}
 use Rattle.memory.proofs.buffer.put_all.Statement.{statement}

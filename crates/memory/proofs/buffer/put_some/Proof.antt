@@ -1,5 +1,5 @@
 -- `memory::buffer::put_some` meets its contract. Assumes nothing.
-use Rattle.base.proofs.Moves.{long}
+use Rattle.types.proofs.Moves.{long}
 use borrow.Author.Needs.{needs}
 use mathlib.Core.Path.{sym}
 use Rattle.memory.proofs.buffer.put_some.Statement.{statement}

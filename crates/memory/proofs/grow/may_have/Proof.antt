@@ -1,6 +1,6 @@
 -- `memory::grow::may_have` meets its contract. Assumes nothing.
 use Rattle.memory.proofs.Growths.{may-by, may-not}
-use Rattle.base.proofs.Picks.{known-test}
+use Rattle.types.proofs.Picks.{known-test}
 use Rattle.types.proofs.Sizes.{page-pos}
 use borrow.Author.Needs.{needs}
 use borrow.Author.Tests.{not-false, not-true}

@@ -1,9 +1,9 @@
 -- `memory::new::new_memory` meets its contract. Assumes nothing.
 use Rattle.memory.proofs.Stages.{created-as}
 use Rattle.memory.proofs.Readings.{new-goes, new-stops}
-use Rattle.base.proofs.Picks.{known-test}
-use Rattle.base.proofs.Spans.{within-is}
-use Rattle.base.specs.Span.{inside}
+use Rattle.types.proofs.Picks.{known-test}
+use Rattle.types.proofs.Spans.{within-is}
+use Rattle.types.specs.Span.{inside}
 use borrow.Author.Needs.{needs}
 use Rattle.memory.proofs.new.new_memory.Statement.{statement}
 use Rattle.memory.proofs.new.new_memory.Tie as tie

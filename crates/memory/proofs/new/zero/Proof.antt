@@ -1,5 +1,5 @@
 -- `memory::new::zero` meets its contract. Assumes nothing.
-use Rattle.base.proofs.Moves.{put-fill}
+use Rattle.types.proofs.Moves.{put-fill}
 use borrow.Author.Needs.{needs}
 use Rattle.memory.proofs.new.zero.Statement.{statement}
 use Rattle.memory.proofs.new.zero.Tie as tie

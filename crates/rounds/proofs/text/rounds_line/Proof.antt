@@ -1,9 +1,9 @@
 -- `rounds::text::rounds_line` meets its contract. Assumes nothing.
 use mathlib.Core.Path.{ap, _∙_}
 use mathlib.Core.Bool.{true}
-use Rattle.base.specs.Fuel.{newFuel, defaultCosts}
-use Rattle.base.specs.declared.answer.Answer.{Answer}
-use Rattle.base.specs.declared.fuel.Fuel.{Fuel}
+use Rattle.types.specs.Fuel.{newFuel, defaultCosts}
+use Rattle.types.specs.declared.answer.Answer.{Answer}
+use Rattle.types.specs.declared.fuel.Fuel.{Fuel}
 use Rattle.rounds.specs.Text.{echoOf}
 use Rattle.rounds.proofs.Written.{answered-as}
 use borrow.Author.Needs.{needs}

@@ -2,8 +2,8 @@
 use mathlib.Core.Path.{sym, ap, _∙_}
 use mathlib.Core.Bool.{true}
 use Rattle.machine.specs.Machine.{freshMachine}
-use Rattle.base.specs.Fuel.{defaultCosts}
-use Rattle.base.specs.declared.fuel.FuelCosts.{FuelCosts}
+use Rattle.types.specs.Fuel.{defaultCosts}
+use Rattle.types.specs.declared.fuel.FuelCosts.{FuelCosts}
 use Rattle.lines.specs.Progress.{Progressed}
 use Rattle.rounds.proofs.Written.{started, pieced}
 use borrow.Author.Needs.{needs}

@@ -1,6 +1,6 @@
 -- `table::cells::move_long` meets its contract. The measure is the number of cells. Assumes nothing.
 use Prim.Native.Nat.{ℕ, _-_, _/_, _<_}
-use Rattle.base.proofs.Moves.{back-end, forth-on}
+use Rattle.types.proofs.Moves.{back-end, forth-on}
 use borrow.Author.Needs.{needs}
 use borrow.Fn.Kinds.{In}
 use borrow.Fn.PlainCycle.{Measures, is, falls, and}

@@ -1,5 +1,5 @@
 -- `table::cells::clear_cells` meets its contract. Assumes nothing.
-use Rattle.base.proofs.Moves.{put-fill}
+use Rattle.types.proofs.Moves.{put-fill}
 use borrow.Author.Needs.{needs}
 use Rattle.table.proofs.cells.clear_cells.Statement.{statement}
 use Rattle.table.proofs.cells.clear_cells.Tie as tie

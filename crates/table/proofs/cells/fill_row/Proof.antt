@@ -1,7 +1,7 @@
 -- `table::cells::fill_row` meets its contract. Assumes nothing.
 use Prim.Native.Nat.{_-_, _≤_}
 use Rattle.table.proofs.Puts.{copy-on, fill-again, fill-here}
-use Rattle.base.specs.Span.{over}
+use Rattle.types.specs.Span.{over}
 use borrow.Author.Needs.{needs}
 use lib.ListN.{length, replicate}
 use mathlib.Core.Path.{_≡_, refl}

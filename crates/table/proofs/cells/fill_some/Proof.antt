@@ -1,5 +1,5 @@
 -- `table::cells::fill_some` meets its contract. Assumes nothing.
-use Rattle.base.proofs.Moves.{put-fill}
+use Rattle.types.proofs.Moves.{put-fill}
 use borrow.Author.Needs.{needs}
 use Rattle.table.proofs.cells.fill_some.Statement.{statement}
 use Rattle.table.proofs.cells.fill_some.Tie as tie

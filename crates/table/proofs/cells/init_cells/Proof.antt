@@ -1,5 +1,5 @@
 -- `table::cells::init_cells` meets its contract. Assumes nothing.
-use Rattle.base.proofs.Moves.{put-cut}
+use Rattle.types.proofs.Moves.{put-cut}
 use borrow.Author.Needs.{needs}
 use Rattle.table.proofs.cells.init_cells.Statement.{statement}
 use Rattle.table.proofs.cells.init_cells.Tie as tie

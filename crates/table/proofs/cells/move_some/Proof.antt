@@ -1,5 +1,5 @@
 -- `table::cells::move_some` meets its contract. Assumes nothing.
-use Rattle.base.proofs.Moves.{long}
+use Rattle.types.proofs.Moves.{long}
 use borrow.Author.Needs.{needs}
 use mathlib.Core.Path.{_∙_, sym}
 use native.Mathlib.Omega.{arith}

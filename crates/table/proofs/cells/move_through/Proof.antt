@@ -1,5 +1,5 @@
 -- `table::cells::move_through` meets its contract. Assumes nothing.
-use Rattle.base.proofs.Moves.{through}
+use Rattle.types.proofs.Moves.{through}
 use borrow.Author.Needs.{needs}
 use lib.ListN.{length}
 use mathlib.Core.Path.{_∙_}

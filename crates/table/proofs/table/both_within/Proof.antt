@@ -1,5 +1,5 @@
 -- `table::table::both_within` meets its contract. Assumes nothing.
-use Rattle.base.proofs.Picks.{cases}
+use Rattle.types.proofs.Picks.{cases}
 use borrow.Author.Needs.{needs}
 use Rattle.table.proofs.table.both_within.Statement.{statement}
 use Rattle.table.proofs.table.both_within.Tie as tie

@@ -1,6 +1,6 @@
 -- `table::table::sound_buffer` meets its contract. Assumes nothing.
 use Rattle.table.specs.Table.{soundBuffer}
-use Rattle.base.proofs.Picks.{cases}
+use Rattle.types.proofs.Picks.{cases}
 use borrow.Author.Needs.{needs}
 use Rattle.table.proofs.table.sound_buffer.Statement.{statement}
 use Rattle.table.proofs.table.sound_buffer.Tie as tie

@@ -1,6 +1,6 @@
 -- `yshankelt::whole::cells_in` meets its contract. Assumes nothing.
 use mathlib.Core.Path.{sym, _∙_}
-use Rattle.base.proofs.Picks.{pick-true, pick-false, both-true, both-left, both-right}
+use Rattle.types.proofs.Picks.{pick-true, pick-false, both-true, both-left, both-right}
 use borrow.Author.Tests.{lt-ltb, le-ltb}
 use Rattle.yshankelt.specs.Whole.{cellsIn}
 use borrow.Author.Needs.{needs}

@@ -1,6 +1,6 @@
 -- `yshankelt::whole::fuel_left` meets its contract. Assumes nothing.
 use Rattle.lines.specs.AnswerLine.{fuelShown}
-use Rattle.base.proofs.Picks.{cases}
+use Rattle.types.proofs.Picks.{cases}
 use Rattle.yshankelt.proofs.whole.fuel_left.Statement.{statement}
 use Rattle.yshankelt.proofs.whole.fuel_left.Tie as tie
 

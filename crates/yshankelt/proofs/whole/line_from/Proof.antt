@@ -3,7 +3,7 @@ use mathlib.Core.Path.{sym, ap, _∙_}
 use Prim.Native.Nat.{ℕ}
 use mathlib.Core.List.{List}
 use lib.ListN.{length}
-use Rattle.base.proofs.Picks.{pick-true, pick-false}
+use Rattle.types.proofs.Picks.{pick-true, pick-false}
 use borrow.Author.Tests.{lt-leb, le-leb}
 use Rattle.yshankelt.specs.Whole.{lineFrom, goodLine}
 use borrow.Author.Needs.{needs}

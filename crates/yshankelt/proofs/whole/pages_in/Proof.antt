@@ -1,7 +1,7 @@
 -- `yshankelt::whole::pages_in` meets its contract. Assumes nothing.
 use mathlib.Core.Path.{sym, ap, _∙_}
-use Rattle.base.specs.Answer.{accept}
-use Rattle.base.proofs.Picks.{pick-true, pick-false, both-true, both-left, both-right}
+use Rattle.types.specs.Answer.{accept}
+use Rattle.types.proofs.Picks.{pick-true, pick-false, both-true, both-left, both-right}
 use borrow.Author.Tests.{lt-ltb, le-ltb}
 use Rattle.yshankelt.specs.Whole.{pagesIn}
 use borrow.Author.Needs.{needs}

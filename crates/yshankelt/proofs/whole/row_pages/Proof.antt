@@ -1,6 +1,6 @@
 -- `yshankelt::whole::row_pages` meets its contract. Assumes nothing.
 use mathlib.Core.Path.{sym, ap, _∙_}
-use Rattle.base.proofs.Picks.{pick-true, pick-false}
+use Rattle.types.proofs.Picks.{pick-true, pick-false}
 use borrow.Author.Tests.{not-true, not-false}
 use Rattle.machine.specs.declared.records.Machine.{Machine}
 use Rattle.yshankelt.specs.Whole.{rowPages, pagesIn}

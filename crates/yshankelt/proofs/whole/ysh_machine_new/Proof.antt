@@ -1,8 +1,8 @@
 -- `yshankelt::whole::ysh_machine_new` meets its contract. Assumes nothing.
 use mathlib.Core.Path.{sym, ap, _∙_}
-use Rattle.base.proofs.Picks.{pick-true, pick-false}
+use Rattle.types.proofs.Picks.{pick-true, pick-false}
 use borrow.Author.Tests.{lt-leb, le-leb}
-use Rattle.base.specs.Span.{over}
+use Rattle.types.specs.Span.{over}
 use Rattle.machine.specs.declared.records.Machine.{Machine}
 use Rattle.yshankelt.specs.Words.{wordsOf}
 use Rattle.yshankelt.specs.Whole.{rowed, freshRow}

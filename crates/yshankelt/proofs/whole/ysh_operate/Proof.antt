@@ -1,7 +1,7 @@
 -- `yshankelt::whole::ysh_operate` meets its contract. Assumes nothing.
 use mathlib.Core.Path.{sym, _∙_}
 use denote.Ref.{now}
-use Rattle.base.proofs.Picks.{pick-false}
+use Rattle.types.proofs.Picks.{pick-false}
 use borrow.Author.Tests.{not-true, not-false}
 use Rattle.yshankelt.specs.Whole.{operateOf}
 use Rattle.yshankelt.proofs.Tells.{in-length, operate-in}

@@ -1,7 +1,7 @@
 -- `yshankelt::words::in_form` meets its contract. Assumes nothing.
 use mathlib.Core.Path.{sym, _∙_}
 use borrow.Author.Tests.{lt-leb, le-leb}
-use Rattle.base.proofs.Picks.{both-left, both-then}
+use Rattle.types.proofs.Picks.{both-left, both-then}
 use Rattle.yshankelt.specs.Words.{inForm}
 use borrow.Author.Needs.{needs}
 use Rattle.yshankelt.proofs.words.in_form.Statement.{statement}

@@ -1,7 +1,7 @@
 -- `yshankelt::words::put` meets its contract. Assumes nothing.
 use Prim.Native.Nat.{_-_, _≤_}
 use Rattle.yshankelt.proofs.Rows.{put-none, put-turn, put-done}
-use Rattle.base.specs.Span.{over}
+use Rattle.types.specs.Span.{over}
 use borrow.Author.Needs.{needs}
 use lib.ListN.{length, length-set, take}
 use mathlib.Core.Path.{_≡_, refl}

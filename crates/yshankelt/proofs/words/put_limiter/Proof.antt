@@ -1,7 +1,7 @@
 -- `yshankelt::words::put_limiter` meets its contract. Assumes nothing.
 use mathlib.Core.Path.{_≡_, refl, sym, ap, _∙_}
 use native.Mathlib.Omega.{arith}
-use Rattle.base.specs.Span.{over}
+use Rattle.types.specs.Span.{over}
 use lib.ListN.{length, length-map}
 use Rattle.yshankelt.specs.Words.{placeWords}
 use Rattle.yshankelt.proofs.Rows.{then-over, length-both}

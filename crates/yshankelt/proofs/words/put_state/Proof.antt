@@ -3,7 +3,7 @@ use mathlib.Core.List.{_++_}
 use Rattle.yshankelt.specs.Words.{countWords, fuelWords, limiterWords}
 use mathlib.Core.Path.{refl, ap, _∙_}
 use native.Mathlib.Omega.{arith}
-use Rattle.base.specs.Span.{over}
+use Rattle.types.specs.Span.{over}
 use Rattle.yshankelt.proofs.Rows.{then-both, length-both}
 use Rattle.yshankelt.proofs.Lengths.{length-count, length-fuel}
 use borrow.Author.Needs.{needs}

@@ -4,7 +4,7 @@ use Rattle.machine.specs.Machine.{noTable}
 use Rattle.yshankelt.specs.Words.{tableWords, rowsOf}
 use Rattle.yshankelt.proofs.Rows.{rows-none, rows-turn, rows-done, rows-length}
 use Rattle.yshankelt.proofs.Lengths.{length-table}
-use Rattle.base.specs.Span.{over}
+use Rattle.types.specs.Span.{over}
 use borrow.Author.Needs.{needs}
 use lib.ListN.{length, take}
 use mathlib.Core.Path.{_≡_, refl, _∙_}

@@ -1,6 +1,6 @@
 -- `machine::records::Machine::add_memory` meets its contract. Assumes nothing.
 use Rattle.machine.specs.Outcome.{changed}
-use Rattle.base.proofs.Picks.{cases}
+use Rattle.types.proofs.Picks.{cases}
 use borrow.Author.Needs.{needs}
 use Rattle.machine.proofs.records.Machine.add_memory.Statement.{statement}
 use Rattle.machine.proofs.records.Machine.add_memory.Tie as tie

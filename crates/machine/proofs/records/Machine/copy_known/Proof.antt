@@ -6,7 +6,7 @@ use Rattle.machine.specs.Step.{spannedOn, copyKnown}
 use Rattle.table.specs.declared.table.Table.{Table}
 use denote.Ref.{now}
 use borrow.Author.Tests.{eq-eqb, ne-eqb}
-use Rattle.base.proofs.Picks.{pick-true, pick-false}
+use Rattle.types.proofs.Picks.{pick-true, pick-false}
 use mathlib.Core.Path.{sym, ap, _∙_}
 use borrow.Author.Needs.{needs}
 use Rattle.machine.proofs.records.Machine.copy_known.Statement.{statement}

@@ -4,7 +4,7 @@ use Rattle.machine.specs.Step.{onNone, decide}
 use Rattle.machine.specs.declared.outcome.Outcome.{Outcome}
 use denote.Ref.{now}
 use borrow.Author.Tests.{not-true, not-false}
-use Rattle.base.proofs.Picks.{pick-true, pick-false}
+use Rattle.types.proofs.Picks.{pick-true, pick-false}
 use mathlib.Core.Path.{sym, ap, _∙_}
 use borrow.Author.Needs.{needs}
 use Rattle.machine.proofs.records.Machine.decide.Statement.{statement}

@@ -1,7 +1,7 @@
 -- `machine::records::Machine::drop_segment` meets its contract. Assumes nothing.
 use Rattle.machine.specs.declared.outcome.Change.the-variants as change
 use Rattle.table.specs.Element.{dropped}
-use Rattle.base.specs.Answer.{accept}
+use Rattle.types.specs.Answer.{accept}
 use Rattle.machine.specs.Step.{dropOn}
 use Rattle.table.specs.declared.element.ElementSegment.{ElementSegment}
 use Rattle.machine.proofs.Laws.{unknown, known}

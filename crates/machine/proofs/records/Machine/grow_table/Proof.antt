@@ -1,7 +1,7 @@
 -- `machine::records::Machine::grow_table` meets its contract. Assumes nothing.
 use Rattle.table.specs.Grow.{growTable}
 use Rattle.types.specs.Raw.{rawBytes}
-use Rattle.operations.specs.Operation.{referenceOf}
+use Rattle.machine.specs.Operation.{referenceOf}
 use Rattle.machine.specs.Step.{done, tableGrownOn, growTableOn}
 use Rattle.table.specs.declared.table.Table.{Table}
 use Rattle.machine.specs.declared.outcome.Outcome.{Outcome}

@@ -1,7 +1,7 @@
 -- `machine::records::Machine::is_sound` meets its contract. Assumes nothing.
 use Rattle.machine.specs.Sound.{soundMachine}
 use borrow.Author.Tests.{not-true, not-false}
-use Rattle.base.proofs.Picks.{both-left, both-right, both-then}
+use Rattle.types.proofs.Picks.{both-left, both-right, both-then}
 use mathlib.Core.Path.{sym, _∙_}
 use borrow.Author.Needs.{needs}
 use Rattle.machine.proofs.records.Machine.is_sound.Statement.{statement}

@@ -1,6 +1,6 @@
 -- `machine::records::Machine::link_check` meets its contract. Assumes nothing.
 use Rattle.types.specs.MemoryType.{buildMemory}
-use Rattle.operations.specs.Operation.{yes, limitsOf, exponentOf}
+use Rattle.machine.specs.Operation.{yes, limitsOf, exponentOf}
 use Rattle.machine.specs.Step.{linked, linkCheck}
 use Rattle.memory.specs.declared.memory.Memory.{Memory}
 use Rattle.machine.proofs.Laws.{unknown, known}

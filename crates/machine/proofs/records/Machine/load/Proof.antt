@@ -1,7 +1,7 @@
 -- `machine::records::Machine::load` meets its contract. Assumes nothing.
 use Rattle.memory.specs.Memory.{loadMemory}
 use Rattle.memory.specs.declared.access.LoadKind.{LoadKind}
-use Rattle.operations.specs.Operation.{loadKindOf}
+use Rattle.machine.specs.Operation.{loadKindOf}
 use Rattle.machine.specs.Step.{loadOn}
 use Rattle.memory.specs.declared.memory.Memory.{Memory}
 use denote.Ref.{now}

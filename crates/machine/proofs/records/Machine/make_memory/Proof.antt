@@ -1,6 +1,6 @@
 -- `machine::records::Machine::make_memory` meets its contract. Assumes nothing.
 use Rattle.memory.specs.New.{newMemory}
-use Rattle.operations.specs.Operation.{yes, exponentOf}
+use Rattle.machine.specs.Operation.{yes, exponentOf}
 use Rattle.machine.specs.Step.{done, madeOn}
 use Prim.Native.Nat.{ℕ}
 use Rattle.types.specs.declared.limits.Limits.{Limits}

@@ -2,7 +2,7 @@
 use Rattle.types.specs.declared.raw.TypedRawRef.{TypedRawRef}
 use Rattle.types.specs.declared.raw.RefType.{RefType}
 use Rattle.table.specs.New.{newTable}
-use Rattle.operations.specs.Operation.{yes, limitsOf, kindOf}
+use Rattle.machine.specs.Operation.{yes, limitsOf, kindOf}
 use Rattle.machine.specs.Step.{done, tableMadeOn}
 use Rattle.types.specs.declared.limits.Limits.{Limits}
 use Rattle.machine.specs.declared.outcome.Outcome.{Outcome}

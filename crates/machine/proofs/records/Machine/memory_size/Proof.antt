@@ -1,6 +1,6 @@
 -- `machine::records::Machine::memory_size` meets its contract. Assumes nothing.
 use Rattle.memory.specs.Memory.{pagesOf}
-use Rattle.base.specs.Answer.{accept}
+use Rattle.types.specs.Answer.{accept}
 use Rattle.machine.specs.Step.{memorySize}
 use Rattle.machine.proofs.Laws.{unknown, known}
 use mathlib.Core.Path.{ap, _∙_}

@@ -1,14 +1,14 @@
 -- `machine::records::Machine::new_memory` meets its contract. Assumes nothing.
 use Rattle.memory.specs.New.{newMemory}
-use Rattle.operations.specs.Operation.{yes, limitsOf, exponentOf}
+use Rattle.machine.specs.Operation.{yes, limitsOf, exponentOf}
 use Rattle.machine.specs.Step.{done, madeOn, newMemoryOn}
-use Rattle.base.specs.Pick.{both}
+use Rattle.types.specs.Pick.{both}
 use lib.ListN.{length}
 use lib.Dec.{leb, ltb}
 use Prim.Native.Nat.{ℕ, _-_}
 use Rattle.machine.specs.declared.outcome.Outcome.{Outcome}
 use denote.Ref.{now}
-use Rattle.base.proofs.Picks.{pick-true, pick-false}
+use Rattle.types.proofs.Picks.{pick-true, pick-false}
 use mathlib.Core.Path.{sym, ap, _∙_}
 use borrow.Author.Needs.{needs}
 use Rattle.machine.proofs.records.Machine.new_memory.Statement.{statement}

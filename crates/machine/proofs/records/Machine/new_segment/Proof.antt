@@ -1,7 +1,7 @@
 -- `machine::records::Machine::new_segment` meets its contract. Assumes nothing.
 use Prim.Native.Nat.{ℕ, _-_}
 use lib.ListN.{length, take}
-use Rattle.operations.proofs.Digits.{take-all}
+use Rattle.machine.proofs.Digits.{take-all}
 use Rattle.machine.specs.Step.{newSegmentOn}
 use native.Mathlib.Omega.{arith}
 use denote.Ref.{now}

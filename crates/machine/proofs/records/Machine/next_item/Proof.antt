@@ -2,7 +2,7 @@
 use Rattle.machine.specs.Machine.{nextItem, segmentEnd}
 use native.Mathlib.Omega.{arith}
 use borrow.Author.Tests.{eq-eqb, ne-eqb}
-use Rattle.base.proofs.Picks.{pick-true, pick-false}
+use Rattle.types.proofs.Picks.{pick-true, pick-false}
 use mathlib.Core.Path.{_≡_, sym, ap, _∙_}
 use borrow.Author.Needs.{needs}
 use Rattle.machine.proofs.records.Machine.next_item.Statement.{statement}

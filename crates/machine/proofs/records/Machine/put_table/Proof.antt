@@ -1,6 +1,6 @@
 -- `machine::records::Machine::put_table` meets its contract. Assumes nothing.
 use Rattle.machine.specs.Outcome.{changed}
-use Rattle.base.proofs.Picks.{cases}
+use Rattle.types.proofs.Picks.{cases}
 use borrow.Author.Needs.{needs}
 use Rattle.machine.proofs.records.Machine.put_table.Statement.{statement}
 use Rattle.machine.proofs.records.Machine.put_table.Tie as tie

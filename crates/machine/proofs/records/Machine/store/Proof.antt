@@ -1,7 +1,7 @@
 -- `machine::records::Machine::store` meets its contract. Assumes nothing.
 use Rattle.memory.specs.Memory.{storeMemory}
 use Rattle.memory.specs.declared.access.StoreKind.{StoreKind}
-use Rattle.operations.specs.Operation.{storeKindOf}
+use Rattle.machine.specs.Operation.{storeKindOf}
 use Rattle.machine.specs.Step.{done, storedOn, storeOn}
 use Rattle.machine.specs.declared.outcome.Outcome.{Outcome}
 use Rattle.memory.specs.declared.memory.Memory.{Memory}

@@ -1,7 +1,7 @@
 -- `machine::records::Machine::table_fill` meets its contract. Assumes nothing.
 use Rattle.table.specs.Fill.{fillTable}
 use Rattle.types.specs.Raw.{rawBytes}
-use Rattle.operations.specs.Operation.{referenceOf}
+use Rattle.machine.specs.Operation.{referenceOf}
 use Rattle.machine.specs.Step.{done, spannedOn, fillOn}
 use Rattle.table.specs.declared.table.Table.{Table}
 use Rattle.machine.specs.declared.outcome.Outcome.{Outcome}

@@ -8,7 +8,7 @@ use Rattle.table.specs.declared.table.Table.{Table}
 use Rattle.machine.specs.declared.outcome.Outcome.{Outcome}
 use denote.Ref.{now}
 use borrow.Author.Tests.{lt-ltb, le-ltb}
-use Rattle.base.proofs.Picks.{pick-true, pick-false, both-true, both-left, both-right}
+use Rattle.types.proofs.Picks.{pick-true, pick-false, both-true, both-left, both-right}
 use mathlib.Core.Path.{sym, ap, _∙_}
 use borrow.Author.Needs.{needs}
 use Rattle.machine.proofs.records.Machine.table_init.Statement.{statement}

@@ -1,7 +1,7 @@
 -- `machine::records::Machine::table_set` meets its contract. Assumes nothing.
 use Rattle.types.specs.declared.raw.TypedRawRef.{TypedRawRef}
 use Rattle.table.specs.Table.{setTable}
-use Rattle.operations.specs.Operation.{referenceOf}
+use Rattle.machine.specs.Operation.{referenceOf}
 use Rattle.machine.specs.Step.{done, writtenOn, setOn}
 use Rattle.table.specs.declared.table.Table.{Table}
 use Rattle.machine.specs.declared.outcome.Outcome.{Outcome}

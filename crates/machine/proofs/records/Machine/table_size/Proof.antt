@@ -1,5 +1,5 @@
 -- `machine::records::Machine::table_size` meets its contract. Assumes nothing.
-use Rattle.base.specs.Answer.{accept}
+use Rattle.types.specs.Answer.{accept}
 use Rattle.machine.specs.Step.{tableSize}
 use Rattle.table.specs.declared.table.Table.{Table}
 use Rattle.machine.proofs.Laws.{unknown, known}

@@ -1,7 +1,7 @@
 -- `memory::memory::Memory::grow` meets its contract. Assumes nothing.
 use Rattle.memory.proofs.Stages.{grown-as}
 use Rattle.memory.proofs.Readings.{grow-goes, grow-stops}
-use Rattle.base.proofs.Picks.{known-test}
+use Rattle.types.proofs.Picks.{known-test}
 use borrow.Author.Needs.{needs}
 use Rattle.memory.proofs.memory.Memory.grow.Statement.{statement}
 use Rattle.memory.proofs.memory.Memory.grow.Tie as tie

@@ -2,7 +2,7 @@
 use Rattle.memory.proofs.Sounds.{sound-used}
 use Rattle.memory.proofs.Stages.{stage}
 use Rattle.memory.specs.Host.{readMemory}
-use Rattle.base.proofs.Picks.{known-test}
+use Rattle.types.proofs.Picks.{known-test}
 use borrow.Author.Needs.{needs}
 use Rattle.memory.proofs.memory.Memory.read.Statement.{statement}
 use Rattle.memory.proofs.memory.Memory.read.Tie as tie

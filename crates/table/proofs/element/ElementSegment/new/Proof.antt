@@ -3,7 +3,7 @@ use Rattle.table.proofs.Exits.{exits, left-not, made-as}
 use Rattle.table.proofs.Puts.{cut-all}
 use Rattle.table.proofs.Sounds.{tested-buffer}
 use Rattle.table.specs.Element.{newSegment}
-use Rattle.base.specs.Span.{over}
+use Rattle.types.specs.Span.{over}
 use borrow.Author.Needs.{needs}
 use borrow.Author.Tests.{not-false}
 use mathlib.Core.Path.{_∙_, ap}

@@ -1,5 +1,5 @@
 -- `types::limits::Limits::admits` meets its contract. Assumes nothing.
-use Rattle.base.proofs.Picks.{cases}
+use Rattle.types.proofs.Picks.{cases}
 use Rattle.types.specs.Limits.{admitsOf}
 use Rattle.types.proofs.limits.Limits.admits.Statement.{statement}
 use Rattle.types.proofs.limits.Limits.admits.Tie as tie

@@ -1,5 +1,5 @@
 -- `types::limits::Limits::matches` meets its contract. Assumes nothing.
-use Rattle.base.proofs.Picks.{cases}
+use Rattle.types.proofs.Picks.{cases}
 use Rattle.types.specs.Limits.{matchLimits}
 use Rattle.types.proofs.limits.Limits.matches.Statement.{statement}
 use Rattle.types.proofs.limits.Limits.matches.Tie as tie

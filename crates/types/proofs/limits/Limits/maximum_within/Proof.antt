@@ -1,5 +1,5 @@
 -- `types::limits::Limits::maximum_within` meets its contract. Assumes nothing.
-use Rattle.base.proofs.Picks.{cases}
+use Rattle.types.proofs.Picks.{cases}
 use Rattle.types.specs.Limits.{validMaximum}
 use borrow.Author.Needs.{needs}
 use Rattle.types.proofs.limits.Limits.maximum_within.Statement.{statement}

@@ -1,5 +1,5 @@
 -- `types::memory_ty::MemoryType::is_subtype_of` meets its contract. Assumes nothing.
-use Rattle.base.proofs.Picks.{cases}
+use Rattle.types.proofs.Picks.{cases}
 use Rattle.types.specs.MemoryType.{matchMemory}
 use borrow.Author.Needs.{needs}
 use Rattle.types.proofs.memory_ty.MemoryType.is_subtype_of.Statement.{statement}

@@ -1,5 +1,5 @@
 -- `types::memory_ty::MemoryType::maximum_byte_size` meets its contract. Assumes nothing.
-use Rattle.base.proofs.Picks.{cases}
+use Rattle.types.proofs.Picks.{cases}
 use Rattle.types.proofs.Sizes.{unlimited-32, unlimited-64}
 use Rattle.types.specs.MemoryType.{maximumBytes}
 use borrow.Author.Needs.{needs}

@@ -1,5 +1,5 @@
 -- `types::memory_ty::MemoryType::validated` meets its contract. Assumes nothing.
-use Rattle.base.proofs.Picks.{cases}
+use Rattle.types.proofs.Picks.{cases}
 use borrow.Author.Needs.{needs}
 use Rattle.types.specs.MemoryType.{validated}
 use Rattle.types.proofs.memory_ty.MemoryType.validated.Statement.{statement}

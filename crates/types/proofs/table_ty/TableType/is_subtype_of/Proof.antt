@@ -1,5 +1,5 @@
 -- `types::table_ty::TableType::is_subtype_of` meets its contract. Assumes nothing.
-use Rattle.base.proofs.Picks.{cases}
+use Rattle.types.proofs.Picks.{cases}
 use Rattle.types.specs.TableType.{matchTable}
 use borrow.Author.Needs.{needs}
 use Rattle.types.proofs.table_ty.TableType.is_subtype_of.Statement.{statement}

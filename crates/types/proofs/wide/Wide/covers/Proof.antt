@@ -1,7 +1,7 @@
 -- `types::wide::Wide::covers` meets its contract. Assumes nothing.
 use Prim.Native.Nat.{_≤_}
 use Rattle.types.proofs.Halves.{whole-low}
-use Rattle.base.proofs.Picks.{cases}
+use Rattle.types.proofs.Picks.{cases}
 use Rattle.types.specs.Wide.{whole}
 use native.Mathlib.Omega.{arith}
 use Rattle.types.proofs.wide.Wide.covers.Statement.{statement}

@@ -1,0 +1,16 @@
+-- `super::fields::absent_as_zero` meets its contract. Assumes nothing.
+use Rattle.machine.specs.Operation.{absentAsZero}
+use Rattle.types.proofs.Picks.{cases}
+use Rattle.machine.proofs.fields.absent_as_zero.Statement.{statement}
+use Rattle.machine.proofs.fields.absent_as_zero.Tie as tie
+
+returns : tie.Need-returns
+unfolding absentAsZero
+returns c = search cases
+
+returns-2 : tie.Need-returns-2
+unfolding absentAsZero
+returns-2 c = search cases
+
+pub absent-as-zero-spec : {M : Type 1} → statement M
+absent-as-zero-spec = tie.close (tie.spec returns returns-2)
