@@ -4,7 +4,7 @@
 use std::io::BufRead;
 use std::time::Instant;
 
-// Archive librounds.a: crates/rounds/src/text.rt.
+// Archive libtiming.a: crates/timing/src/text.rt.
 unsafe extern "C" {
     /// Reads a line and writes an answer line, where there is room for its 37 bytes.
     fn rounds_line(line: *const u8, length: usize, out: *mut u8, room: usize) -> bool;

@@ -3,7 +3,7 @@
 
 use std::time::Instant;
 
-// Archive librounds.a: crates/rounds/src/operate.rt.
+// Archive libtiming.a: crates/timing/src/operate.rt.
 unsafe extern "C" {
     /// So many rounds of the line's operation, by value or through lent records and lent fuel, on a machine with so many memories,
     /// tables and segments; the fuel left.

@@ -1,7 +1,10 @@
 -- The claims hold. Assumes nothing.
 use Rattle.machine.proofs.Kept.{step-sound, fresh-sound}
 use Rattle.machine.proofs.Apart.{others-stay, only-sizes}
+use Rattle.lines.proofs.Text.{read-write, read-unique}
+use Rattle.lines.proofs.Pieces.{fed-whole}
 use Rattle.claims.specs.Claims.{Claims}
+use Rattle.claims.proofs.Sessions.{session-is-run, replies-run}
 use Rattle.claims.proofs.Exits.{answer-or-refusal, refusal-leaves, accepted-when, accepted-does}
 use Rattle.claims.proofs.Bound.{byte-bound}
 use Rattle.claims.proofs.Reached.{bound-reached}
@@ -10,6 +13,7 @@ use Rattle.claims.proofs.Alike.{alike}
 use Rattle.claims.proofs.Never.{never-unsound}
 use Rattle.claims.proofs.Cases.{worked-cases}
 
+-- every claim by its law
 pub claims : Claims
 claims =
     record {
@@ -26,5 +30,12 @@ claims =
       fresh-sound = fresh-sound;
       stays-sound = step-sound;
       never-unsound = never-unsound;
+      operate-is-step = λ κs a x s p. p;
+      lent-is-step = λ κs a x s p. p;
+      session-is-run = session-is-run;
+      replies-run = replies-run;
+      any-cut = fed-whole;
+      read-write = read-write;
+      read-unique = read-unique;
       worked-cases = worked-cases;
     }

@@ -1,38 +1,42 @@
 -- What every proof of an operation's exits uses: a step comes to its checks, a check has two ways, and each exit is described. Assumes nothing.
-use Prim.Native.Nat.{ℕ, _<_}
-use mathlib.Core.Path.{_≡_, refl, sym, ap, _∙_}
-use mathlib.Core.Bool.{Bool, true, false, not}
+use Prim.Native.Nat.{ℕ, _+_, _-_, _≤_, _<_}
+use mathlib.Core.Path.{_≡_, refl, sym, ap, subst, _∙_}
+use mathlib.Core.Bool.{Bool, true, false}
 use mathlib.Core.List.{List}
 use native.Mathlib.Omega.{arith}
 use lib.Dec.{eqb, leb, ltb}
 use lib.Seq.{set-getD}
-use borrow.Author.Tests.{ltb-true, ltb-false, le-leb, lt-leb}
-use Rattle.types.specs.Pick.{pick, both}
-use Rattle.types.specs.Answer.{refusal, numberOf}
+use borrow.Author.Tests.{leb-true, ltb-true, ltb-false, le-leb, lt-leb}
+use Rattle.types.specs.Pick.{pick, unless, both}
+use Rattle.types.specs.Done.{Done, done, spanDone}
+use Rattle.types.specs.Answer.{refusal, refuse, accept, numberOf}
 use Rattle.types.specs.Fuel.{short, paid}
-use Rattle.types.specs.Limiter.{saysOf, moved, heardOf, noticed, noLimiter}
+use Rattle.types.specs.Limiter.{saysOf, moved, heardOf}
 use Rattle.types.specs.declared.answer.Answer.{Answer}
 use Rattle.types.specs.declared.answer.Answer.the-variants as answer
 use Rattle.types.specs.declared.answer.Refusal.{Refusal}
 use Rattle.types.specs.declared.fuel.Fuel.{Fuel}
+use Rattle.types.specs.declared.grant.Spanned.{Spanned}
 use Rattle.types.specs.declared.limiter.Limiter.{Limiter}
-use Rattle.types.proofs.Picks.{pick-true, pick-false, pick-same, both-true, both-left, both-right, both-then, either}
+use Rattle.types.proofs.Picks.{pick-true, pick-false, pick-same, both-true, both-left, both-right, both-then}
 use Rattle.memory.specs.declared.memory.Memory.{Memory}
 use Rattle.table.specs.declared.table.Table.{Table}
 use Rattle.machine.specs.Machine.{Buffers, memoryAt, tableAt, noMemory, noTable}
-use Rattle.machine.specs.Sound.{soundMachine, soundOver, soundMemories, soundTables, soundSegments}
+use Rattle.machine.specs.Sound.{soundOver}
 use Rattle.machine.specs.Operation.{wellFormed}
-use Rattle.machine.specs.Outcome.{withMemories, withTables, changed, metered, settled}
-use Rattle.machine.specs.Step.{Performed, Stepped, perform, decide, after, step}
+use Rattle.machine.specs.Outcome.{leaves, keeps, withMemories, withTables, changed, standing, settled}
+use Rattle.machine.specs.Step.{Performed, Stepped, onNone, onCells, perform, decide, after, step}
 use Rattle.machine.specs.declared.records.Machine.{Machine}
+use Rattle.machine.specs.declared.records.Counts.{Counts}
+use Rattle.machine.specs.declared.outcome.Outcome.{Outcome}
 use Rattle.machine.specs.declared.outcome.Change.{Change}
 use Rattle.machine.specs.declared.outcome.Change.the-variants as change
 use Rattle.machine.specs.declared.operation.Operation.{Operation}
-use Rattle.claims.specs.Answers.{listed}
-use Rattle.claims.specs.Metered.{meteringOf, grows, priceOf, affords, grants, unlimited, erredAfter8, paidRefusal}
-use Rattle.claims.specs.Occasions.{occasion}
-use Rattle.claims.specs.Effects.{worth, changeOf, fuelAfter, limiterAfter, written, does}
-use Rattle.claims.proofs.Exit.{Exit, accepts, refuses}
+use Rattle.claims.specs.Answers.{accepted, listed}
+use Rattle.claims.specs.Metered.{Metering, meteringOf, grows, priceOf, affords, grants, unlimited, erredAfter8, paidRefusal}
+use Rattle.claims.specs.Occasions.{granted, occasion}
+use Rattle.claims.specs.Effects.{answerOf, changeOf, countsAfter, fuelAfter, askedBy, limiterAfter, written, acceptedStep}
+use Rattle.claims.proofs.Exit.{stays, Exit, accepts, refuses}
 
 -- a test's two ways, each with its equation
 pub branch : {A : Type 0} (P : A → Type 0) (t : Bool) (x y : A) → (t ≡ true → P x) → (t ≡ false → P y) → P (pick t x y)
@@ -40,11 +44,22 @@ unfolding pick
 branch P true x y f g = f refl
 branch P false x y f g = g refl
 
+-- a test that holds
+pub surely : {A : Type 0} (P : A → Type 0) (t : Bool) (x y : A) → t ≡ true → P x → P (pick t x y)
+surely P t x y e p = subst P (sym (pick-true t x y e)) p
+
+-- a room no longer than what is left lies inside
+pub room-inside : (next room len : ℕ) → next ≤ len → leb room (len - next) ≡ true → leb (next + room) len ≡ true
+room-inside next room len h q =
+    let g : room ≤ len - next = leb-true room (len - next) q in
+    le-leb (next + room) len (omega arith)
+
 -- a refusal of the list other than 19
 pub record Named (x : Refusal) : Type 0 where
   pub known : listed x ≡ true
   pub sound : x .number ≡ 19 → ⊥
 
+-- such a number, without an amount
 pub named : (k : ℕ) → leb 1 k ≡ true → ltb k 19 ≡ true → Named (refusal k 0)
 unfolding listed
 named k p q =
@@ -77,15 +92,6 @@ pub grants-yes : (said : ℕ) → eqb said 1 ≡ false → eqb said 2 ≡ false 
 unfolding grants
 grants-yes said e d = pick-false _ _ _ e ∙ pick-false _ _ _ d
 
--- no limiter grants all, and hears of a refusal
-pub none-says : saysOf noLimiter ≡ 0
-unfolding saysOf noLimiter
-none-says = refl
-
-pub none-hears : (k a : ℕ) → numberOf (noticed (moved noLimiter) k a) ≡ k
-unfolding saysOf moved noLimiter heardOf numberOf pick
-none-hears k a = refl
-
 -- short of a price, and able to pay it, are opposites
 pub short-not : (m : Machine) (p : ℕ) → short (m .fuel) p ≡ true → affords m p ≡ false
 unfolding affords both pick
@@ -108,101 +114,189 @@ pub memory-put-back : (m : Machine) (i : ℕ) → changed (change.Memory i (memo
 unfolding changed
 memory-put-back m i =
     branch (λ (x : Machine). x ≡ m) (ltb i 8) _ _
-    (λ t. ap (λ (rs : List Memory). withMemories m rs (m .counts .memories)) (set-getD (m .memories) i noMemory))
+    (λ t. ap (λ (rs : List Memory). withMemories m rs) (set-getD (m .memories) i noMemory))
     (λ t. refl)
 
 pub table-put-back : (m : Machine) (i : ℕ) → changed (change.Table i (tableAt m i)) m ≡ m
 unfolding changed
 table-put-back m i =
     branch (λ (x : Machine). x ≡ m) (ltb i 8) _ _
-    (λ t. ap (λ (rs : List Table). withTables m rs (m .counts .tables)) (set-getD (m .tables) i noTable))
+    (λ t. ap (λ (rs : List Table). withTables m rs) (set-getD (m .tables) i noTable))
     (λ t. refl)
 
-module _ (r : ℕ) (m : Machine) (b : Buffers) (op : Operation) where
-  -- what is shown of a step that came to these checks
-  abbrev pub Ends : Performed → Type 0
-  Ends p = step r m b op ≡ after m p → Exit r m b op (step r m b op)
+-- and so does no change
+pub nothing-put : (m : Machine) → changed change.Nothing m ≡ m
+unfolding changed
+nothing-put m = refl
 
+-- a refusal with a change that changes nothing leaves all but fuel and limiter
+pub put-back-stays : (m : Machine) (b : Buffers) (c : Change) → changed c m ≡ m → (x : Refusal) (f : Fuel) (l : Limiter)
+    → after m (onNone (record { answer = answer.Refusal x; change = c; counts = m .counts; fuel = f; limiter = l }) b) ≡ stays m b x f l
+unfolding settled
+put-back-stays m b c k x f l = ap (λ (n : Machine). record { answer = answer.Refusal x; machine = standing n (m .counts) f l; buffers = b }) k
+
+-- what does not grow asks the limiter nothing
+pub asks-none : (l : Limiter) (x : Metering) → grows x ≡ false → l ≡ askedBy l x
+asks-none l x g = sym (pick-false _ _ _ (both-left _ _ g))
+
+-- what is shown of a step that came to these checks
+abbrev pub Ends : ℕ → Machine → Buffers → Operation → Performed → Type 0
+Ends r m b op p = step r m b op ≡ after m p → Exit r m b op (occasion r m b op)
+
+-- a span operation's result, with the record that it puts back
+abbrev pub spans : Machine → Change → Done Spanned → Done Outcome
+spans m c s =
+    done (record { answer = s .out .answer; change = c; counts = m .counts; fuel = s .out .fuel; limiter = m .limiter }) (s .cells)
+
+module _ (r : ℕ) (m : Machine) (b : Buffers) (op : Operation) where
   -- on a sound machine a well-formed operation comes to its own checks
   pub step-is : soundOver m b ≡ true → wellFormed op ≡ true → step r m b op ≡ after m (perform r m b op)
   unfolding step decide
   step-is e w = ap (after m) (pick-true _ _ _ w ∙ pick-true _ _ _ e)
 
-  pub ending : soundOver m b ≡ true → wellFormed op ≡ true → Ends (perform r m b op) → Exit r m b op (step r m b op)
-  ending e w f = f (step-is e w)
+  -- answer, change, numbers, fuel, limiter and buffers are the ones described
+  pub accepted-is : {a : Answer} {c : Change} {k : Counts} {f : Fuel} {l : Limiter} {b′ : Buffers}
+      → a ≡ answerOf m b op → c ≡ changeOf m op → k ≡ countsAfter (m .counts) op → f ≡ fuelAfter r m op → l ≡ limiterAfter (m .limiter) op
+      → b′ ≡ written m b op
+      → after m (onNone (record { answer = a; change = c; counts = k; fuel = f; limiter = l }) b′) ≡ acceptedStep r m b op
+  unfolding acceptedStep settled
+  accepted-is ea ec ek ef el eb =
+      (λ i. record { answer = ea i; machine = standing (changed (ec i) m) (ek i) (ef i) (el i); buffers = eb i })
 
-  -- accepted: answer, change, fuel, limiter and buffers are the ones described
-  pub accepting-by : {a : Answer} {c : Change} {f : Fuel} {l : Limiter} {b′ : Buffers} → occasion r m b op ≡ true
-      → a ≡ worth m b op → c ≡ changeOf m op → f ≡ fuelAfter r m op → l ≡ limiterAfter m op → b′ ≡ written m b op
-      → Ends (record { out = record { answer = a; change = c; fuel = f; limiter = l }; buffers = b′ })
-  unfolding does settled
-  accepting-by {a = a} {c = c} {f = f} {l = l} {b′ = b′} o ea ec ef el eb q =
-      accepts o
-      (q ∙ ap (λ (x : Answer). ended x c f l b′) ea ∙ ap (λ (x : Change). ended (worth m b op) x f l b′) ec
-      ∙ ap (λ (x : Fuel). ended (worth m b op) (changeOf m op) x l b′) ef
-      ∙ ap (λ (x : Limiter). ended (worth m b op) (changeOf m op) (fuelAfter r m op) x b′) el
-      ∙ ap (ended (worth m b op) (changeOf m op) (fuelAfter r m op) (limiterAfter m op)) eb)
-    where
-      ended : Answer → Change → Fuel → Limiter → Buffers → Stepped
-      ended a c f l b′ = record { answer = a; machine = metered (changed c m) f l; buffers = b′ }
+  -- the number, and the number without a limiter
+  abbrev pub number : ℕ
+  number = numberOf (step r m b op .answer)
 
-  pub accepting : occasion r m b op ≡ true
-      → Ends (record {
-        out = record { answer = worth m b op; change = changeOf m op; fuel = fuelAfter r m op; limiter = limiterAfter m op };
-        buffers = written m b op;
-      })
-  accepting o = accepting-by o refl refl refl refl refl
+  abbrev pub quiet : ℕ
+  quiet = numberOf (step r (unlimited m) b op .answer)
 
-  -- refused, with a change that changes nothing
-  pub refusing : (x : Refusal) (c : Change) (f : Fuel) (l : Limiter) → Named x → occasion r m b op ≡ false → changed c m ≡ m
-      → (step r m b op .answer ≡ answer.Refusal x → f ≡ pick (paidRefusal r m b op) (paid (m .fuel) (priceOf r m op)) (m .fuel))
-      → Ends (record { out = record { answer = answer.Refusal x; change = c; fuel = f; limiter = l }; buffers = b })
-  unfolding settled
-  refusing x c f l h o k p q =
-      refuses x f l
+  -- the number of what stays is the refusal's
+  pub stays-number : {x : Refusal} {f : Fuel} {l : Limiter} → step r m b op ≡ stays m b x f l → number ≡ x .number
+  unfolding numberOf
+  stays-number q = ap (λ (s : Stepped). numberOf (s .answer)) q
+
+  -- whether a refusal paid, by its number
+  pub paid-is : (k : ℕ) → number ≡ k
+      → paidRefusal r m b op ≡ both (grows (meteringOf op)) (pick (eqb k 8) true (both (eqb k 4) (both (granted m) (eqb quiet 8))))
+  unfolding paidRefusal erredAfter8
+  paid-is k q = ap (λ (j : ℕ). both (grows (meteringOf op)) (pick (eqb j 8) true (both (eqb j 4) (both (granted m) (eqb quiet 8))))) q
+
+  -- one with another number than 4 and 8 paid nothing
+  pub unpaid : (k : ℕ) → number ≡ k → eqb k 8 ≡ false → eqb k 4 ≡ false → paidRefusal r m b op ≡ false
+  unpaid k q e d = paid-is k q ∙ both-right _ _ (pick-false _ _ _ e ∙ both-left _ _ d)
+
+module _ {r : ℕ} {m : Machine} {b : Buffers} {op : Operation} where
+  -- so its exit is one of these
+  pub ending : soundOver m b ≡ true → wellFormed op ≡ true → Ends r m b op (perform r m b op) → Exit r m b op (occasion r m b op)
+  ending e w f = f (step-is r m b op e w)
+
+  -- refused, with the fuel that it takes
+  pub refused-with : {x : Refusal} {f : Fuel} {l : Limiter} → Named x → occasion r m b op ≡ false → step r m b op ≡ stays m b x f l
+      → f ≡ pick (paidRefusal r m b op) (paid (m .fuel) (priceOf r m op)) (m .fuel) → Exit r m b op (occasion r m b op)
+  refused-with {x = x} {f = f} {l = l} h o s p = refuses x f l (record { none = o; same = s; known = h .known; sound = λ e. h .sound; fuel = p })
+
+  -- accepted, with fuel and limiter as they come
+  pub accepting-by : {f : Fuel} {l : Limiter} → f ≡ fuelAfter r m op → l ≡ limiterAfter (m .limiter) op → occasion r m b op ≡ true
+      → accepted (answerOf m b op) ≡ true
+      → Ends r m b op
+      (onNone (record { answer = answerOf m b op; change = changeOf m op; counts = countsAfter (m .counts) op; fuel = f; limiter = l }) (written m b op))
+  accepting-by p h o v q = accepts o v (q ∙ accepted-is r m b op refl refl refl p h refl)
+
+  -- accepted
+  pub accepting : occasion r m b op ≡ true → accepted (answerOf m b op) ≡ true
+      → Ends r m b op
+      (onNone
       (record {
-        none = o;
-        same = q ∙ ap (λ (n : Machine). record { answer = answer.Refusal x; machine = metered n f l; buffers = b }) k;
-        known = h .known;
-        sound = h .sound;
-        fuel = p (ap (λ (s : Stepped). s .answer) q);
+        answer = answerOf m b op;
+        change = changeOf m op;
+        counts = countsAfter (m .counts) op;
+        fuel = fuelAfter r m op;
+        limiter = limiterAfter (m .limiter) op;
       })
+      (written m b op))
+  accepting o v = accepting-by refl refl o v
 
-  -- refused, no growth
-  pub refusing-free : (x : Refusal) (l : Limiter) → Named x → occasion r m b op ≡ false → grows (meteringOf op) ≡ false
-      → Ends (record { out = record { answer = answer.Refusal x; change = change.Nothing; fuel = m .fuel; limiter = l }; buffers = b })
-  unfolding changed paidRefusal
-  refusing-free x l h o g = refusing x change.Nothing (m .fuel) l h o refl (λ q. sym (pick-false _ _ _ (both-left _ _ g)))
-
-  -- a soundness test does not see the limiter
-  pub unlimited-sound : soundOver m b ≡ true → soundOver (unlimited m) b ≡ true
-  unfolding soundMachine soundMemories soundTables soundSegments
-  unlimited-sound e = e
-
-  -- a growth refused with another number than 4 and 8 paid nothing
-  pub unpaid : (k : ℕ) → numberOf (step r m b op .answer) ≡ k → eqb k 8 ≡ false → eqb k 4 ≡ false → paidRefusal r m b op ≡ false
-  unfolding paidRefusal erredAfter8
-  unpaid k q e d =
-      both-right _ _ (pick-false _ _ _ (ap (λ (n : ℕ). eqb n 8) q ∙ e) ∙ both-left _ _ (ap (λ (n : ℕ). eqb n 4) q ∙ d))
-
-  -- nor one that the limiter did not grant
-  pub unpaid-4 : numberOf (step r m b op .answer) ≡ 4 → grants (saysOf (m .limiter)) ≡ false → paidRefusal r m b op ≡ false
-  unfolding paidRefusal erredAfter8
-  unpaid-4 q g =
-      both-right _ _ (pick-false _ _ _ (ap (λ (n : ℕ). eqb n 8) q) ∙ both-right _ _ (both-left _ _ g))
-
-  -- a growth that the limiter granted and of whose refusal it was told paid where the refusal would be 8 without a limiter
-  pub told-paid : (l : Limiter) (k a : ℕ) → step r m b op .answer ≡ noticed l k a → grows (meteringOf op) ≡ true → grants (saysOf (m .limiter)) ≡ true
-      → eqb k 4 ≡ false → eqb (numberOf (step r (unlimited m) b op .answer)) 8 ≡ eqb k 8 → paidRefusal r m b op ≡ eqb k 8
-  unfolding paidRefusal erredAfter8 numberOf heardOf
-  told-paid l k a q w g d u =
-      both-then _ _ w
-      ∙ either (eqb (saysOf l) 2)
+  -- the checks of a creation in sound room: 1, one more, limiter 3 or 4, 5 with notice
+  pub creating : {X : Type 0} (out : X → Performed) (kept : Limiter → Refusal → X) (made : X) (sound valid more fits : Bool) (number : ℕ)
+      → sound ≡ true → Named (refusal number 0)
+      → ((x : Refusal) (l : Limiter) → Named x → occasion r m b op ≡ false → Ends r m b op (out (kept l x)))
+      → occasion r m b op ≡ both valid (both more (both (granted m) fits))
+      → (occasion r m b op ≡ true → Ends r m b op (out made))
+      → Ends r m b op
+      (out
+      (unless sound (kept (m .limiter) (refusal 19 0))
+      (unless valid (kept (m .limiter) (refusal 1 0))
+      (unless more (kept (m .limiter) (refusal number 0))
+      (pick (eqb (saysOf (m .limiter)) 1) (kept (moved (m .limiter)) (refusal 3 0))
+      (pick (eqb (saysOf (m .limiter)) 2) (kept (moved (m .limiter)) (refusal 4 0))
+      (unless fits (kept (moved (moved (m .limiter))) (heardOf (saysOf (moved (m .limiter))) (refusal 5 0))) made)))))))
+  creating {X = X} out kept made sound valid more fits number s h refused o f =
+      surely To _ _ _ s
+      (branch To _ _ _
+      (λ v.
+      branch To _ _ _
+      (λ w.
+      let q = o ∙ both-then _ _ v ∙ both-then _ _ w in
+      branch To _ _ _
+      (λ t. refused _ _ (named 3 refl refl) (q ∙ both-left _ _ (grants-no _ t)))
       (λ t.
-      let n : numberOf (step r m b op .answer) ≡ 4 = ap numberOf q ∙ ap (λ (x : Refusal). x .number) (pick-true _ _ _ t) in
-      pick-false _ _ _ (ap (λ (n : ℕ). eqb n 8) n) ∙ both-then _ _ (ap (λ (n : ℕ). eqb n 4) n) ∙ both-then _ _ g ∙ u)
-      (λ t.
-      let n : numberOf (step r m b op .answer) ≡ k = ap numberOf q ∙ ap (λ (x : Refusal). x .number) (pick-false _ _ _ t) in
-      either (eqb k 8)
-      (λ y. pick-true _ _ _ (ap (λ (n : ℕ). eqb n 8) n ∙ y) ∙ sym y)
-      (λ y. pick-false _ _ _ (ap (λ (n : ℕ). eqb n 8) n ∙ y) ∙ both-left _ _ (ap (λ (n : ℕ). eqb n 4) n ∙ d) ∙ sym y))
+      branch To _ _ _
+      (λ y. refused _ _ (named 4 refl refl) (q ∙ both-left _ _ (grants-error _ y)))
+      (λ y.
+      branch To _ _ _
+      (λ z. f (q ∙ both-true _ _ (grants-yes _ t y) z))
+      (λ z. refused _ _ (heard-named _ _ (named 5 refl refl)) (q ∙ both-right _ _ z)))))
+      (λ w. refused _ _ h (o ∙ both-right _ _ (both-left _ _ w))))
+      (λ v. refused _ _ (named 1 refl refl) (o ∙ both-left _ _ v)))
+    where
+      To : X → Type 0
+      To x = Ends r m b op (out x)
+
+  module _ (c : Change) (k : changed c m ≡ m) (g : grows (meteringOf op) ≡ false) where
+    -- refused, no growth, with a change that changes nothing
+    pub refusing : (x : Refusal) (l : Limiter) → Named x → occasion r m b op ≡ false
+        → Ends r m b op (onNone (record { answer = answer.Refusal x; change = c; counts = m .counts; fuel = m .fuel; limiter = l }) b)
+    unfolding paidRefusal
+    refusing x l h o q = refused-with h o (q ∙ put-back-stays m b c k x (m .fuel) l) (sym (pick-false _ _ _ (both-left _ _ g)))
+
+    -- the last check of a span operation: 7, else the price is paid and the cells are new
+    pub paying : (p : ℕ) (new : List ℕ) → occasion r m b op ≡ affords m p
+        → (occasion r m b op ≡ true → Ends r m b op (onCells (spans m c (spanDone (accept 0) (paid (m .fuel) p) new)) b))
+        → Ends r m b op
+        (onCells
+        (spans m c (pick (short (m .fuel) p) (spanDone (refuse 7 p) (m .fuel) (b .cells)) (spanDone (accept 0) (paid (m .fuel) p) new)))
+        b)
+    paying p new o f =
+        branch (λ (s : Done Spanned). Ends r m b op (onCells (spans m c s) b)) _ _ _
+        (λ t. refusing (refusal 7 p) (m .limiter) (named-7 p) (o ∙ short-not m p t))
+        (λ t. f (o ∙ affords-all m p t))
+
+    -- the checks before it: of the kind, and of the bounds
+    pub spanning : (kind bounds last : Bool) (number : ℕ) (rest : Done Spanned) → Named (refusal number 0)
+        → occasion r m b op ≡ both kind (both bounds last)
+        → (occasion r m b op ≡ last → Ends r m b op (onCells (spans m c rest) b))
+        → Ends r m b op
+        (onCells
+        (spans m c
+        (unless kind (spanDone (refuse 14 0) (m .fuel) (b .cells)) (unless bounds (spanDone (refuse number 0) (m .fuel) (b .cells)) rest)))
+        b)
+    spanning kind bounds last number rest h o f =
+        branch To kind _ _
+        (λ t.
+        branch To bounds _ _
+        (λ y. f (o ∙ both-then _ _ t ∙ both-then _ _ y))
+        (λ y. refusing (refusal number 0) (m .limiter) h (o ∙ both-right _ _ (both-left _ _ y))))
+        (λ t. refusing (refusal 14 0) (m .limiter) (named 14 refl refl) (o ∙ both-left _ _ t))
+      where
+        To : Done Spanned → Type 0
+        To s = Ends r m b op (onCells (spans m c s) b)
+
+  -- refused, no growth, with no change
+  pub leaving : (x : Refusal) (l : Limiter) → Named x → grows (meteringOf op) ≡ false → occasion r m b op ≡ false
+      → Ends r m b op (onNone (leaves m (answer.Refusal x) (m .fuel) l) b)
+  leaving x l h g o = refusing change.Nothing (nothing-put m) g x l h o
+
+  -- 16, whatever is not in use
+  pub unknown : occasion r m b op ≡ false → Ends r m b op (onNone (keeps m (refuse 16 0)) b)
+  unfolding settled changed
+  unknown o q = refused-with (named 16 refl refl) o q (sym (pick-false _ _ _ (unpaid r m b op 16 (stays-number r m b op q) refl refl)))

@@ -1,11 +1,10 @@
 -- No run from a fresh machine over sound buffers answers 19. Assumes nothing.
 use Prim.Native.Nat.{ℕ}
 use mathlib.Core.Path.{_≡_, refl, _∙_}
-use mathlib.Core.Bool.{Bool, true, false}
+use mathlib.Core.Bool.{Bool, true}
 use mathlib.Core.List.{List, [], _∷_}
 use lib.ListN.{length}
 use borrow.Author.Tests.{ne-eqb}
-use Rattle.types.specs.Pick.{pick}
 use Rattle.types.specs.declared.fuel.FuelCosts.{FuelCosts}
 use Rattle.types.proofs.Picks.{pick-false}
 use Rattle.machine.specs.Machine.{Buffers, freshMachine}
@@ -17,6 +16,7 @@ use Rattle.machine.proofs.Kept.{step-sound, fresh-sound}
 use Rattle.claims.specs.Answers.{never}
 use Rattle.claims.proofs.Exits.{not-unsound}
 
+-- from a sound machine
 run-never : (r : ℕ) (m : Machine) (b : Buffers) (ops : List Operation) → soundOver m b ≡ true → never 19 (run r m b ops .answers) ≡ true
 unfolding run never
 run-never r m b [] s = refl
@@ -24,6 +24,7 @@ run-never r m b (op ∷ ops) s =
     pick-false _ _ _ (ne-eqb _ _ (not-unsound r m b op s))
     ∙ run-never r (step r m b op .machine) (step r m b op .buffers) ops (step-sound r m b op s)
 
+-- and so from a fresh one
 pub never-unsound : (r : ℕ) (metering : Bool) (costs : FuelCosts) (b : Buffers) (ops : List Operation) → soundReferences (length (b .cells)) (length (b .items)) ≡ true
     → never 19 (run r (freshMachine metering costs) b ops .answers) ≡ true
 never-unsound r metering costs b ops s = run-never r (freshMachine metering costs) b ops (fresh-sound metering costs b s)

@@ -2,9 +2,9 @@
 use Prim.Native.Nat.{ℕ, zero, suc, _+_, _-_, _*_, _/_, _^_, _≤_, _<_}
 use mathlib.Core.Path.{_≡_, refl, sym, ap, subst, _∙_}
 use mathlib.Core.Bool.{true, false}
-use mathlib.Core.List.{List, _∷_}
+use mathlib.Core.List.{List, [], _∷_}
 use native.Mathlib.Omega.{arith}
-use native.Mathlib.Nat.{mul-one, zero-mul, div-one, mul-add-div, div-eq-of-lt}
+use native.Mathlib.Nat.{zero-add, mul-one, zero-mul, div-one, mul-add-div, div-eq-of-lt}
 use lib.Dec.{eqb, leb, ltb}
 use lib.ListN.{length, replicate, length-replicate}
 use borrow.Author.Tests.{le-leb, lt-ltb, eqb-true, eqb-false, ne-eqb}
@@ -15,375 +15,312 @@ use Rattle.types.specs.Fuel.{paid}
 use Rattle.types.specs.Limiter.{padded, noLimiter, saysOf, moved}
 use Rattle.types.specs.declared.fuel.Fuel.{Fuel}
 use Rattle.types.specs.declared.limiter.Limiter.{Limiter}
-use Rattle.types.proofs.Picks.{pick-true, pick-false, both-true, both-left, either}
+use Rattle.types.proofs.Picks.{pick-true, pick-false, both-true, both-left}
 use Rattle.types.proofs.Prices.{price-word}
 use Rattle.types.specs.Limits.{admitsOf, validLimits}
 use Rattle.types.specs.MemoryType.{pageBound, validMemory}
 use Rattle.types.specs.TableType.{tableBound, validTable, elementMatches}
 use Rattle.types.specs.declared.index_ty.IndexType.the-variants.{I64}
 use Rattle.types.specs.declared.memory_ty.PageSize.the-variants.{One}
+use Rattle.types.specs.declared.raw.RefType.the-variants as ref
 use Rattle.memory.specs.Memory.{pagesOf}
 use Rattle.memory.specs.Grow.{mayHave}
 use Rattle.machine.specs.Machine.{Buffers, noLimits, noMemory, noTable, noSegment, nextByte, nextCell, freshMachine}
 use Rattle.machine.specs.Sound.{soundReferences, soundOver}
 use Rattle.machine.specs.Operation as operation
-use Rattle.machine.specs.Operation.{kindOf, binary, absentAsZero, limitFields, memoryFields, kindFields, tableFields}
-use Rattle.machine.specs.Outcome.{withTables, changed, metered}
+use Rattle.machine.specs.Outcome.{changed, metered}
 use Rattle.machine.specs.Step.{Stepped, step}
 use Rattle.machine.specs.declared.records.Machine.{Machine}
 use Rattle.machine.specs.declared.operation.Operation.{Operation}
-use Rattle.machine.specs.declared.operation.Operation.the-variants.{SetFuel, NewMemory, GrowMemory, NewTable, TableFill}
+use Rattle.machine.specs.declared.operation.Operation.the-variants as op
+use Rattle.machine.specs.declared.operation.FuelOp.the-variants as fuel
+use Rattle.machine.specs.declared.operation.MemoryOp.the-variants as memory
+use Rattle.machine.specs.declared.operation.TableOp.the-variants as table
 use Rattle.machine.proofs.Kept.{fresh-sound, step-sound, step-bytes-long}
 use Rattle.claims.specs.Answers.{accepted}
-use Rattle.claims.specs.Metered.{meteringOf, meets, lengthOf, bytesOf, priceOf, affords, grants, passes}
-use Rattle.claims.specs.Occasions.{validFields, makesMemory, growsMemory, makesTable, fills, occasion, acceptedWhen}
-use Rattle.claims.specs.Effects.{changeOf, fuelBy, limiterAfter, does}
-use Rattle.claims.specs.Bound.{Sums, wrote, pays, sums, most, pass, reaching, zeros, bytesPerUnit}
+use Rattle.claims.specs.Metered.{fuelMetering, memoryMetering, tableMetering, meteringOf, grows, meets, lengthOf, bytesOf, priceOf, affords, grants, passes}
+use Rattle.claims.specs.Occasions.{validWanted, fuelOccasion, makesMemory, growsMemory, memoryOccasion, makesTable, tableOccasion, occasion, acceptedWhen}
+use Rattle.claims.specs.Effects.{memorySizeAfter, tableSizeAfter, changeOf, countsAfter, fuelBy, handedTo, limiterAfter, acceptedStep}
+use Rattle.claims.specs.Bound.{Totals, wrote, pays, totals, mostBytes, noFunction, pass, fullestRun, zeros, bytesPerUnit}
+use Rattle.claims.proofs.Exiting.{branch}
 use Rattle.claims.proofs.Exits.{accepted-when, accepted-does}
 use Rattle.claims.proofs.Bound.{passes-accepted, pays-price}
 
--- the price of f units and what is short of one more, and of the latter alone
-pub price-most : (b f : ℕ) → 1 ≤ b → b * f + (b - 1) < 2 ^ 64 → price b (b * f + (b - 1)) ≡ f
+-- the price of f units and what is short of one more
+price-most : (b f : ℕ) → 1 ≤ b → b * f + (b - 1) < 2 ^ 64 → price b (b * f + (b - 1)) ≡ f
 price-most b f h k =
     let e : f + 0 ≡ f = omega arith in
     let g : b - 1 < b = omega arith in
     sym (price-word b (b * f + (b - 1)) (λ z. absurd (omega (arith, z))) k) ∙ mul-add-div {m = b} h f (b - 1) ∙ ap (λ (x : ℕ). f + x) (div-eq-of-lt g) ∙ e
 
-pub price-short : (b : ℕ) → 1 ≤ b → b - 1 < 2 ^ 64 → price b (b - 1) ≡ 0
-price-short b h k =
-    let e : b * 0 + (b - 1) ≡ b - 1 = omega arith in
-    ap (price b) (sym e) ∙ price-most b 0 h (rw e k)
-
 -- fuel of so many units, at B bytes a unit
 abbrev fuelOf : ℕ → ℕ → Fuel
 fuelOf b n = record { remaining = n; enabled = true; costs = bytesPerUnit b }
 
--- the run's machine: one memory of one-byte pages, and one table of no cells
-unfoldable machineOf : ℕ → ℕ → Fuel → Limiter → Machine
-machineOf total size f l =
+-- the run's machine: one memory of one-byte pages, and so many tables of no cells
+unfoldable machineOf : ℕ → ℕ → ℕ → Fuel → Limiter → Machine
+machineOf total tables size f l =
     record {
       memories = record { ty = record { index = I64; page = One; limits = noLimits }; start = 0; room = total; size = size } ∷ replicate 7 noMemory;
       tables = replicate 8 noTable;
       segments = replicate 8 noSegment;
-      counts = record { memories = 1; tables = 1; segments = 0 };
+      counts = record { memories = 1; tables = tables; segments = 0 };
       fuel = f;
       limiter = l;
     }
 
+-- with its table made, and no limiter
 abbrev grownTo : ℕ → ℕ → ℕ → ℕ → Machine
-grownTo total b size n = machineOf total size (fuelOf b n) noLimiter
+grownTo total b size n = machineOf total 1 size (fuelOf b n) noLimiter
 
 -- an unused limiter stays
 none-moved : moved noLimiter ≡ noLimiter
 unfolding moved noLimiter padded pick
 none-moved = refl
 
+-- and grants everything
 none-grants : grants (saysOf noLimiter) ≡ true
 unfolding saysOf noLimiter padded pick grants
 none-grants = refl
 
--- of equal parts
-machines : (total : ℕ) {size size′ : ℕ} {f f′ : Fuel} {l l′ : Limiter} → size ≡ size′ → f ≡ f′ → l ≡ l′
-    → machineOf total size f l ≡ machineOf total size′ f′ l′
-machines total {size} {size′} {f} {f′} {l} {l′} p q o =
-    ap (λ (x : ℕ). machineOf total x f l) p ∙ ap (λ (x : Fuel). machineOf total size′ x l) q ∙ ap (machineOf total size′ f′) o
+-- totals with what one operation adds
+abbrev more : ℕ → ℕ → ℕ → Totals → Totals
+more w u k s = record { bytes = w + s .bytes; units = u + s .units; passed = k + s .passed }
 
 -- a pass of n bytes, from the run's machine on
-record Passing (r total b size fuel n : ℕ) (bf : Buffers) (op : Operation) : Type 0 where
+record Passing (r total b size left n : ℕ) (bf : Buffers) (op : Operation) : Type 0 where
   meeting : meets (meteringOf op) ≡ true
-  long : bytesOf r (grownTo total b size fuel) op ≡ n
-  affordable : affords (grownTo total b size fuel) (priceOf r (grownTo total b size fuel) op) ≡ true
-  fits : acceptedWhen r (grownTo total b size fuel) bf op ≡ true
-  leads : does r (grownTo total b size fuel) bf op .machine ≡ grownTo total b (size + n) (fuel - price b n)
+  long : bytesOf r (grownTo total b size left) op ≡ n
+  affordable : affords (grownTo total b size left) (priceOf r (grownTo total b size left) op) ≡ true
+  fits : acceptedWhen r (grownTo total b size left) bf op ≡ true
+  leads : acceptedStep r (grownTo total b size left) bf op .machine ≡ grownTo total b (size + n) (left - price b n)
 
-module _ (r total b size fuel : ℕ) (bf : Buffers) (sound : soundOver (grownTo total b size fuel) bf ≡ true) where
+module _ (r total b size left : ℕ) (bf : Buffers) (sound : soundOver (grownTo total b size left) bf ≡ true) where
+  -- the machine before it
   abbrev m : Machine
-  m = grownTo total b size fuel
+  m = grownTo total b size left
 
-  affords-all : (p : ℕ) → p ≤ fuel → affords m p ≡ true
-  unfolding affords machineOf
-  affords-all p h = pick-true _ _ true refl ∙ le-leb p fuel h
+  -- an operation of n bytes
+  module _ (op : Operation) (n : ℕ) (long : bytesOf r m op ≡ n) where
+    -- its price is there
+    can : price b n ≤ left → affords m (priceOf r m op) ≡ true
+    unfolding affords machineOf pick
+    can h = le-leb _ left (rw long h)
 
-  price-of : (op : Operation) (n : ℕ) → bytesOf r m op ≡ n → priceOf r m op ≡ price b n
-  unfolding machineOf
-  price-of op n e = ap (price b) e
+    -- the fuel that it leaves
+    leaves : paid (fuelOf b left) (priceOf r m op) ≡ fuelOf b (left - price b n)
+    unfolding machineOf pick
+    leaves = ap (λ (x : ℕ). fuelOf b (left - price b x)) long
 
-  fill-long : bytesOf r m (TableFill 0 0 0 0 0) ≡ 0
-  unfolding meteringOf lengthOf
-  fill-long = zero-mul r
-
-  fill-can : price b 0 ≤ fuel → affords m (priceOf r m (TableFill 0 0 0 0 0)) ≡ true
-  fill-can h = affords-all _ (rw (price-of (TableFill 0 0 0 0 0) 0 fill-long) h)
-
-  -- the fuel that a price leaves
-  paid-of : (op : Operation) (n : ℕ) → bytesOf r m op ≡ n → paid (fuelOf b fuel) (priceOf r m op) ≡ fuelOf b (fuel - price b n)
-  unfolding pick
-  paid-of op n e = ap (λ (x : ℕ). fuelOf b (fuel - x)) (price-of op n e)
-
-  fill-leads : does r m bf (TableFill 0 0 0 0 0) .machine ≡ grownTo total b (size + 0) (fuel - price b 0)
-  unfolding does changed changeOf fuelBy limiterAfter meteringOf machineOf
-  fill-leads = let e : size ≡ size + 0 = omega arith in machines total e (paid-of (TableFill 0 0 0 0 0) 0 fill-long) refl
-
-  passing-fill : price b 0 ≤ fuel → Passing r total b size fuel 0 bf (TableFill 0 0 0 0 0)
-  unfolding meets meteringOf occasion fills operation.wellFormed binary elementMatches kindOf inside machineOf pick both
-  passing-fill h =
+  -- a fill of length 0
+  passing-none : price b 0 ≤ left → Passing r total b size left 0 bf (op.Table 0 (table.Fill 0 noFunction 0))
+  unfolding meets grows meteringOf tableMetering lengthOf occasion tableOccasion operation.wellFormed elementMatches inside machineOf acceptedStep changed changeOf countsAfter tableSizeAfter fuelBy limiterAfter pick both
+  passing-none h =
+      let fill : Operation = op.Table 0 (table.Fill 0 noFunction 0) in
+      let e : size ≡ size + 0 = omega arith in
       record {
         meeting = refl;
-        long = fill-long;
-        affordable = fill-can h;
-        fits = both-true _ _ refl (both-true _ _ sound (fill-can h));
-        leads = fill-leads;
+        long = zero-mul r;
+        affordable = can fill 0 (zero-mul r) h;
+        fits = both-true _ _ sound (can fill 0 (zero-mul r) h);
+        leads = (λ i. machineOf total 1 (e i) (leaves fill 0 (zero-mul r) i) noLimiter);
       }
 
-  module _ (n : ℕ) (some : 0 < n) (room : size + n ≤ total) (below : total < 2 ^ 64) (h : price b n ≤ fuel) where
-    grow-long : bytesOf r m (GrowMemory 0 n) ≡ n
-    unfolding meteringOf lengthOf machineOf
+  -- a growth by n pages of one byte
+  module _ (n : ℕ) (some : 0 < n) (room : size + n ≤ total) (below : total < 2 ^ 64) (h : price b n ≤ left) where
+    -- the operation
+    abbrev grow : Operation
+    grow = op.Memory 0 (memory.Grow n)
+
+    -- n bytes
+    grow-long : bytesOf r m grow ≡ n
+    unfolding meteringOf memoryMetering lengthOf machineOf
     grow-long = mul-one n
 
-    grow-can : affords m (priceOf r m (GrowMemory 0 n)) ≡ true
-    grow-can = affords-all _ (rw (price-of (GrowMemory 0 n) n grow-long) h)
-
-    -- the pages and the bytes after it
-    pages : size / 1 + n ≡ size + n
-    pages = ap (λ (x : ℕ). x + n) (div-one size)
-
+    -- the bytes after it
     size-after : (size / 1 + n) * 1 ≡ size + n
-    size-after = mul-one (size / 1 + n) ∙ pages
+    size-after = mul-one (size / 1 + n) ∙ ap (λ (x : ℕ). x + n) (div-one size)
 
-    grow-occasion : growsMemory r m 0 n ≡ true
-    unfolding growsMemory machineOf mayHave pagesOf pageBound admitsOf
+    -- it is accepted
+    grow-occasion : occasion r m bf grow ≡ true
+    unfolding occasion memoryOccasion growsMemory machineOf mayHave pagesOf pageBound admitsOf meteringOf memoryMetering
     grow-occasion =
-        let bound : size / 1 + n ≤ 2 ^ 64 = rw pages (omega arith) in
-        let bytes : (size / 1 + n) * 1 < 2 ^ 64 = rw size-after (omega arith) in
-        let held : (size / 1 + n) * 1 ≤ total = rw size-after room in
+        let bound : size / 1 + n ≤ 2 ^ 64 = omega (arith, size-after) in
+        let bytes : (size / 1 + n) * 1 < 2 ^ 64 = omega (arith, size-after) in
+        let held : (size / 1 + n) * 1 ≤ total = omega (arith, size-after) in
         both-true _ _ refl
         (pick-false _ true _ (ne-eqb n 0 (λ z. absurd (omega (arith, z))))
         ∙ both-true _ _ (both-true _ _ (le-leb _ _ bound) (both-true _ _ (pick-false false (leb (size / 1 + n) 0) true refl) (lt-ltb _ _ bytes)))
-        (both-true _ _ none-grants (both-true _ _ grow-can (le-leb _ _ held))))
+        (both-true _ _ none-grants (both-true _ _ (can grow n grow-long h) (le-leb _ _ held))))
 
-    grow-leads : does r m bf (GrowMemory 0 n) .machine ≡ grownTo total b (size + n) (fuel - price b n)
-    unfolding does changed changeOf fuelBy limiterAfter meteringOf machineOf pagesOf pick
-    grow-leads =
+    -- it is a pass
+    passing-some : Passing r total b size left n bf grow
+    unfolding meets grows meteringOf memoryMetering operation.wellFormed operation.memoryWellFormed acceptedStep changed changeOf countsAfter memorySizeAfter fuelBy limiterAfter machineOf pagesOf pick both
+    passing-some =
         let t : ltb 0 n ≡ true = lt-ltb 0 n some in
-        machines total size-after
-        (pick-true _ (paid (fuelOf b fuel) (priceOf r m (GrowMemory 0 n))) (fuelOf b fuel) t ∙ paid-of (GrowMemory 0 n) n grow-long)
-        (pick-true _ (moved noLimiter) noLimiter t ∙ none-moved)
-
-    passing-grow : Passing r total b size fuel n bf (GrowMemory 0 n)
-    unfolding meets meteringOf occasion operation.wellFormed
-    passing-grow =
+        let f = pick-true _ (paid (fuelOf b left) (priceOf r m grow)) (fuelOf b left) t ∙ leaves grow n grow-long in
+        let l = pick-true _ (moved noLimiter) noLimiter t ∙ none-moved in
         record {
-          meeting = lt-ltb 0 n some;
+          meeting = t;
           long = grow-long;
-          affordable = grow-can;
-          fits = both-true _ _ refl (both-true _ _ sound grow-occasion);
-          leads = grow-leads;
+          affordable = can grow n grow-long h;
+          fits = both-true _ _ sound grow-occasion;
+          leads = (λ i. machineOf total 1 (size-after i) (f i) (l i));
         }
 
   -- each pass
-  passing : (n : ℕ) → size + n ≤ total → total < 2 ^ 64 → price b n ≤ fuel → Passing r total b size fuel n bf (pass n)
+  passing : (n : ℕ) → size + n ≤ total → total < 2 ^ 64 → price b n ≤ left → Passing r total b size left n bf (pass n)
   unfolding pass
   passing n room below h =
-      either (eqb n 0)
+      branch (Passing r total b size left n bf) (eqb n 0) _ _
       (λ t.
-      let e : 0 ≡ n = sym (eqb-true n 0 t) in
-      subst (Passing r total b size fuel n bf) (sym (pick-true _ _ _ t))
-      (subst (λ (x : ℕ). price b x ≤ fuel → Passing r total b size fuel x bf (TableFill 0 0 0 0 0)) e passing-fill h))
+      subst (λ (x : ℕ). price b x ≤ left → Passing r total b size left x bf (op.Table 0 (table.Fill 0 noFunction 0))) (sym (eqb-true n 0 t)) passing-none h)
       (λ t.
       let e : n ≡ 0 → ⊥ = eqb-false n 0 t in
-      subst (Passing r total b size fuel n bf) (sym (pick-false _ _ _ t)) (passing-grow n (omega arith) room below h))
+      passing-some n (omega arith) room below h)
 
--- one more than one less
-more-of : (c k : ℕ) → 1 ≤ k → c * k ≡ c + c * (k - 1)
-more-of c zero h = absurd (omega arith)
-more-of c (suc k) h =
-    let e : suc k - 1 ≡ k = omega arith in
-    let g : c * suc k ≡ c + c * k = omega arith in
-    g ∙ ap (λ (x : ℕ). c + c * x) (sym e)
+  module _ (n : ℕ) (room : size + n ≤ total) (below : total < 2 ^ 64) (h : price b n ≤ left) where
+    -- what is known of a pass
+    abbrev facts : Passing r total b size left n bf (pass n)
+    facts = passing n room below h
 
--- sums with what one operation adds
-abbrev more : ℕ → ℕ → ℕ → Sums → Sums
-more w u k s = record { bytes = w + s .bytes; units = u + s .units; passed = k + s .passed }
+    -- it is accepted
+    pass-accepted : accepted (step r m bf (pass n) .answer) ≡ true
+    pass-accepted = accepted-when r m bf (pass n) ∙ facts .fits
 
-sums-of : {w w′ u u′ k k′ : ℕ} → w ≡ w′ → u ≡ u′ → k ≡ k′
-    → _≡_ {A = Sums} (record { bytes = w; units = u; passed = k }) (record { bytes = w′; units = u′; passed = k′ })
-sums-of {w} {w′} {u} {u′} {k} {k′} p q o =
-    let of : ℕ → ℕ → ℕ → Sums = λ x y z. record { bytes = x; units = y; passed = z } in
-    ap (λ (x : ℕ). of x u k) p ∙ ap (λ (x : ℕ). of w′ x k) q ∙ ap (of w′ u′) o
+    -- it leads to the run's next machine
+    pass-leads : step r m bf (pass n) .machine ≡ grownTo total b (size + n) (left - price b n)
+    pass-leads = ap (λ (s : Stepped). s .machine) (accepted-does r m bf (pass n) pass-accepted) ∙ facts .leads
+
+    -- which is sound
+    pass-sound : soundOver (grownTo total b (size + n) (left - price b n)) (step r m bf (pass n) .buffers) ≡ true
+    pass-sound = subst (λ (x : Machine). soundOver x (step r m bf (pass n) .buffers) ≡ true) pass-leads (step-sound r m bf (pass n) sound)
+
+    -- a pass adds its bytes, its price and one
+    totals-pass : (ops : List Operation) → totals r m bf (pass n ∷ ops)
+        ≡ more n (price b n) 1 (totals r (grownTo total b (size + n) (left - price b n)) (step r m bf (pass n) .buffers) ops)
+    unfolding totals wrote machineOf
+    totals-pass ops =
+        let t = passes-accepted r m bf (pass n) refl (facts .meeting) pass-accepted in
+        let w : wrote r m bf (pass n) ≡ n = pick-true _ (bytesOf r m (pass n)) 0 (both-true _ _ (facts .meeting) pass-accepted) ∙ facts .long in
+        let u : pays r m bf (pass n) ≡ price b n
+        = pays-price r m bf (pass n) refl (facts .meeting) pass-accepted (facts .affordable) ∙ ap (price b) (facts .long) in
+        let k : _≡_ {A = ℕ} (pick (passes r m bf (pass n)) 1 0) 1 = pick-true _ 1 0 t in
+        (λ i. more (w i) (u i) (k i) (totals r (pass-leads i) (step r m bf (pass n) .buffers) ops))
+
+module _ (r total b : ℕ) (below : total < 2 ^ 64) (some : 1 ≤ b) where
+  -- a pass of f units, before others that write w bytes in k passes and pay nothing
+  first-pass : (f size left w k : ℕ) (bf : Buffers) (ops : List Operation) → soundOver (grownTo total b size left) bf ≡ true → f ≤ left → size + (b * f + (b - 1)) ≤ total
+      → ((c : Buffers) → soundOver (grownTo total b (size + (b * f + (b - 1))) (left - f)) c ≡ true
+      → totals r (grownTo total b (size + (b * f + (b - 1))) (left - f)) c ops ≡ record { bytes = w; units = 0; passed = k })
+      → totals r (grownTo total b size left) bf (pass (b * f + (b - 1)) ∷ ops) ≡ record { bytes = b * f + (b - 1) + w; units = f; passed = suc k }
+  first-pass f size left w k bf ops sound enough room g =
+      let n = b * f + (b - 1) in
+      let p : price b (b * f + (b - 1)) ≡ f = price-most b f some (omega arith) in
+      let h : price b (b * f + (b - 1)) ≤ left = omega arith in
+      let s = rw p at (pass-sound r total b size left bf sound n room below h) in
+      let units : f + 0 ≡ f = omega arith in
+      let passed : 1 + k ≡ suc k = omega arith in
+      rw p at (totals-pass r total b size left bf sound n room below h ops) ∙ ap (more n f 1) (g _ s)
+      ∙ (λ i. record { bytes = b * f + (b - 1) + w; units = units i; passed = passed i })
+
+  -- a pass of f units, then passes short of a unit, which are free
+  all-passes : (j f size left : ℕ) (bf : Buffers) → soundOver (grownTo total b size left) bf ≡ true → f ≤ left → size + (b * f + (b - 1) * suc j) ≤ total
+      → totals r (grownTo total b size left) bf (pass (b * f + (b - 1)) ∷ replicate j (pass (b - 1)))
+      ≡ record { bytes = b * f + (b - 1) * suc j; units = f; passed = suc j }
+  unfolding totals
+  all-passes zero f size left bf sound enough room =
+      let e : b * f + (b - 1) + 0 ≡ b * f + (b - 1) * 1 = omega arith in
+      first-pass f size left 0 0 bf [] sound enough (omega arith) (λ c s. refl) ∙ (λ i. record { bytes = e i; units = f; passed = 1 })
+  all-passes (suc j) f size left bf sound enough room =
+      let z : b * 0 + (b - 1) ≡ b - 1 = omega arith in
+      let e : b * f + (b - 1) + (b * 0 + (b - 1) * suc j) ≡ b * f + (b - 1) * suc (suc j) = omega arith in
+      first-pass f size left (b * 0 + (b - 1) * suc j) (suc j) bf (replicate (suc j) (pass (b - 1))) sound enough (omega arith)
+      (λ c s. rw z at (all-passes j 0 (size + (b * f + (b - 1))) (left - f) c s (omega arith) (omega arith)))
+      ∙ (λ i. record { bytes = e i; units = f; passed = suc (suc j) })
 
 module _ (r : ℕ) where
   -- an operation that does not meet the fuel step adds nothing
-  sums-free : (m : Machine) (bf : Buffers) (op : Operation) (ops : List Operation) → meets (meteringOf op) ≡ false
-      → sums r m bf (op ∷ ops) ≡ sums r (step r m bf op .machine) (step r m bf op .buffers) ops
-  unfolding sums wrote pays passes
-  sums-free m bf op ops e =
-      let s = sums r (step r m bf op .machine) (step r m bf op .buffers) ops in
-      let t : passes r m bf op ≡ false = both-left _ _ e in
-      let w : wrote r m bf op ≡ 0 = pick-false _ (bytesOf r m op) 0 (both-left _ _ e) in
-      let u : pays r m bf op ≡ 0 = pick-false _ (m .fuel .remaining - step r m bf op .machine .fuel .remaining) 0 t in
-      let k : _≡_ {A = ℕ} (pick (passes r m bf op) 1 0) 0 = pick-false _ 1 0 t in
-      let w′ : wrote r m bf op + s .bytes ≡ s .bytes = omega arith in
-      let u′ : pays r m bf op + s .units ≡ s .units = omega arith in
-      let k′ : pick (passes r m bf op) 1 0 + s .passed ≡ s .passed = omega arith in
-      sums-of w′ u′ k′
+  totals-free : (m : Machine) (bf : Buffers) (op : Operation) (ops : List Operation) → meets (meteringOf op) ≡ false
+      → totals r m bf (op ∷ ops) ≡ totals r (step r m bf op .machine) (step r m bf op .buffers) ops
+  unfolding totals wrote pays passes
+  totals-free m bf op ops e = simp (pick-false, both-left, e, zero-add)
 
-  module _ (total b : ℕ) (below : total < 2 ^ 64) where
-    module _ (size fuel n : ℕ) (bf : Buffers) (sound : soundOver (grownTo total b size fuel) bf ≡ true) (room : size + n ≤ total) (h : price b n ≤ fuel) where
-      abbrev facts : Passing r total b size fuel n bf (pass n)
-      facts = passing r total b size fuel bf sound n room below h
+  -- free operations lead on, with the machine sound and the bytes as many
+  record Led (m : Machine) (bf : Buffers) (ops : List Operation) (m′ : Machine) (ops′ : List Operation) : Type 0 where
+    after : Buffers
+    same : totals r m bf ops ≡ totals r m′ after ops′
+    sound : soundOver m′ after ≡ true
+    long : length (after .bytes) ≡ length (bf .bytes)
 
-      pass-accepted : accepted (step r (grownTo total b size fuel) bf (pass n) .answer) ≡ true
-      pass-accepted = accepted-when r _ bf (pass n) ∙ facts .fits
+  -- one after another
+  led-on : {m m′ m″ : Machine} {bf : Buffers} {ops ops′ ops″ : List Operation} → Led m bf ops m′ ops′
+      → ((c : Buffers) → soundOver m′ c ≡ true → length (c .bytes) ≡ length (bf .bytes) → Led m′ c ops′ m″ ops″) → Led m bf ops m″ ops″
+  led-on x f =
+      let y = f (x .after) (x .sound) (x .long) in
+      record { after = y .after; same = x .same ∙ y .same; sound = y .sound; long = y .long ∙ x .long }
 
-      pass-leads : step r (grownTo total b size fuel) bf (pass n) .machine ≡ grownTo total b (size + n) (fuel - price b n)
-      pass-leads = ap (λ (s : Stepped). s .machine) (accepted-does r _ bf (pass n) pass-accepted) ∙ facts .leads
+  -- one that is accepted leads to what it does
+  led : (m m′ : Machine) (bf : Buffers) (op : Operation) (ops : List Operation) → meets (meteringOf op) ≡ false → operation.wellFormed op ≡ true
+      → soundOver m bf ≡ true → occasion r m bf op ≡ true → acceptedStep r m bf op .machine ≡ m′ → Led m bf (op ∷ ops) m′ ops
+  led m m′ bf op ops n w s o e =
+      let a = accepted-when r m bf op ∙ both-true _ _ w (both-true _ _ s o) in
+      let g : step r m bf op .machine ≡ m′ = ap (λ (x : Stepped). x .machine) (accepted-does r m bf op a) ∙ e in
+      record {
+        after = step r m bf op .buffers;
+        same = totals-free m bf op ops n ∙ ap (λ (x : Machine). totals r x (step r m bf op .buffers) ops) g;
+        sound = subst (λ (x : Machine). soundOver x (step r m bf op .buffers) ≡ true) g (step-sound r m bf op s);
+        long = step-bytes-long r m bf op;
+      }
 
-      sums-pass : (ops : List Operation) → sums r (grownTo total b size fuel) bf (pass n ∷ ops)
-          ≡ more n (price b n) 1 (sums r (grownTo total b (size + n) (fuel - price b n)) (step r (grownTo total b size fuel) bf (pass n) .buffers) ops)
-      unfolding sums wrote machineOf
-      sums-pass ops =
-          let m = grownTo total b size fuel in
-          let b′ = step r m bf (pass n) .buffers in
-          let t = passes-accepted r m bf (pass n) refl (facts .meeting) pass-accepted in
-          let w : wrote r m bf (pass n) ≡ n = pick-true _ (bytesOf r m (pass n)) 0 (both-true _ _ (facts .meeting) pass-accepted) ∙ facts .long in
-          let u : pays r m bf (pass n) ≡ price b n
-          = pays-price r m bf (pass n) refl (facts .meeting) pass-accepted (facts .affordable) ∙ ap (price b) (facts .long) in
-          let k : _≡_ {A = ℕ} (pick (passes r m bf (pass n)) 1 0) 1 = pick-true _ 1 0 t in
-          let rest : sums r (step r m bf (pass n) .machine) b′ ops ≡ sums r (grownTo total b (size + n) (fuel - price b n)) b′ ops
-          = ap (λ (x : Machine). sums r x b′ ops) pass-leads in
-          ap (λ (x : ℕ). more x (pays r m bf (pass n)) (pick (passes r m bf (pass n)) 1 0) (sums r (step r m bf (pass n) .machine) b′ ops)) w
-          ∙ ap (λ (x : ℕ). more n x (pick (passes r m bf (pass n)) 1 0) (sums r (step r m bf (pass n) .machine) b′ ops)) u
-          ∙ ap (λ (x : ℕ). more n (price b n) x (sums r (step r m bf (pass n) .machine) b′ ops)) k
-          ∙ ap (more n (price b n) 1) rest
+  -- the three operations before the passes
+  module _ (total b f : ℕ) (bf : Buffers) (ops : List Operation) where
+    -- the machine before its fuel is set
+    abbrev fresh : Machine
+    fresh = freshMachine true (bytesPerUnit b)
 
-      pass-sound : soundOver (grownTo total b (size + n) (fuel - price b n)) (step r (grownTo total b size fuel) bf (pass n) .buffers) ≡ true
-      pass-sound =
-          subst (λ (x : Machine). soundOver x (step r (grownTo total b size fuel) bf (pass n) .buffers) ≡ true) pass-leads
-          (step-sound r (grownTo total b size fuel) bf (pass n) sound)
+    -- before its memory is made
+    abbrev first : Machine
+    first = metered (freshMachine true (bytesPerUnit b)) (fuelOf b f) noLimiter
 
-    -- passes short of a unit are free
-    module _ (some : 1 ≤ b) (wide : b - 1 < 2 ^ 64) where
-      free-passes : (j size fuel : ℕ) (bf : Buffers) → soundOver (grownTo total b size fuel) bf ≡ true → size + (b - 1) * j ≤ total
-          → sums r (grownTo total b size fuel) bf (replicate j (pass (b - 1))) ≡ record { bytes = (b - 1) * j; units = 0; passed = j }
-      unfolding sums
-      free-passes zero size fuel bf sound room = let e : 0 ≡ (b - 1) * 0 = omega arith in sums-of e refl refl
-      free-passes (suc j) size fuel bf sound room =
-          let p : price b (b - 1) ≡ 0 = price-short b some wide in
-          let now : size + (b - 1) ≤ total = omega arith in
-          let later : size + (b - 1) + (b - 1) * j ≤ total = omega arith in
-          let h : price b (b - 1) ≤ fuel = omega arith in
-          let bytes : b - 1 + (b - 1) * j ≡ (b - 1) * suc j = omega arith in
-          let units : price b (b - 1) + 0 ≡ 0 = omega arith in
-          let all : 1 + j ≡ suc j = omega arith in
-          sums-pass size fuel (b - 1) bf sound now h (replicate j (pass (b - 1)))
-          ∙ ap (more (b - 1) (price b (b - 1)) 1) (free-passes j (size + (b - 1)) (fuel - price b (b - 1)) _ (pass-sound size fuel (b - 1) bf sound now h) later)
-          ∙ sums-of bytes units all
+    -- before its table is made
+    abbrev second : Machine
+    second = machineOf total 0 0 (fuelOf b f) noLimiter
 
-      -- the first pass pays for all the units
-      all-passes : (f k : ℕ) (bf : Buffers) → 1 ≤ k → most b f k ≤ total → soundOver (grownTo total b 0 f) bf ≡ true
-          → sums r (grownTo total b 0 f) bf (pass (b * f + (b - 1)) ∷ replicate (k - 1) (pass (b - 1))) ≡ record { bytes = most b f k; units = f; passed = k }
-      all-passes f k bf least room sound =
-          let n = b * f + (b - 1) in
-          let split : (b - 1) * k ≡ b - 1 + (b - 1) * (k - 1) = more-of (b - 1) k least in
-          let p : price b (b * f + (b - 1)) ≡ f = price-most b f some (omega arith) in
-          let now : 0 + (b * f + (b - 1)) ≤ total = omega arith in
-          let later : 0 + (b * f + (b - 1)) + (b - 1) * (k - 1) ≤ total = omega arith in
-          let h : price b (b * f + (b - 1)) ≤ f = omega arith in
-          let bytes : b * f + (b - 1) + (b - 1) * (k - 1) ≡ most b f k = omega arith in
-          let units : price b (b * f + (b - 1)) + 0 ≡ f = omega arith in
-          let all : 1 + (k - 1) ≡ k = omega arith in
-          sums-pass 0 f n bf sound now h (replicate (k - 1) (pass (b - 1)))
-          ∙ ap (more n (price b n) 1) (free-passes (k - 1) (0 + n) (f - price b n) _ (pass-sound 0 f n bf sound now h) later)
-          ∙ sums-of bytes units all
+    -- the first: its fuel is set
+    led-fuel : soundOver fresh bf ≡ true → Led fresh bf (op.Fuel (fuel.SetFuel f) ∷ ops) first ops
+    unfolding meets meteringOf fuelMetering operation.wellFormed operation.fuelWellFormed occasion fuelOccasion freshMachine acceptedStep changed changeOf countsAfter fuelBy limiterAfter handedTo
+    led-fuel s = led fresh first bf (op.Fuel (fuel.SetFuel f)) ops refl refl s refl refl
 
-    -- the machine before its memory is made, and before its table is
-    abbrev first : ℕ → Machine
-    first f = metered (freshMachine true (bytesPerUnit b)) (fuelOf b f) noLimiter
-
-    abbrev second : ℕ → Machine
-    second f = withTables (grownTo total b 0 f) (replicate 8 noTable) 0
-
-    does-fuel : (f : ℕ) (bf : Buffers) → does r (freshMachine true (bytesPerUnit b)) bf (SetFuel f) .machine ≡ first f
-    unfolding does changed changeOf fuelBy limiterAfter meteringOf freshMachine
-    does-fuel f bf = refl
-
-    does-memory : (f : ℕ) (bf : Buffers) → does r (first f) bf (NewMemory total 1 0 0 0 0) .machine ≡ second f
-    unfolding does changed changeOf fuelBy limiterAfter meteringOf freshMachine machineOf pick moved noLimiter padded nextByte
-    does-memory f bf = refl
-
-    does-table : (f : ℕ) (bf : Buffers) → does r (second f) bf (NewTable 0 0 0 0 0 0 0 0) .machine ≡ grownTo total b 0 f
-    unfolding does changed changeOf fuelBy limiterAfter meteringOf freshMachine machineOf pick moved noLimiter padded nextCell kindOf
-    does-table f bf = refl
-
-    fits-memory : (f : ℕ) (bf : Buffers) → length (bf .bytes) ≡ total → occasion r (first f) bf (NewMemory total 1 0 0 0 0) ≡ true
-    unfolding occasion makesMemory freshMachine nextByte validFields validMemory validLimits pageBound pick
-    fits-memory f bf e =
+    -- the second: its memory is made
+    led-memory : length (bf .bytes) ≡ total → soundOver first bf ≡ true
+        → Led first bf (op.NewMemory total (record { wide = true; limits = noLimits; exponent = 0 }) ∷ ops) second ops
+    unfolding meets meteringOf operation.wellFormed occasion makesMemory freshMachine nextByte validWanted validMemory validLimits pageBound acceptedStep changed changeOf countsAfter fuelBy limiterAfter machineOf pick both
+    led-memory e s =
         let h : total ≤ length (bf .bytes) - 0 = omega arith in
-        both-true _ _ (both-true _ _ refl (le-leb _ _ h))
-        (both-true _ _ (both-true _ _ refl (both-true _ _ refl refl)) (both-true _ _ refl (both-true _ _ none-grants (le-leb 0 total (omega arith)))))
+        let n : 0 ≤ total = omega arith in
+        led first second bf (op.NewMemory total (record { wide = true; limits = noLimits; exponent = 0 })) ops refl refl s
+        (simp (le-leb total (length (bf .bytes) - 0) h, none-grants, le-leb 0 total n))
+        (λ i. machineOf total 0 0 (fuelOf b f) (none-moved i))
 
-    fits-table : (f : ℕ) (bf : Buffers) → occasion r (second f) bf (NewTable 0 0 0 0 0 0 0 0) ≡ true
-    unfolding occasion makesTable machineOf nextCell validTable validLimits tableBound elementMatches kindOf pick
-    fits-table f bf =
+    -- the third: its table is made
+    led-table : soundOver second bf ≡ true
+        → Led second bf (op.NewTable 0 (record { element = ref.Func; wide = false; limits = noLimits }) noFunction ∷ ops) (grownTo total b 0 f) ops
+    unfolding meets meteringOf operation.wellFormed occasion makesTable machineOf nextCell validTable validLimits tableBound elementMatches acceptedStep changed changeOf countsAfter fuelBy limiterAfter pick both
+    led-table s =
         let h : 0 ≤ length (bf .cells) - 0 = omega arith in
-        both-true _ _ (both-true _ _ refl (le-leb _ _ h))
-        (both-true _ _ (both-true _ _ refl refl) (both-true _ _ refl (both-true _ _ none-grants refl)))
-
-    -- free operations lead on, with the machine sound and the bytes as many
-    record Led (m : Machine) (bf : Buffers) (ops : List Operation) (m′ : Machine) (ops′ : List Operation) : Type 0 where
-      after : Buffers
-      same : sums r m bf ops ≡ sums r m′ after ops′
-      sound : soundOver m′ after ≡ true
-      long : length (after .bytes) ≡ length (bf .bytes)
-
-    -- one after another
-    led-on : {m m′ m″ : Machine} {bf : Buffers} {ops ops′ ops″ : List Operation} → Led m bf ops m′ ops′
-        → ((c : Buffers) → soundOver m′ c ≡ true → length (c .bytes) ≡ length (bf .bytes) → Led m′ c ops′ m″ ops″) → Led m bf ops m″ ops″
-    led-on x f =
-        let y = f (x .after) (x .sound) (x .long) in
-        record { after = y .after; same = x .same ∙ y .same; sound = y .sound; long = y .long ∙ x .long }
-
-    -- one that is accepted leads to what it does
-    led : (m m′ : Machine) (bf : Buffers) (op : Operation) (ops : List Operation) → meets (meteringOf op) ≡ false → operation.wellFormed op ≡ true
-        → soundOver m bf ≡ true → occasion r m bf op ≡ true → does r m bf op .machine ≡ m′ → Led m bf (op ∷ ops) m′ ops
-    led m m′ bf op ops n w s o e =
-        let a = accepted-when r m bf op ∙ both-true _ _ w (both-true _ _ s o) in
-        let g : step r m bf op .machine ≡ m′ = ap (λ (x : Stepped). x .machine) (accepted-does r m bf op a) ∙ e in
-        record {
-          after = step r m bf op .buffers;
-          same = sums-free m bf op ops n ∙ ap (λ (x : Machine). sums r x (step r m bf op .buffers) ops) g;
-          sound = subst (λ (x : Machine). soundOver x (step r m bf op .buffers) ≡ true) g (step-sound r m bf op s);
-          long = step-bytes-long r m bf op;
-        }
-
-    -- the three operations before the passes
-    led-fuel : (f : ℕ) (bf : Buffers) (ops : List Operation) → soundOver (freshMachine true (bytesPerUnit b)) bf ≡ true
-        → Led (freshMachine true (bytesPerUnit b)) bf (SetFuel f ∷ ops) (first f) ops
-    unfolding meets meteringOf operation.wellFormed occasion freshMachine
-    led-fuel f bf ops s = led (freshMachine true (bytesPerUnit b)) (first f) bf (SetFuel f) ops refl refl s refl (does-fuel f bf)
-
-    led-memory : (f : ℕ) (bf : Buffers) (ops : List Operation) → length (bf .bytes) ≡ total → soundOver (first f) bf ≡ true
-        → Led (first f) bf (NewMemory total 1 0 0 0 0 ∷ ops) (second f) ops
-    unfolding meets meteringOf operation.wellFormed memoryFields limitFields binary absentAsZero pick both
-    led-memory f bf ops e s = led (first f) (second f) bf (NewMemory total 1 0 0 0 0) ops refl refl s (fits-memory f bf e) (does-memory f bf)
-
-    led-table : (f : ℕ) (bf : Buffers) (ops : List Operation) → soundOver (second f) bf ≡ true
-        → Led (second f) bf (NewTable 0 0 0 0 0 0 0 0 ∷ ops) (grownTo total b 0 f) ops
-    unfolding meets meteringOf operation.wellFormed kindFields tableFields limitFields binary absentAsZero pick both
-    led-table f bf ops s = led (second f) (grownTo total b 0 f) bf (NewTable 0 0 0 0 0 0 0 0) ops refl refl s (fits-table f bf) (does-table f bf)
-
-    led-all : (f : ℕ) (bf : Buffers) (ops : List Operation) → length (bf .bytes) ≡ total → soundOver (freshMachine true (bytesPerUnit b)) bf ≡ true
-        → Led (freshMachine true (bytesPerUnit b)) bf (SetFuel f ∷ NewMemory total 1 0 0 0 0 ∷ NewTable 0 0 0 0 0 0 0 0 ∷ ops) (grownTo total b 0 f) ops
-    led-all f bf ops e s = led-on (led-fuel f bf _ s) (λ c t l. led-on (led-memory f c _ (l ∙ e) t) (λ c t l. led-table f c ops t))
+        led second (grownTo total b 0 f) bf (op.NewTable 0 (record { element = ref.Func; wide = false; limits = noLimits }) noFunction) ops refl refl s
+        (simp (le-leb 0 (length (bf .cells) - 0) h, none-grants))
+        (λ i. machineOf total 1 0 (fuelOf b f) (none-moved i))
 
 -- the bound is reached
-pub bound-reached : (r b f k : ℕ) → 1 ≤ b → 1 ≤ k → most b f k < 2 ^ 64
-    → sums r (freshMachine true (bytesPerUnit b)) (zeros (most b f k)) (reaching b f k) ≡ record { bytes = most b f k; units = f; passed = k }
-unfolding reaching soundReferences
+pub bound-reached : (r b f k : ℕ) → 1 ≤ b → 1 ≤ k → mostBytes b f k < 2 ^ 64
+    → totals r (freshMachine true (bytesPerUnit b)) (zeros (mostBytes b f k)) (fullestRun b f k) ≡ record { bytes = mostBytes b f k; units = f; passed = k }
+unfolding fullestRun soundReferences
 bound-reached r b f k some least below =
-    let total = most b f k in
-    let split : (b - 1) * k ≡ b - 1 + (b - 1) * (k - 1) = more-of (b - 1) k least in
-    let wide : b - 1 < 2 ^ 64 = omega arith in
-    let start = led-all r total b below f (zeros total) (pass (b * f + (b - 1)) ∷ replicate (k - 1) (pass (b - 1))) (length-replicate total 0)
-    (fresh-sound true (bytesPerUnit b) (zeros total) (both-true _ _ refl refl)) in
-    start .same ∙ all-passes r total b below some wide f k (start .after) least (omega arith) (start .sound)
+    let total = mostBytes b f k in
+    let e : suc (k - 1) ≡ k = omega arith in
+    let start =
+    led-on r (led-fuel r total b f (zeros total) _ (fresh-sound true (bytesPerUnit b) (zeros total) (both-true _ _ refl refl)))
+    (λ c s l. led-on r (led-memory r total b f c _ (l ∙ length-replicate total 0) s) (λ c s l. led-table r total b f c _ s)) in
+    start .same ∙ rw e at (all-passes r total b below some (k - 1) f 0 f (start .after) (start .sound) (omega arith) (rw e (omega arith)))

@@ -1,23 +1,16 @@
--- Small laws of how operations on tables and segments end: tests, refusals of the list, records that stay, and what is soundly made. Assumes nothing.
-use Prim.Native.Nat.{ℕ, zero, suc, _+_, _-_, _^_, _≤_, _<_}
-use mathlib.Core.Path.{_≡_, refl, sym, ap, subst, _∙_}
-use mathlib.Core.Bool.{Bool, true, false}
-use mathlib.Core.List.{List, [], _∷_}
+-- Small laws of how operations on tables and segments end: kinds, spans of no cells, and what is soundly made or named. Assumes nothing.
+use Prim.Native.Nat.{ℕ, _-_, _^_, _≤_, _<_}
+use mathlib.Core.Path.{_≡_, refl, ap, _∙_}
+use mathlib.Core.Bool.{true}
+use mathlib.Core.List.{List}
 use native.Mathlib.Omega.{arith}
-use lib.Dec.{eqb, leb, ltb}
-use lib.ListN.{length, getD, set}
-use borrow.Author.Tests.{le-leb, lt-leb, leb-true, ltb-true, ltb-false}
-use Rattle.types.specs.Pick.{pick, both}
-use Rattle.types.specs.Answer.{refusal, refuse, accept}
-use Rattle.types.specs.Fuel.{short, paid}
-use Rattle.types.specs.Limiter.{heardOf}
+use lib.Dec.{leb, ltb}
+use lib.ListN.{length}
+use borrow.Author.Tests.{le-leb, ltb-true, ltb-false}
+use Rattle.types.specs.Pick.{pick}
 use Rattle.types.specs.Span.{inside, cut, over}
 use Rattle.types.proofs.Spans.{over-nil}
-use Rattle.types.specs.Grant.{SpanDone, spanDone}
-use Rattle.types.specs.declared.answer.Refusal.{Refusal}
-use Rattle.types.specs.declared.answer.Answer.the-variants as answer
-use Rattle.types.specs.declared.limiter.Limiter.{Limiter}
-use Rattle.types.proofs.Picks.{pick-true, pick-false, pick-same, both-true, both-then, both-left, both-1, both-2, either}
+use Rattle.types.proofs.Picks.{pick-true, pick-same, both-true, both-1, both-2, either}
 use Rattle.types.specs.Raw.{sameKind}
 use Rattle.types.specs.TableType.{elementMatches}
 use Rattle.types.specs.declared.table_ty.TableType.{TableType}
@@ -25,63 +18,18 @@ use Rattle.types.specs.declared.raw.RefType.{RefType}
 use Rattle.types.specs.declared.raw.RefType.the-variants.{Func, Extern}
 use Rattle.table.specs.Table.{soundBuffer}
 use Rattle.table.specs.Copy.{roomsApart, soundTwo}
-use Rattle.machine.specs.Machine.{Buffers, buffers, tableAt, noTable, tableEnd, nextCell, nextItem}
-use Rattle.machine.specs.Sound.{soundTables, soundReferences, soundOver}
-use Rattle.machine.specs.Operation.{wellFormed}
-use Rattle.machine.specs.Outcome.{withTables, metered, changed, settled}
-use Rattle.machine.specs.Step.{after, onCells, spannedOn, perform, decide, step}
-use Rattle.machine.specs.declared.records.Machine.{Machine}
-use Rattle.machine.specs.declared.outcome.Change.the-variants as change
-use Rattle.machine.specs.declared.operation.Operation.{Operation}
 use Rattle.table.specs.declared.table.Table.{Table}
+use Rattle.machine.specs.Machine.{Buffers, tableAt, noTable, tableEnd, nextCell, nextItem}
+use Rattle.machine.specs.Sound.{soundTables, soundReferences, soundOver}
+use Rattle.machine.specs.declared.records.Machine.{Machine}
 use Rattle.machine.proofs.ListLaws.{rooms-apart}
 use Rattle.machine.proofs.Rooms.{parts, table-sound, next-cell-inside, next-item-inside}
-use Rattle.claims.specs.Answers.{listed}
-use Rattle.claims.specs.Metered.{meteringOf, grows, affords, grants, paidRefusal}
-use Rattle.claims.specs.Occasions.{occasion}
-use Rattle.claims.specs.Effects.{does}
-use Rattle.claims.proofs.Exit.{Exit, accepts, refuses}
-use Rattle.claims.proofs.Exiting.{branch, Named, named-7, short-not, affords-all}
-
--- a test that holds
-pub surely : {A : Type 0} (P : A → Type 0) (t : Bool) (x y : A) → t ≡ true → P x → P (pick t x y)
-surely P t x y e p = subst P (sym (pick-true t x y e)) p
-
--- a refusal that takes no fuel
-pub unpaid : (r : ℕ) (m : Machine) (b : Buffers) (op : Operation) (x : Refusal) (l : Limiter)
-    → paidRefusal r m b op ≡ false → occasion r m b op ≡ false → Named x
-    → Exit r m b op (record { answer = answer.Refusal x; machine = metered m (m .fuel) l; buffers = b })
-unpaid r m b op x l p o n =
-    refuses x (m .fuel) l (record { none = o; same = refl; known = n .known; sound = n .sound; fuel = sym (pick-false _ _ _ p) })
-
--- only a growth takes fuel where it is refused
-pub refused : (r : ℕ) (m : Machine) (b : Buffers) (op : Operation) (x : Refusal) (l : Limiter)
-    → grows (meteringOf op) ≡ false → occasion r m b op ≡ false → Named x
-    → Exit r m b op (record { answer = answer.Refusal x; machine = metered m (m .fuel) l; buffers = b })
-unfolding paidRefusal
-refused r m b op x l g o n = unpaid r m b op x l (both-left _ _ g) o n
-
--- the last check of a span operation: 7, else the price is paid and the cells are new
-pub paying : (r : ℕ) (m : Machine) (b : Buffers) (op : Operation) (p : ℕ) (new : List ℕ) → occasion r m b op ≡ affords m p → grows (meteringOf op) ≡ false
-    → does r m b op ≡ record { answer = accept 0; machine = metered m (paid (m .fuel) p) (m .limiter); buffers = buffers (b .bytes) new (b .items) }
-    → Exit r m b op
-    (after m
-    (onCells
-    (spannedOn (m .limiter)
-    (pick (short (m .fuel) p) (spanDone (refuse 7 p) (m .fuel) (b .cells)) (spanDone (accept 0) (paid (m .fuel) p) new)))
-    b))
-unfolding settled changed
-paying r m b op p new o n d =
-    branch (λ (s : SpanDone). Exit r m b op (after m (onCells (spannedOn (m .limiter) s) b))) _ _ _
-    (λ t. refused r m b op (refusal 7 p) (m .limiter) n (o ∙ short-not m p t) (named-7 p))
-    (λ t. accepts (o ∙ affords-all m p t) (sym d))
+use Rattle.claims.proofs.Exiting.{room-inside}
 
 -- a room that fits what is left of a buffer is sound
 fits-sound : (next room len : ℕ) → leb len (2 ^ 32) ≡ true → next ≤ len → leb room (len - next) ≡ true → soundBuffer next room len ≡ true
 unfolding soundBuffer inside
-fits-sound next room len p h q =
-    let g : room ≤ len - next = leb-true room (len - next) q in
-    both-true _ _ p (le-leb (next + room) len (omega arith))
+fits-sound next room len p h q = both-true _ _ p (room-inside next room len h q)
 
 -- and so is one of the cells and of the items of a sound machine
 module _ (m : Machine) (b : Buffers) (e : soundOver m b ≡ true) (room : ℕ) where

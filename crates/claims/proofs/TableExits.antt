@@ -1,451 +1,253 @@
--- How each operation on tables and segments ends on a sound machine: accepted on its occasion, or refused, with all that it leaves. Assumes nothing.
+-- How every operation on tables and segments ends: accepted on its occasion, or refused with all that it leaves. Assumes nothing.
 use Prim.Native.Nat.{ℕ, _+_}
 use mathlib.Core.Path.{_≡_, refl, sym, ap, subst, _∙_}
-use mathlib.Core.Bool.{Bool, true, false, false≢true}
+use mathlib.Core.Bool.{true, false}
 use mathlib.Core.List.{List}
 use native.Mathlib.Omega.{arith}
-use lib.Dec.{eqb, ltb}
-use lib.ListN.{replicate}
-use borrow.Author.Tests.{leb-true, ltb-true, lt-ltb, le-ltb, leb-false, eqb-true, eqb-false}
-use Rattle.types.specs.Pick.{pick, both}
-use Rattle.types.specs.Answer.{refusal, refuse, accept, numberOf}
+use lib.Dec.{leb, ltb}
+use lib.ListN.{length, replicate}
+use borrow.Author.Tests.{leb-true, leb-false, ltb-true, lt-ltb, le-ltb, eqb-true, eqb-false}
+use Rattle.types.specs.Pick.{both}
+use Rattle.types.specs.Done.{Done, done}
+use Rattle.types.specs.Span.{over}
+use Rattle.types.specs.Answer.{refusal, accept}
 use Rattle.types.specs.Fuel.{paid}
-use Rattle.types.specs.Limiter.{saysOf, heardOf, moved, noLimiter}
-use Rattle.types.specs.Grant.{SpanDone}
-use Rattle.types.specs.Span.{cut, over}
-use Rattle.types.proofs.Spans.{over-nil}
-use Rattle.types.specs.declared.answer.Refusal.{Refusal}
+use Rattle.types.specs.Limiter.{moved}
 use Rattle.types.specs.declared.answer.Answer.{Answer}
 use Rattle.types.specs.declared.answer.Answer.the-variants as answer
-use Rattle.types.specs.declared.fuel.Fuel.{Fuel}
-use Rattle.types.specs.declared.limiter.Limiter.{Limiter}
-use Rattle.types.proofs.Picks.{pick-true, pick-false, both-true, both-then, both-left, both-right, both-1, both-2, either}
+use Rattle.types.specs.declared.grant.Spanned.{Spanned}
+use Rattle.types.specs.declared.raw.RefType.{RefType}
+use Rattle.types.specs.declared.raw.TypedRawRef.{TypedRawRef}
+use Rattle.types.proofs.Picks.{pick-true, pick-false, both-true, both-left, both-right, both-then, both-1, both-2}
+use Rattle.types.proofs.Spans.{over-nil}
+use Rattle.types.specs.IndexType.{maxSize}
 use Rattle.types.specs.Limits.{admitsOf}
-use Rattle.table.specs.Table.{resized, Written, getTable, setSound, setTable}
-use Rattle.table.specs.New.{Created, newTable}
-use Rattle.table.specs.Grow.{Grown, done, answered}
+use Rattle.table.specs.Table.{resized, soundTable, getTable, setSound, setTable}
+use Rattle.table.specs.New.{refused, newTable}
+use Rattle.table.specs.Grow.{answered, cellsPrice, growTable}
 use Rattle.table.specs.Fill.{fillTable}
 use Rattle.table.specs.Copy.{copyTable, copyWithin}
 use Rattle.table.specs.Init.{initTable}
-use Rattle.table.specs.Element.{MadeWith, newSegment}
-use Rattle.machine.specs.Machine.{Buffers, buffers, tableAt, segmentAt}
-use Rattle.machine.specs.Sound.{soundMemories, soundTables, soundSegments, soundMachine, soundOver}
+use Rattle.table.specs.Element.{newSegment}
+use Rattle.table.specs.declared.table.Table.{Table}
+use Rattle.table.specs.declared.grow.GrownTable.{GrownTable}
+use Rattle.table.specs.declared.new.CreatedTable.{CreatedTable}
+use Rattle.table.specs.declared.element.MadeSegment.{MadeSegment}
+use Rattle.machine.specs.Machine.{Buffers, buffers, tableAt}
+use Rattle.machine.specs.Sound.{soundOver}
 use Rattle.machine.specs.Operation.{wellFormed}
-use Rattle.machine.specs.Outcome.{metered, changed, settled}
-use Rattle.machine.specs.Step.{Done, Stepped, Performed, after, answers, onNone, onCells, onItems, writtenOn, spannedOn, tableMadeOn, tableGrownOn, growTableOn, segmentMadeOn, madeTable, madeSegment, newTableOn, newSegmentOn, tableSize, getOn, setOn, fillOn, copyKnown, copyOn, initOn, dropOn, perform, decide, step}
+use Rattle.machine.specs.Outcome.{metered}
+use Rattle.machine.specs.Tables.{tableKept, tableStored, tableSpanned, performTable, tableDone, onTable, spannedDone, copyKnown, copyOn, madeTable, tableMade, newTableOn}
+use Rattle.machine.specs.Segments.{initOn, dropOn, madeSegment, segmentMade, newSegmentOn}
+use Rattle.machine.specs.Step.{Performed, onNone, onCells, onItems, perform, after}
 use Rattle.machine.specs.declared.records.Machine.{Machine}
 use Rattle.machine.specs.declared.outcome.Outcome.{Outcome}
 use Rattle.machine.specs.declared.outcome.Change.the-variants as change
+use Rattle.types.specs.declared.table_ty.WantedTable.{WantedTable}
+use Rattle.types.specs.declared.span.CopySpan.{CopySpan}
+use Rattle.machine.specs.declared.operation.Items.{Items}
 use Rattle.machine.specs.declared.operation.Operation.{Operation}
-use Rattle.machine.specs.declared.operation.Operation.the-variants.{NewTable, GrowTable, TableSize, TableGet, TableSet, TableFill, TableCopy, TableInit, DropSegment, NewSegment}
-use Rattle.table.specs.declared.table.Table.{Table}
+use Rattle.machine.specs.declared.operation.Operation.the-variants as op
+use Rattle.machine.specs.declared.operation.TableOp.{TableOp}
+use Rattle.machine.specs.declared.operation.TableOp.the-variants as table
 use Rattle.machine.proofs.Rooms.{table-sound, segment-sound}
-use Rattle.claims.specs.Metered.{meteringOf, grows, lengthOf, affords, grants, unlimited, erredAfter8, paidRefusal, priceOf}
-use Rattle.claims.specs.Occasions.{occasion, makesTable, growsTable, fills, copies, inits}
-use Rattle.claims.specs.Effects.{worth, written, changeOf, fuelBy, limiterAfter, does}
-use Rattle.claims.proofs.Exit.{Exit, accepts, refuses}
-use Rattle.claims.proofs.TableGrowth.{growing, Grew, unlike, by-none, past, denied, told, grown, grew}
-use Rattle.claims.proofs.Exiting.{branch, table-put-back, step-is, Named, named, heard-named, grants-no, grants-error, grants-yes}
-use Rattle.claims.proofs.TableExiting.{unpaid, surely, paying, refused, cells-sound, items-sound, own-kind, over-none, two-sound}
+use Rattle.claims.specs.Answers.{accepted}
+use Rattle.claims.specs.Metered.{Free, Spans, tableMetering, meteringOf, meets, grows, lengthOf}
+use Rattle.claims.specs.Occasions.{ofKind, makesTable, growsTable, tableOccasion, copies, inits, occasion}
+use Rattle.claims.specs.Effects.{tableAnswer, answerOf, tableWritten, written, tableSizeAfter, changeOf, countsAfter, fuelBy, limiterAfter, acceptedStep}
+use Rattle.claims.proofs.Exit.{Exit, accepts}
+use Rattle.claims.proofs.Exiting.{branch, surely, put-back-stays, named, table-put-back, nothing-put, Ends, accepted-is, ending, accepting, accepting-by, asks-none, refusing, leaving, creating, paying, spanning, unknown}
+use Rattle.claims.proofs.Growth.{Grew, grew, grew-exit}
+use Rattle.claims.proofs.TableExiting.{cells-sound, items-sound, own-kind, over-none, two-sound}
 
--- 22: 16
-module _ (r : ℕ) (m : Machine) (b : Buffers) (i : ℕ) where
-  pub table-size-exit : soundOver m b ≡ true → wellFormed (TableSize i) ≡ true → Exit r m b (TableSize i) (step r m b (TableSize i))
-  unfolding perform tableSize settled changed occasion grows meteringOf worth written changeOf fuelBy limiterAfter does
-  table-size-exit e w =
-      rw (step-is r m b (TableSize i) e w)
-      (branch (λ (a : Answer). Exit r m b (TableSize i) (after m (answers m b a))) _ _ _
-      (λ t. accepts t refl)
-      (λ t. refused r m b (TableSize i) _ _ refl t (named 16 refl refl)))
+module _ (r : ℕ) (m : Machine) (b : Buffers) where
+  -- 20: 17, 1, 14, limiter 3/4, 5 with notice
+  pub new-table-exit : (room : ℕ) (wanted : WantedTable) (initial : TypedRawRef) → soundOver m b ≡ true → wellFormed (op.NewTable room wanted initial) ≡ true
+      → Exit r m b (op.NewTable room wanted initial) (occasion r m b (op.NewTable room wanted initial))
+  unfolding perform newTableOn newTable madeTable occasion makesTable answerOf changeOf countsAfter meteringOf fuelBy limiterAfter written grows accepted
+  new-table-exit room wanted initial e w =
+      ending e w
+      (branch (λ (d : Done Outcome). Ends r m b (op.NewTable room wanted initial) (onCells d b)) _ _ _
+      (λ h.
+      creating (λ (c : Done CreatedTable). onCells (tableMade m c) b) (λ l x. done (refused l x) (b .cells)) _ _ _ _ _ 14
+      (cells-sound m b e _ (both-2 _ _ h)) (named 14 refl refl) (λ x l k o. leaving x l k refl o) (both-then _ _ h) (λ o. accepting o refl))
+      (λ h. leaving (refusal 17 0) _ (named 17 refl refl) refl (both-left _ _ h)))
 
--- 23: 16, 9
-module _ (r : ℕ) (m : Machine) (b : Buffers) (i index : ℕ) where
-  -- an operation that gives this back ends as it should; so in the modules below
-  abbrev Gets : Answer → Type 0
-  Gets a = Exit r m b (TableGet i index) (after m (answers m b a))
+  -- 28: 16
+  pub drop-segment-exit : (i : ℕ) → soundOver m b ≡ true → wellFormed (op.DropSegment i) ≡ true → Exit r m b (op.DropSegment i) (occasion r m b (op.DropSegment i))
+  unfolding perform dropOn occasion answerOf changeOf countsAfter meteringOf fuelBy limiterAfter written grows accepted
+  drop-segment-exit i e w =
+      ending e w
+      (branch (λ (o : Outcome). Ends r m b (op.DropSegment i) (onNone o b)) _ _ _
+      (λ h. accepting h refl)
+      (λ h. unknown h))
 
-  pub table-get-exit : soundOver m b ≡ true → wellFormed (TableGet i index) ≡ true → Exit r m b (TableGet i index) (step r m b (TableGet i index))
-  unfolding perform getOn getTable settled changed occasion grows meteringOf worth written changeOf fuelBy limiterAfter does
-  table-get-exit e w =
-      rw (step-is r m b (TableGet i index) e w)
-      (branch Gets _ _ _
-      (λ t.
-      surely Gets _ _ _ (table-sound m _ _ _ e i (ltb-true _ _ t))
-      (branch Gets _ _ _
-      (λ q. refused r m b _ _ _ refl (both-right _ _ (le-ltb index (tableAt m i .size) (leb-true (tableAt m i .size) index q))) (named 9 refl refl))
-      (λ q. accepts (both-true _ _ t (lt-ltb index (tableAt m i .size) (leb-false (tableAt m i .size) index q))) refl)))
-      (λ t. refused r m b _ _ _ refl (both-left _ _ t) (named 16 refl refl)))
+  -- 29: 17
+  pub new-segment-exit : (element : RefType) (items : Items) → soundOver m b ≡ true → wellFormed (op.NewSegment element items) ≡ true
+      → Exit r m b (op.NewSegment element items) (occasion r m b (op.NewSegment element items))
+  unfolding perform newSegmentOn newSegment madeSegment occasion answerOf changeOf countsAfter meteringOf fuelBy limiterAfter written grows accepted
+  new-segment-exit element items e w =
+      ending e w
+      (branch (λ (d : Done Outcome). Ends r m b (op.NewSegment element items) (onItems d b)) _ _ _
+      (λ h.
+      surely (λ (s : Done MadeSegment). Ends r m b (op.NewSegment element items) (onItems (segmentMade m s) b)) _ _ _
+      (items-sound m b e _ (both-2 _ _ h)) (accepting h refl))
+      (λ h. leaving (refusal 17 0) _ (named 17 refl refl) refl h))
 
--- 24: 16, 14, 10
-module _ (r : ℕ) (m : Machine) (b : Buffers) (i index kind bits : ℕ) where
-  abbrev Sets : Written → Type 0
-  Sets s = Exit r m b (TableSet i index kind bits) (after m (onCells (writtenOn m s) b))
-
-  pub table-set-exit : soundOver m b ≡ true → wellFormed (TableSet i index kind bits) ≡ true
-      → Exit r m b (TableSet i index kind bits) (step r m b (TableSet i index kind bits))
-  unfolding perform setOn setTable setSound settled changed occasion grows meteringOf worth written changeOf fuelBy limiterAfter does
-  table-set-exit e w =
-      rw (step-is r m b (TableSet i index kind bits) e w)
-      (branch (λ (d : Done). Exit r m b (TableSet i index kind bits) (after m (onCells d b))) _ _ _
-      (λ t.
-      surely Sets _ _ _ (table-sound m _ _ _ e i (ltb-true _ _ t))
-      (branch Sets _ _ _
-      (λ k.
-      branch Sets _ _ _
+  -- within one table the kind is its own: 12, 7
+  within-ends : (i : ℕ) (s : CopySpan) → soundOver m b ≡ true → ltb i (m .counts .tables) ≡ true
+      → Ends r m b (op.TableCopy i i s) (onCells (spannedDone m (copyWithin r (tableAt m i) (b .cells) s (m .fuel))) b)
+  unfolding copyWithin occasion copies answerOf changeOf countsAfter meteringOf lengthOf fuelBy limiterAfter written grows accepted
+  within-ends i s e h =
+      surely Within _ _ _ (table-sound m _ _ _ e i (ltb-true i _ h))
+      (branch Within _ _ _
       (λ q.
-      refused r m b _ _ _ refl (both-right _ _ (both-right _ _ (le-ltb index (tableAt m i .size) (leb-true (tableAt m i .size) index q))))
-      (named 10 refl refl))
-      (λ q. accepts (both-true _ _ t (both-true _ _ k (lt-ltb index (tableAt m i .size) (leb-false (tableAt m i .size) index q)))) refl))
-      (λ k. refused r m b _ _ _ refl (both-right _ _ (both-left _ _ k)) (named 14 refl refl))))
-      (λ t. refused r m b _ _ _ refl (both-left _ _ t) (named 16 refl refl)))
-
--- 25: 16, 14, 11, 7
-module _ (r : ℕ) (m : Machine) (b : Buffers) (i start kind bits len : ℕ) where
-  abbrev Fills : SpanDone → Type 0
-  Fills s = Exit r m b (TableFill i start kind bits len) (after m (onCells (spannedOn (m .limiter) s) b))
-
-  pub table-fill-exit : soundOver m b ≡ true → wellFormed (TableFill i start kind bits len) ≡ true
-      → Exit r m b (TableFill i start kind bits len) (step r m b (TableFill i start kind bits len))
-  unfolding perform fillOn fillTable settled changed occasion fills grows meteringOf lengthOf worth written changeOf fuelBy limiterAfter does
-  table-fill-exit e w =
-      rw (step-is r m b (TableFill i start kind bits len) e w)
-      (branch (λ (d : Done). Exit r m b (TableFill i start kind bits len) (after m (onCells d b))) _ _ _
-      (λ t.
-      surely Fills _ _ _ (table-sound m _ _ _ e i (ltb-true _ _ t))
-      (branch Fills _ _ _
-      (λ k.
-      branch Fills _ _ _
-      (λ q. paying r m b _ _ _ (both-then _ _ t ∙ (both-then _ _ k ∙ both-then _ _ q)) refl refl)
-      (λ q. refused r m b _ _ _ refl (both-right _ _ (both-right _ _ (both-left _ _ q))) (named 11 refl refl)))
-      (λ k. refused r m b _ _ _ refl (both-right _ _ (both-left _ _ k)) (named 14 refl refl))))
-      (λ t. refused r m b _ _ _ refl (both-left _ _ t) (named 16 refl refl)))
-
--- 26: 16, 14, 12, 7; within one table the kind is its own
-module _ (r : ℕ) (m : Machine) (b : Buffers) (into to : ℕ) where
-  abbrev Copies : ℕ → ℕ → ℕ → Done → Type 0
-  Copies source from len d = Exit r m b (TableCopy into to source from len) (after m (onCells d b))
-
-  abbrev spans : SpanDone → Done
-  spans s = spannedOn (m .limiter) s
-
-  within-exit : (from len : ℕ) → soundOver m b ≡ true → ltb into (m .counts .tables) ≡ true
-      → Copies into from len (spans (copyWithin r (tableAt m into) (b .cells) to from len (m .fuel)))
-  unfolding copyWithin settled changed occasion copies grows meteringOf lengthOf worth written changeOf fuelBy limiterAfter does
-  within-exit from len e t =
-      surely (λ (s : SpanDone). Copies into from len (spans s)) _ _ _ (table-sound m _ _ _ e into (ltb-true _ _ t))
-      (branch (λ (s : SpanDone). Copies into from len (spans s)) _ _ _
-      (λ q. paying r m b _ _ _ (both-then _ _ (both-true _ _ t t) ∙ (both-then _ _ (own-kind (tableAt m into .ty)) ∙ both-then _ _ q)) refl refl)
-      (λ q. refused r m b _ _ _ refl (both-right _ _ (both-right _ _ (both-left _ _ q))) (named 12 refl refl)))
-
-  pub table-copy-exit : (source from len : ℕ) → soundOver m b ≡ true → wellFormed (TableCopy into to source from len) ≡ true
-      → Exit r m b (TableCopy into to source from len) (step r m b (TableCopy into to source from len))
-  unfolding perform copyOn copyKnown copyTable settled changed occasion copies grows meteringOf lengthOf worth written changeOf fuelBy limiterAfter does
-  table-copy-exit source from len e w =
-      rw (step-is r m b (TableCopy into to source from len) e w)
-      (branch (Copies source from len) _ _ _
-      (λ t.
-      branch (Copies source from len) _ _ _
-      (λ z.
-      subst (λ (j : ℕ). Copies j from len (spans (copyWithin r (tableAt m into) (b .cells) to from len (m .fuel)))) (eqb-true into source z)
-      (within-exit from len e (both-1 _ _ t)))
-      (λ z.
-      surely Ends _ _ _ (two-sound m b into source e (ltb-true _ _ (both-1 _ _ t)) (ltb-true _ _ (both-2 _ _ t)) (eqb-false into source z))
-      (branch Ends _ _ _
-      (λ k.
-      branch Ends _ _ _
-      (λ q. paying r m b _ _ _ (both-then _ _ t ∙ (both-then _ _ k ∙ both-then _ _ q)) refl refl)
-      (λ q. refused r m b _ _ _ refl (both-right _ _ (both-right _ _ (both-left _ _ q))) (named 12 refl refl)))
-      (λ k. refused r m b _ _ _ refl (both-right _ _ (both-left _ _ k)) (named 14 refl refl)))))
-      (λ t. refused r m b _ _ _ refl (both-left _ _ t) (named 16 refl refl)))
+      paying change.Nothing (nothing-put m) refl _ _ (both-then _ _ (both-true _ _ h h) ∙ both-then _ _ (own-kind (tableAt m i .ty)) ∙ both-then _ _ q)
+      (λ o. accepting o refl))
+      (λ q. leaving (refusal 12 0) _ (named 12 refl refl) refl (both-right _ _ (both-right _ _ (both-left _ _ q)))))
     where
-      Ends : SpanDone → Type 0
-      Ends s = Copies source from len (spans s)
+      Within : Done Spanned → Type 0
+      Within d = Ends r m b (op.TableCopy i i s) (onCells (spannedDone m d) b)
 
--- 27: 16, 14, 13, length 0 without fuel, 7
-module _ (r : ℕ) (m : Machine) (b : Buffers) (i segment to from len : ℕ) where
-  abbrev Inits : SpanDone → Type 0
-  Inits s = Exit r m b (TableInit i segment to from len) (after m (onCells (spannedOn (m .limiter) s) b))
+  -- 26: 16, 14, 12, 7
+  pub table-copy-exit : (into source : ℕ) (s : CopySpan) → soundOver m b ≡ true → wellFormed (op.TableCopy into source s) ≡ true
+      → Exit r m b (op.TableCopy into source s) (occasion r m b (op.TableCopy into source s))
+  unfolding perform copyOn copyKnown copyTable occasion copies answerOf changeOf countsAfter meteringOf lengthOf fuelBy limiterAfter written grows accepted
+  table-copy-exit into source s e w =
+      ending e w
+      (branch (Copies source) _ _ _
+      (λ h.
+      branch (Copies source) _ _ _
+      (λ z.
+      subst (λ (j : ℕ). Copies j (spannedDone m (copyWithin r (tableAt m into) (b .cells) s (m .fuel)))) (eqb-true into source z)
+      (within-ends into s e (both-1 _ _ h)))
+      (λ z.
+      surely (λ (d : Done Spanned). Copies source (spannedDone m d)) _ _ _
+      (two-sound m b into source e (ltb-true into _ (both-1 _ _ h)) (ltb-true source _ (both-2 _ _ h)) (eqb-false into source z))
+      (spanning change.Nothing (nothing-put m) refl _ _ _ 12 _ (named 12 refl refl) (both-then _ _ h)
+      (λ o. paying change.Nothing (nothing-put m) refl _ _ o (λ o. accepting o refl)))))
+      (λ h. unknown (both-left _ _ h)))
+    where
+      Copies : ℕ → Done Outcome → Type 0
+      Copies j d = Ends r m b (op.TableCopy into j s) (onCells d b)
 
-  -- accepted with this fuel and these cells
-  abbrev set-to : Fuel → List ℕ → Stepped
-  set-to f new = record { answer = accept 0; machine = metered m f (m .limiter); buffers = buffers (b .bytes) new (b .items) }
-
-  -- the table's cells with the segment's items
-  abbrev put-in : List ℕ
-  put-in = over (b .cells) (tableAt m i .start + to) (cut (b .items) (segmentAt m segment .start + from) len)
-
-  pub table-init-exit : soundOver m b ≡ true → wellFormed (TableInit i segment to from len) ≡ true
-      → Exit r m b (TableInit i segment to from len) (step r m b (TableInit i segment to from len))
-  unfolding perform initOn initTable settled changed occasion inits grows meteringOf lengthOf worth written changeOf fuelBy limiterAfter does
-  table-init-exit e w =
-      rw (step-is r m b (TableInit i segment to from len) e w)
-      (branch (λ (d : Done). Exit r m b (TableInit i segment to from len) (after m (onCells d b))) _ _ _
-      (λ t.
+  -- 27: 16, 14, 13, length 0 without fuel, 7
+  pub table-init-exit : (i segment : ℕ) (s : CopySpan) → soundOver m b ≡ true → wellFormed (op.TableInit i segment s) ≡ true
+      → Exit r m b (op.TableInit i segment s) (occasion r m b (op.TableInit i segment s))
+  unfolding perform initOn initTable occasion inits answerOf changeOf countsAfter meteringOf lengthOf fuelBy limiterAfter written grows accepted
+  table-init-exit i segment s e w =
+      ending e w
+      (branch (λ (d : Done Outcome). Ends r m b init (onCells d b)) _ _ _
+      (λ h.
       surely Inits _ _ _
-      (both-true _ _ (table-sound m _ _ _ e i (ltb-true _ _ (both-1 _ _ t))) (segment-sound m _ _ _ e segment (ltb-true _ _ (both-2 _ _ t))))
-      (branch Inits _ _ _
-      (λ k.
+      (both-true _ _ (table-sound m _ _ _ e i (ltb-true i _ (both-1 _ _ h))) (segment-sound m _ _ _ e segment (ltb-true segment _ (both-2 _ _ h))))
+      (spanning change.Nothing (nothing-put m) refl _ _ _ 13 _ (named 13 refl refl) (both-then _ _ h)
+      (λ o.
       branch Inits _ _ _
-      (λ q.
-      branch Inits _ _ _
+      (λ z q.
+      let n : s .len ≡ 0 = eqb-true (s .len) 0 z in
+      accepts (o ∙ pick-true _ _ _ z) refl
+      (q ∙ accepted-is r m b init refl refl refl (sym (pick-false _ _ _ (le-ltb 0 (s .len) (omega arith)))) refl
+      (ap (λ (cs : List ℕ). buffers (b .bytes) cs (b .items)) (sym (over-none (b .cells) _ (b .items) _ (s .len) n)))))
       (λ z.
-      let n : len ≡ 0 = eqb-true len 0 z in
-      accepts (both-true _ _ t (both-true _ _ k (both-true _ _ q (pick-true _ _ _ z))))
-      (sym (ap (λ (f : Fuel). set-to f put-in) (pick-false _ _ _ (le-ltb 0 len (omega arith)))
-      ∙ ap (set-to (m .fuel)) (over-none (b .cells) _ (b .items) _ len n))))
-      (λ z.
-      let n : len ≡ 0 → ⊥ = eqb-false len 0 z in
-      paying r m b _ _ _ (both-then _ _ t ∙ (both-then _ _ k ∙ (both-then _ _ q ∙ pick-false _ _ _ z))) refl
-      (ap (λ (f : Fuel). set-to f put-in) (pick-true _ _ _ (lt-ltb 0 len (omega arith))))))
-      (λ q. refused r m b _ _ _ refl (both-right _ _ (both-right _ _ (both-left _ _ q))) (named 13 refl refl)))
-      (λ k. refused r m b _ _ _ refl (both-right _ _ (both-left _ _ k)) (named 14 refl refl))))
-      (λ t. refused r m b _ _ _ refl (both-left _ _ t) (named 16 refl refl)))
+      let n : s .len ≡ 0 → ⊥ = eqb-false (s .len) 0 z in
+      paying change.Nothing (nothing-put m) refl _ _ (o ∙ pick-false _ _ _ z)
+      (λ o. accepting-by (sym (pick-true _ _ _ (lt-ltb 0 (s .len) (omega arith)))) refl o refl)))))
+      (λ h. unknown (both-left _ _ h)))
+    where
+      init : Operation
+      init = op.TableInit i segment s
 
--- 28: 16
+      Inits : Done Spanned → Type 0
+      Inits d = Ends r m b init (onCells (spannedDone m d) b)
+
 module _ (r : ℕ) (m : Machine) (b : Buffers) (i : ℕ) where
-  pub drop-segment-exit : soundOver m b ≡ true → wellFormed (DropSegment i) ≡ true → Exit r m b (DropSegment i) (step r m b (DropSegment i))
-  unfolding perform dropOn settled changed occasion grows meteringOf worth written changeOf fuelBy limiterAfter does
-  drop-segment-exit e w =
-      rw (step-is r m b (DropSegment i) e w)
-      (branch (λ (o : Outcome). Exit r m b (DropSegment i) (after m (onNone o b))) _ _ _
-      (λ t. accepts t refl)
-      (λ t. refused r m b _ _ _ refl t (named 16 refl refl)))
+  abbrev old : Table
+  old = tableAt m i
 
--- 29: 17
-module _ (r : ℕ) (m : Machine) (b : Buffers) (kind count first second third fourth : ℕ) where
-  pub new-segment-exit : soundOver m b ≡ true → wellFormed (NewSegment kind count first second third fourth) ≡ true
-      → Exit r m b (NewSegment kind count first second third fourth) (step r m b (NewSegment kind count first second third fourth))
-  unfolding perform newSegmentOn newSegment madeSegment settled changed occasion grows meteringOf worth written changeOf fuelBy limiterAfter does
-  new-segment-exit e w =
-      rw (step-is r m b (NewSegment kind count first second third fourth) e w)
-      (branch (λ (d : Done). Exit r m b (NewSegment kind count first second third fourth) (after m (onItems d b))) _ _ _
-      (λ t.
-      surely (λ (s : MadeWith). Exit r m b (NewSegment kind count first second third fourth) (after m (onItems (segmentMadeOn m s) b))) _ _ _
-      (items-sound m b e _ (both-2 _ _ t)) (accepts t refl))
-      (λ t. refused r m b _ _ _ refl t (named 17 refl refl)))
+  -- what is shown of an operation on the table that comes to this
+  abbrev On : TableOp → Done GrownTable → Type 0
+  On o d = Ends r m b (op.Table i o) (onCells (tableDone m i d) b)
 
--- 20: 17, 1, 14, limiter 3/4, 5 with notice
-module _ (r : ℕ) (m : Machine) (b : Buffers) (room kind wide bounded minimum maximum initial bits : ℕ) where
-  abbrev new-table : Operation
-  new-table = NewTable room kind wide bounded minimum maximum initial bits
+  module _ (n : ℕ) (v : TypedRawRef) (e : soundOver m b ≡ true) where
+    abbrev grow : Operation
+    grow = op.Table i (table.Grow n v)
 
-  abbrev Makes : Created → Type 0
-  Makes c = Exit r m b new-table (after m (onCells (tableMadeOn m c) b))
+    abbrev out : Done GrownTable → Performed
+    out d = onCells (tableDone m i d) b
 
-  pub new-table-exit : soundOver m b ≡ true → wellFormed (NewTable room kind wide bounded minimum maximum initial bits) ≡ true
-      → Exit r m b (NewTable room kind wide bounded minimum maximum initial bits) (step r m b (NewTable room kind wide bounded minimum maximum initial bits))
-  unfolding perform newTableOn newTable madeTable settled changed occasion makesTable grows meteringOf worth written changeOf fuelBy limiterAfter does
-  new-table-exit e w =
-      rw (step-is r m b new-table e w)
-      (branch (λ (d : Done). Exit r m b new-table (after m (onCells d b))) _ _ _
-      (λ t.
-      surely Makes _ _ _ (cells-sound m b e _ (both-2 _ _ t))
-      (branch Makes _ _ _
-      (λ v.
-      branch Makes _ _ _
-      (λ k.
-      branch Makes _ _ _
-      (λ s. refused r m b _ _ _ refl (both-right _ _ (both-right _ _ (both-right _ _ (both-left _ _ (grants-no _ s))))) (named 3 refl refl))
-      (λ s.
-      branch Makes _ _ _
-      (λ u. refused r m b _ _ _ refl (both-right _ _ (both-right _ _ (both-right _ _ (both-left _ _ (grants-error _ u))))) (named 4 refl refl))
-      (λ u.
-      branch Makes _ _ _
-      (λ q. accepts (both-true _ _ t (both-true _ _ v (both-true _ _ k (both-true _ _ (grants-yes _ s u) q)))) refl)
-      (λ q. refused r m b _ _ _ refl (both-right _ _ (both-right _ _ (both-right _ _ (both-right _ _ q)))) (heard-named _ _ (named 5 refl refl))))))
-      (λ k. refused r m b _ _ _ refl (both-right _ _ (both-right _ _ (both-left _ _ k))) (named 14 refl refl)))
-      (λ v. refused r m b _ _ _ refl (both-right _ _ (both-left _ _ v)) (named 1 refl refl))))
-      (λ t. refused r m b _ _ _ refl (both-left _ _ t) (named 17 refl refl)))
+    -- by 0 cells the size stays, and no cell is new
+    by-none : n ≡ 0 → after m (out (done (answered (accept (old .size)) old (m .fuel) (m .limiter)) (b .cells))) ≡ acceptedStep r m b grow
+    unfolding both answerOf tableAnswer changeOf tableSizeAfter countsAfter meteringOf tableMetering fuelBy limiterAfter grows meets written tableWritten
+    by-none z =
+        let q : old .size + n ≡ old .size = omega arith in
+        let p : ltb 0 n ≡ false = le-ltb 0 n (omega arith) in
+        accepted-is r m b grow refl (ap (λ (x : ℕ). change.Table i (resized old x)) (sym q)) refl (sym (pick-false _ _ _ p)) (sym (pick-false _ _ _ p))
+        (sym (ap (λ (cs : List ℕ). buffers (b .bytes) cs (b .items))
+        (ap (λ (x : ℕ). over (b .cells) (old .start + old .size) (replicate x (v .raw .bits))) z ∙ over-nil (b .cells) _)))
 
--- only a table in use grows, by the checks of the growth
-module _ (r : ℕ) (m : Machine) (b : Buffers) (i n kind bits : ℕ) (e : soundOver m b ≡ true) (w : wellFormed (GrowTable i n kind bits) ≡ true) where
-  known-growth : ltb i (m .counts .tables) ≡ true
-      → step r m b (GrowTable i n kind bits) ≡ after m (onCells (tableGrownOn i (growing r m (b .cells) i n kind bits (m .limiter))) b)
-  unfolding perform growTableOn
-  known-growth t = step-is r m b (GrowTable i n kind bits) e w ∙ ap (λ (d : Done). after m (onCells d b)) (pick-true _ _ _ t)
-
-  unknown-growth : ltb i (m .counts .tables) ≡ false
-      → step r m b (GrowTable i n kind bits) ≡ record { answer = refuse 16 0; machine = m; buffers = b }
-  unfolding perform growTableOn settled changed
-  unknown-growth t = step-is r m b (GrowTable i n kind bits) e w ∙ ap (λ (d : Done). after m (onCells d b)) (pick-false _ _ _ t)
-
--- the same without a limiter
-quiet-growth : (r : ℕ) (m : Machine) (b : Buffers) (i n kind bits : ℕ) → soundOver m b ≡ true → wellFormed (GrowTable i n kind bits) ≡ true
-    → ltb i (m .counts .tables) ≡ true
-    → numberOf (step r (unlimited m) b (GrowTable i n kind bits) .answer) ≡ numberOf (growing r m (b .cells) i n kind bits noLimiter .out .answer)
-unfolding soundMachine soundMemories soundTables soundSegments
-quiet-growth r m b i n kind bits e w t = ap (λ (s : Stepped). numberOf (s .answer)) (known-growth r (unlimited m) b i n kind bits e w t)
-
--- 21: 16, 14, by 0, 6 at the index type's largest size, limiter 6/4, 6, 7 and 8 with notice
-module _ (r : ℕ) (m : Machine) (b : Buffers) (i n kind bits : ℕ) where
-  abbrev growth : Limiter → Grown
-  growth l = growing r m (b .cells) i n kind bits l
-
-  -- the number without a limiter
-  abbrev quiet : ℕ
-  quiet = numberOf (step r (unlimited m) b (GrowTable i n kind bits) .answer)
-
-  -- the growth ends so, its record as before
-  abbrev Stays : Answer → Fuel → Limiter → Type 0
-  Stays a f l = growth (m .limiter) ≡ done (answered a (tableAt m i) f l) (b .cells)
-
-  -- an outcome whose bytes and items are as before
-  abbrev ending : Answer → Machine → Fuel → Limiter → List ℕ → Stepped
-  ending a k f l cs = record { answer = a; machine = metered k f l; buffers = buffers (b .bytes) cs (b .items) }
-
-  -- what an accepted growth does, by whether it is more than 0
-  abbrev enlarged : Bool → Stepped
-  enlarged u =
-      ending (accept (tableAt m i .size)) (changed (change.Table i (resized (tableAt m i) (tableAt m i .size + n))) m)
-      (pick u (paid (m .fuel) (priceOf r m (GrowTable i n kind bits))) (m .fuel))
-      (pick u (moved (m .limiter)) (m .limiter))
-      (over (b .cells) (tableAt m i .start + tableAt m i .size) (replicate n bits))
-
-  -- the price is paid and the limiter was asked
-  does-some : ltb 0 n ≡ true
-      → does r m b (GrowTable i n kind bits)
-      ≡ ending (accept (tableAt m i .size)) (changed (change.Table i (resized (tableAt m i) (tableAt m i .size + n))) m)
-      (paid (m .fuel) (priceOf r m (GrowTable i n kind bits)))
-      (moved (m .limiter))
-      (over (b .cells) (tableAt m i .start + tableAt m i .size) (replicate n bits))
-  unfolding pick meteringOf lengthOf worth written changeOf fuelBy limiterAfter does
-  does-some u = ap enlarged u
-
-  -- by 0 nothing changes
-  does-none : n ≡ 0 → does r m b (GrowTable i n kind bits) ≡ ending (accept (tableAt m i .size)) m (m .fuel) (m .limiter) (b .cells)
-  unfolding pick meteringOf lengthOf worth written changeOf fuelBy limiterAfter does
-  does-none h =
-      let s : tableAt m i .size + n ≡ tableAt m i .size = omega arith in
-      ap enlarged (le-ltb 0 n (omega arith))
-      ∙ ap
-      (λ (k : Machine).
-      ending (accept (tableAt m i .size)) k (m .fuel) (m .limiter) (over (b .cells) (tableAt m i .start + tableAt m i .size) (replicate n bits)))
-      (ap (λ (k : ℕ). changed (change.Table i (resized (tableAt m i) k)) m) s ∙ table-put-back m i)
-      ∙ ap
-      (λ (k : ℕ). ending (accept (tableAt m i .size)) m (m .fuel) (m .limiter) (over (b .cells) (tableAt m i .start + tableAt m i .size) (replicate k bits)))
-      h
-      ∙ ap (ending (accept (tableAt m i .size)) m (m .fuel) (m .limiter)) (over-nil (b .cells) _)
-
-  -- whether a refusal paid, by its number
-  paid-is : (k : ℕ) → numberOf (step r m b (GrowTable i n kind bits) .answer) ≡ k
-      → paidRefusal r m b (GrowTable i n kind bits) ≡ pick (eqb k 8) true (both (eqb k 4) (both (grants (saysOf (m .limiter))) (eqb quiet 8)))
-  unfolding paidRefusal erredAfter8 grows meteringOf
-  paid-is k q =
-      both-then _ _ refl ∙ ap (λ (j : ℕ). pick (eqb j 8) true (both (eqb j 4) (both (grants (saysOf (m .limiter))) (eqb quiet 8)))) q
-
-  -- the numbers of a table that is not in use and of fields out of range
-  sixteen : step r m b (GrowTable i n kind bits) ≡ record { answer = refuse 16 0; machine = m; buffers = b }
-      → numberOf (step r m b (GrowTable i n kind bits) .answer) ≡ 16
-  unfolding numberOf
-  sixteen s = ap (λ (o : Stepped). numberOf (o .answer)) s
-
-  ill-formed : wellFormed (GrowTable i n kind bits) ≡ false → numberOf (step r m b (GrowTable i n kind bits) .answer) ≡ 18
-  unfolding step decide numberOf
-  ill-formed w = ap (λ (p : Performed). numberOf (p .out .answer)) (pick-false _ _ _ w)
-
-  module _ (e : soundOver m b ≡ true) (w : wellFormed (GrowTable i n kind bits) ≡ true) (t : ltb i (m .counts .tables) ≡ true) where
-    -- where the record stays, so does the machine
-    still : (a : Answer) (f : Fuel) (l : Limiter) → Stays a f l → step r m b (GrowTable i n kind bits) ≡ ending a m f l (b .cells)
-    unfolding settled
-    still a f l q =
-        known-growth r m b i n kind bits e w t ∙ ap (λ (g : Grown). after m (onCells (tableGrownOn i g) b)) q
-        ∙ ap (λ (k : Machine). ending a k f l (b .cells)) (table-put-back m i)
-
-    -- its number is the refusal's
-    number-is : (x : Refusal) (f : Fuel) (l : Limiter) → Stays (answer.Refusal x) f l → numberOf (step r m b (GrowTable i n kind bits) .answer) ≡ x .number
-    unfolding numberOf
-    number-is x f l q = ap (λ (s : Stepped). numberOf (s .answer)) (still (answer.Refusal x) f l q)
-
-    -- a refusal that took no fuel
-    stops : (x : Refusal) (l : Limiter) → Stays (answer.Refusal x) (m .fuel) l → occasion r m b (GrowTable i n kind bits) ≡ false
-        → paidRefusal r m b (GrowTable i n kind bits) ≡ false → Named x → Exit r m b (GrowTable i n kind bits) (step r m b (GrowTable i n kind bits))
-    stops x l q o p z = rw (still (answer.Refusal x) (m .fuel) l q) (unpaid r m b (GrowTable i n kind bits) x l p o z)
-
-    -- one whose number shows that it did not pay
-    free : (k : ℕ) (l : Limiter) → Stays (refuse k 0) (m .fuel) l → eqb k 8 ≡ false → eqb k 4 ≡ false → paidRefusal r m b (GrowTable i n kind bits) ≡ false
-    free k l q p z = paid-is k (number-is (refusal k 0) (m .fuel) l q) ∙ pick-false _ _ _ p ∙ both-left _ _ z
-
-    -- one after the notice paid exactly where it is 8 without a limiter
-    after-notice : (k a : ℕ) (f : Fuel) (l : Limiter) → Stays (answer.Refusal (heardOf (saysOf (moved (m .limiter))) (refusal k a))) f l
-        → grants (saysOf (m .limiter)) ≡ true → quiet ≡ k → paidRefusal r m b (GrowTable i n kind bits) ≡ eqb k 8
-    unfolding heardOf
-    after-notice k a f l q g z =
-        either (eqb (saysOf (moved (m .limiter))) 2)
-        (λ h.
-        paid-is 4 (number-is _ f l q ∙ ap (λ (x : Refusal). x .number) (pick-true _ _ _ h))
-        ∙ pick-false _ _ _ refl ∙ both-then _ _ refl ∙ both-then _ _ g ∙ ap (λ (j : ℕ). eqb j 8) z)
-        (λ h.
-        paid-is k (number-is _ f l q ∙ ap (λ (x : Refusal). x .number) (pick-false _ _ _ h))
-        ∙ either (eqb k 8)
-        (λ p. pick-true _ _ _ p ∙ sym p)
-        (λ p. pick-false _ _ _ p ∙ both-right _ _ (both-right _ _ (ap (λ (j : ℕ). eqb j 8) z ∙ p)) ∙ sym p))
-
-    -- each end of a growth is an exit
-    grow-exit : Grew r m (b .cells) i n kind bits (m .limiter) → Exit r m b (GrowTable i n kind bits) (step r m b (GrowTable i n kind bits))
-    unfolding occasion growsTable meteringOf lengthOf worth written changeOf fuelBy limiterAfter does settled
-    grow-exit (unlike k q) = stops (refusal 14 0) _ q (both-right _ _ (both-left _ _ k)) (free 14 _ q refl refl) (named 14 refl refl)
-    grow-exit (by-none k z q) =
-        accepts (both-true _ _ t (both-true _ _ k (pick-true _ _ _ z))) (still _ (m .fuel) (m .limiter) q ∙ sym (does-none (eqb-true n 0 z)))
-    grow-exit (past z p q) =
-        stops (refusal 6 0) _ q (both-right _ _ (both-right _ _ (pick-false _ _ _ z ∙ both-left _ _ p))) (free 6 _ q refl refl) (named 6 refl refl)
-    grow-exit (denied k z g x p q) =
-        stops (refusal k 0) _ q (both-right _ _ (both-right _ _ (pick-false _ _ _ z ∙ both-right _ _ (both-left _ _ g))))
-        (paid-is k (number-is _ _ _ q) ∙ pick-false _ _ _ p ∙ both-right _ _ (both-left _ _ g)) x
-    grow-exit (told k a f z g o p y x c q) =
-        let d = heard-named (saysOf (moved (m .limiter))) (refusal k a) x in
-        refuses _ f _
+    -- 21: 16, 14, by 0, 6 at the index type's largest size, limiter 6/4, 6, 7 and 8 with notice
+    pub table-grew : Grew r m b grow (ltb i (m .counts .tables)) n (admitsOf (old .ty .limits) (old .size + n))
+    unfolding both perform onTable performTable growTable wellFormed occasion tableOccasion growsTable answerOf tableAnswer changeOf tableSizeAfter countsAfter meteringOf tableMetering lengthOf fuelBy limiterAfter grows meets written tableWritten accepted
+    table-grew =
+        grew r m b grow (ltb i (m .counts .tables)) n (admitsOf (old .ty .limits) (old .size + n)) out
+        (λ x f l. done (answered (answer.Refusal x) old f l) (b .cells))
+        (λ l. done (answered (accept (old .size)) old (m .fuel) l) (b .cells))
+        (λ l.
+        done (answered (accept (old .size)) (resized old (old .size + n)) (paid (m .fuel) (cellsPrice r n (m .fuel))) (moved l))
+        (over (b .cells) (old .start + old .size) (replicate n (v .raw .bits))))
+        (ofKind m i v) (ltb (old .size + n) (maxSize (old .ty .index))) (leb (old .size + n) (old .room)) (cellsPrice r n (m .fuel)) (λ h. refl)
         (record {
-          none = both-right _ _ (both-right _ _ (pick-false _ _ _ z ∙ both-right _ _ (both-right _ _ o)));
-          same = still _ _ _ q;
-          known = d .known;
-          sound = d .sound;
-          fuel = c ∙ ap (λ (u : Bool). pick u (paid (m .fuel) (priceOf r m (GrowTable i n kind bits))) (m .fuel))
-              (sym (after-notice k a f _ q g (quiet-growth r m b i n kind bits e w t ∙ y)));
+          sound = e;
+          formed = refl;
+          known = λ h l. ap (λ (d : Done Outcome). onCells d b) (pick-true _ _ _ h) ∙ ap out (pick-true _ _ _ (table-sound m _ _ _ e i (ltb-true i _ h)));
+          unknown = λ h. ap (λ (d : Done Outcome). onCells d b) (pick-false _ _ _ h);
+          stop = λ l. put-back-stays (metered m (m .fuel) l) b (change.Table i old) (table-put-back (metered m (m .fuel) l) i);
+          when = refl;
+          value = refl;
+          by-none = λ h. by-none;
+          by-some = λ h p. accepted-is r m b grow refl refl refl (sym (pick-true _ _ _ p)) (sym (pick-true _ _ _ p)) refl;
         })
-    grow-exit (grown k z p g o q) =
-        let h : n ≡ 0 → ⊥ = eqb-false n 0 z in
-        accepts (both-true _ _ t (both-true _ _ k (pick-false _ _ _ z ∙ both-true _ _ p (both-true _ _ g o))))
-        (known-growth r m b i n kind bits e w t ∙ ap (λ (g : Grown). after m (onCells (tableGrownOn i g) b)) q ∙ sym (does-some (lt-ltb 0 n (omega arith))))
 
-    -- 4 after a grant is the notice's
-    erred : numberOf (step r m b (GrowTable i n kind bits) .answer) ≡ 4 → grants (saysOf (m .limiter)) ≡ true
-        → Grew r m (b .cells) i n kind bits (m .limiter)
-        → eqb quiet 8 ≡ both (admitsOf (tableAt m i .ty .limits) (tableAt m i .size + n)) (affords m (priceOf r m (GrowTable i n kind bits)))
-    unfolding numberOf meteringOf lengthOf
-    erred four g (unlike k q) = let z : _≡_ {A = ℕ} 14 4 = sym (number-is _ _ _ q) ∙ four in absurd (omega arith)
-    erred four g (by-none k z q) =
-        let z : _≡_ {A = ℕ} 0 4 = sym (ap (λ (s : Stepped). numberOf (s .answer)) (still _ _ _ q)) ∙ four in
-        absurd (omega arith)
-    erred four g (past z p q) = let z : _≡_ {A = ℕ} 6 4 = sym (number-is _ _ _ q) ∙ four in absurd (omega arith)
-    erred four g (denied k z d x p q) = absurd (false≢true (sym d ∙ g))
-    erred four g (told k a f z d o p y x c q) = ap (λ (j : ℕ). eqb j 8) (quiet-growth r m b i n kind bits e w t ∙ y) ∙ p
-    erred four g (grown k z p d o q) =
-        let z : _≡_ {A = ℕ} 0 4 =
-        sym (ap (λ (s : Stepped). numberOf (s .answer)) (known-growth r m b i n kind bits e w t) ∙ ap (λ (s : Grown). numberOf (s .out .answer)) q) ∙ four in
-        absurd (omega arith)
-
-  -- 21, whole
-  pub grow-table-exit : soundOver m b ≡ true → wellFormed (GrowTable i n kind bits) ≡ true
-      → Exit r m b (GrowTable i n kind bits) (step r m b (GrowTable i n kind bits))
-  unfolding occasion growsTable
-  grow-table-exit e w =
-      either (ltb i (m .counts .tables))
-      (λ t. grow-exit e w t (grew r m (b .cells) i n kind bits (table-sound m _ _ _ e i (ltb-true _ _ t)) (m .limiter)))
+  -- 21 to 25, of a table in use: 14, 9, 10, 11, 7
+  used-table : (o : TableOp) → soundOver m b ≡ true → ltb i (m .counts .tables) ≡ true → soundTable old (length (b .cells)) ≡ true
+      → On o (performTable r old (b .cells) (m .fuel) (m .limiter) o)
+  unfolding performTable getTable setTable setSound fillTable occasion tableOccasion answerOf tableAnswer changeOf tableSizeAfter countsAfter meteringOf tableMetering lengthOf fuelBy limiterAfter grows written tableWritten accepted
+  used-table (table.Grow cells value) e h s = λ q. grew-exit r m b _ _ _ _ refl (table-grew cells value e)
+  used-table table.Size e h s = accepting-by refl (asks-none _ Free refl) (both-true _ _ h refl) refl
+  used-table (table.Get index) e h s =
+      surely Gets _ _ _ s
+      (branch Gets _ _ _
+      (λ y.
+      refusing (change.Table i old) (table-put-back m i) refl (refusal 9 0) _ (named 9 refl refl)
+      (both-right _ _ (le-ltb index _ (leb-true (old .size) index y))))
+      (λ y. accepting-by refl (asks-none _ Free refl) (both-true _ _ h (lt-ltb index _ (leb-false (old .size) index y))) refl))
+    where
+      Gets : Answer → Type 0
+      Gets a = On (table.Get index) (done (tableKept old (m .fuel) (m .limiter) a) (b .cells))
+  used-table (table.Set index value) e h s =
+      surely Sets _ _ _ s
+      (branch Sets _ _ _
       (λ t.
-      let s = unknown-growth r m b i n kind bits e w t in
-      rw s
-      (unpaid r m b (GrowTable i n kind bits) (refusal 16 0) (m .limiter)
-      (paid-is 16 (sixteen s) ∙ pick-false _ _ _ refl ∙ both-left _ _ refl) (both-left _ _ t) (named 16 refl refl)))
+      branch Sets _ _ _
+      (λ y.
+      refusing (change.Table i old) (table-put-back m i) refl (refusal 10 0) _ (named 10 refl refl)
+      (both-right _ _ (both-right _ _ (le-ltb index _ (leb-true (old .size) index y)))))
+      (λ y. accepting-by refl (asks-none _ Free refl) (both-true _ _ h (both-true _ _ t (lt-ltb index _ (leb-false (old .size) index y)))) refl))
+      (λ t. refusing (change.Table i old) (table-put-back m i) refl (refusal 14 0) _ (named 14 refl refl) (both-right _ _ (both-left _ _ t))))
+    where
+      Sets : Done Answer → Type 0
+      Sets d = On (table.Set index value) (tableStored old (m .fuel) (m .limiter) d)
+  used-table (table.Fill start value len) e h s =
+      surely (λ (d : Done Spanned). On (table.Fill start value len) (tableSpanned old (m .limiter) d)) _ _ _ s
+      (spanning (change.Table i old) (table-put-back m i) refl _ _ _ 11 _ (named 11 refl refl) (both-then _ _ h)
+      (λ o. paying (change.Table i old) (table-put-back m i) refl _ _ o (λ o. accepting-by refl (asks-none _ (Spans len) refl) o refl)))
 
-  -- 4 after a grant: without a limiter it is 8 exactly where the type admits the size and the price is there
-  pub erred-table : soundOver m b ≡ true
-      → numberOf (step r m b (GrowTable i n kind bits) .answer) ≡ 4 → grants (saysOf (m .limiter)) ≡ true
-      → eqb (numberOf (step r (unlimited m) b (GrowTable i n kind bits) .answer)) 8
-      ≡ both (admitsOf (tableAt m i .ty .limits) (tableAt m i .size + n)) (affords m (priceOf r m (GrowTable i n kind bits)))
-  erred-table e four g =
-      either (wellFormed (GrowTable i n kind bits))
-      (λ w.
-      either (ltb i (m .counts .tables))
-      (λ t. erred e w t four g (grew r m (b .cells) i n kind bits (table-sound m _ _ _ e i (ltb-true _ _ t)) (m .limiter)))
-      (λ t. let z : _≡_ {A = ℕ} 16 4 = sym (sixteen (unknown-growth r m b i n kind bits e w t)) ∙ four in absurd (omega arith)))
-      (λ w. let z : _≡_ {A = ℕ} 18 4 = sym (ill-formed w) ∙ four in absurd (omega arith))
+  -- 16, then these
+  pub table-exit : (o : TableOp) → soundOver m b ≡ true → wellFormed (op.Table i o) ≡ true → Exit r m b (op.Table i o) (occasion r m b (op.Table i o))
+  unfolding perform onTable occasion
+  table-exit o e w =
+      ending e w
+      (branch (λ (d : Done Outcome). Ends r m b (op.Table i o) (onCells d b)) _ _ _
+      (λ h. used-table o e h (table-sound m _ _ _ e i (ltb-true i _ h)))
+      (λ h. unknown (both-left _ _ h)))

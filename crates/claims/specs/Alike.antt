@@ -3,11 +3,11 @@ use Prim.Native.Nat.{ℕ, _-_}
 use mathlib.Core.Path.{_≡_}
 use lib.ListN.{length}
 use Rattle.types.specs.Span.{cut}
-use Rattle.machine.specs.Machine.{Buffers, memoryAt, tableAt, nextByte, nextCell, nextItem}
+use Rattle.machine.specs.Machine.{Buffers, memoryAt, tableAt, nextByte, nextCell}
 use Rattle.machine.specs.Step.{Stepped}
 use Rattle.machine.specs.declared.records.Machine.{Machine}
 use Rattle.machine.specs.declared.operation.Operation.{Operation}
-use Rattle.machine.specs.declared.operation.Operation.the-variants.{Make, SetFuel, GetFuel, Charge, SetLimiter, NewMemory, GrowMemory, MemorySize, Load, Store, NewTable, GrowTable, TableSize, TableGet, TableSet, TableFill, TableCopy, TableInit, DropSegment, NewSegment, LinkCheck}
+use Rattle.machine.specs.declared.operation.Operation.the-variants as op
 
 -- a memory of two machines: its type, room, size and bytes, wherever it stands
 pub record SameMemory (m : Machine) (b : Buffers) (m′ : Machine) (b′ : Buffers) (i : ℕ) : Type 0 where
@@ -35,27 +35,15 @@ pub record SameRest (m : Machine) (b : Buffers) (m′ : Machine) (b′ : Buffers
 
 -- the instances that an operation names are the same: of a copy both tables
 unfoldable pub SameNamed : Machine → Buffers → Machine → Buffers → Operation → Type 0
-SameNamed m b m′ b′ (Make metering copied) = Unit
-SameNamed m b m′ b′ (SetFuel amount) = Unit
-SameNamed m b m′ b′ GetFuel = Unit
-SameNamed m b m′ b′ (Charge units) = Unit
-SameNamed m b m′ b′ (SetLimiter count digits) = Unit
-SameNamed m b m′ b′ (NewMemory room wide bounded minimum maximum exponent) = Unit
-SameNamed m b m′ b′ (GrowMemory memory pages) = SameMemory m b m′ b′ memory
-SameNamed m b m′ b′ (MemorySize memory) = SameMemory m b m′ b′ memory
-SameNamed m b m′ b′ (Load memory kind pointer offset) = SameMemory m b m′ b′ memory
-SameNamed m b m′ b′ (Store memory kind pointer offset bits) = SameMemory m b m′ b′ memory
-SameNamed m b m′ b′ (NewTable room kind wide bounded minimum maximum initial bits) = Unit
-SameNamed m b m′ b′ (GrowTable table cells kind bits) = SameTable m b m′ b′ table
-SameNamed m b m′ b′ (TableSize table) = SameTable m b m′ b′ table
-SameNamed m b m′ b′ (TableGet table index) = SameTable m b m′ b′ table
-SameNamed m b m′ b′ (TableSet table index kind bits) = SameTable m b m′ b′ table
-SameNamed m b m′ b′ (TableFill table start kind bits len) = SameTable m b m′ b′ table
-SameNamed m b m′ b′ (TableCopy into to source from len) = SameTable m b m′ b′ into × SameTable m b m′ b′ source
-SameNamed m b m′ b′ (TableInit table segment to from len) = SameTable m b m′ b′ table
-SameNamed m b m′ b′ (DropSegment segment) = Unit
-SameNamed m b m′ b′ (NewSegment kind count first second third fourth) = Unit
-SameNamed m b m′ b′ (LinkCheck memory wide bounded minimum maximum exponent) = SameMemory m b m′ b′ memory
+SameNamed m b m′ b′ (op.Fuel o) = Unit
+SameNamed m b m′ b′ (op.NewMemory room wanted) = Unit
+SameNamed m b m′ b′ (op.Memory number o) = SameMemory m b m′ b′ number
+SameNamed m b m′ b′ (op.NewTable room wanted initial) = Unit
+SameNamed m b m′ b′ (op.Table number o) = SameTable m b m′ b′ number
+SameNamed m b m′ b′ (op.TableCopy into source span) = SameTable m b m′ b′ into × SameTable m b m′ b′ source
+SameNamed m b m′ b′ (op.TableInit table segment span) = SameTable m b m′ b′ table
+SameNamed m b m′ b′ (op.DropSegment segment) = Unit
+SameNamed m b m′ b′ (op.NewSegment element items) = Unit
 
 -- two outcomes that a host cannot tell apart: answer, fuel and script
 pub record SameOutcome (s s′ : Stepped) : Type 0 where

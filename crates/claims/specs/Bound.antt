@@ -1,21 +1,28 @@
 -- Demand 3, and document 01, "Fuel": an accepted growth, fill, copy or init writes its whole byte length; a refused one nothing.
 use Prim.Native.Nat.{ℕ, _+_, _-_, _*_}
-use mathlib.Core.Bool.{Bool, true}
+use mathlib.Core.Bool.{true, false}
 use mathlib.Core.List.{List, [], _∷_}
 use lib.Dec.{eqb}
 use lib.ListN.{replicate}
 use Rattle.types.specs.Pick.{pick, both}
 use Rattle.types.specs.declared.fuel.FuelCosts.{FuelCosts}
-use Rattle.machine.specs.Machine.{Buffers, buffers}
+use Rattle.machine.specs.Machine.{Buffers, buffers, noLimits}
 use Rattle.machine.specs.Step.{step}
 use Rattle.machine.specs.declared.records.Machine.{Machine}
 use Rattle.machine.specs.declared.operation.Operation.{Operation}
-use Rattle.machine.specs.declared.operation.Operation.the-variants.{SetFuel, NewMemory, GrowMemory, NewTable, TableFill}
+use Rattle.machine.specs.declared.operation.Operation.the-variants as op
+use Rattle.machine.specs.declared.operation.FuelOp.the-variants as fuel
+use Rattle.machine.specs.declared.operation.MemoryOp.the-variants as memory
+use Rattle.machine.specs.declared.operation.TableOp.the-variants as table
+use Rattle.types.specs.Raw.{typedOf}
+use Rattle.types.specs.declared.raw.RefType.the-variants as ref
+use Rattle.types.specs.declared.raw.TypedRawRef.{TypedRawRef}
+use Rattle.types.specs.Fuel.{defaultCosts}
 use Rattle.claims.specs.Answers.{accepted}
 use Rattle.claims.specs.Metered.{meteringOf, meets, bytesOf, passes}
 
 -- over a list of operations: the bytes written, F and K
-pub record Sums : Type 0 where
+pub record Totals : Type 0 where
   pub bytes : ℕ
   pub units : ℕ
   pub passed : ℕ
@@ -28,11 +35,12 @@ wrote r m b op = pick (both (meets (meteringOf op)) (accepted (step r m b op .an
 unfoldable pub pays : ℕ → Machine → Buffers → Operation → ℕ
 pays r m b op = pick (passes r m b op) (m .fuel .remaining - step r m b op .machine .fuel .remaining) 0
 
-unfoldable pub sums : ℕ → Machine → Buffers → List Operation → Sums
-sums r m b [] = record { bytes = 0; units = 0; passed = 0 }
-sums r m b (op ∷ ops) =
+-- over a list of operations, one after another
+unfoldable pub totals : ℕ → Machine → Buffers → List Operation → Totals
+totals r m b [] = record { bytes = 0; units = 0; passed = 0 }
+totals r m b (op ∷ ops) =
     let s = step r m b op in
-    let rest = sums r (s .machine) (s .buffers) ops in
+    let rest = totals r (s .machine) (s .buffers) ops in
     record {
       bytes = wrote r m b op + rest .bytes;
       units = pays r m b op + rest .units;
@@ -40,19 +48,23 @@ sums r m b (op ∷ ops) =
     }
 
 -- B·F + (B-1)·K
-abbrev pub most : ℕ → ℕ → ℕ → ℕ
-most b f k = b * f + (b - 1) * k
+abbrev pub mostBytes : ℕ → ℕ → ℕ → ℕ
+mostBytes b f k = b * f + (b - 1) * k
+
+-- the null reference to a function
+abbrev pub noFunction : TypedRawRef
+noFunction = typedOf (record { bits = 0 }) ref.Func
 
 -- a pass of n bytes: a growth by n pages of one byte, or a fill of length 0
 unfoldable pub pass : ℕ → Operation
-pass n = pick (eqb n 0) (TableFill 0 0 0 0 0) (GrowMemory 0 n)
+pass n = pick (eqb n 0) (op.Table 0 (table.Fill 0 noFunction 0)) (op.Memory 0 (memory.Grow n))
 
 -- a run that writes as many bytes as the bound allows: f units in the first pass, and each pass as long as its price allows
-unfoldable pub reaching : ℕ → ℕ → ℕ → List Operation
-reaching b f k =
-    SetFuel f
-    ∷ NewMemory (most b f k) 1 0 0 0 0
-    ∷ NewTable 0 0 0 0 0 0 0 0
+unfoldable pub fullestRun : ℕ → ℕ → ℕ → List Operation
+fullestRun b f k =
+    op.Fuel (fuel.SetFuel f)
+    ∷ op.NewMemory (mostBytes b f k) (record { wide = true; limits = noLimits; exponent = 0 })
+    ∷ op.NewTable 0 (record { element = ref.Func; wide = false; limits = noLimits }) noFunction
     ∷ pass (b * f + (b - 1))
     ∷ replicate (k - 1) (pass (b - 1))
 
@@ -62,4 +74,4 @@ zeros n = buffers (replicate n 0) [] []
 
 -- the costs of B bytes a unit
 abbrev pub bytesPerUnit : ℕ → FuelCosts
-bytesPerUnit b = record { copied = b; translated = 7; validated = 2 }
+bytesPerUnit b = record { copied = b; translated = defaultCosts .translated; validated = defaultCosts .validated }

@@ -1,43 +1,30 @@
 -- Document 01, "Checked by proof", P1 to P11: the definitions, computed, as one list with one claim.
-use Prim.Native.Nat.{ℕ, zero, suc, _+_, _-_, _*_, _^_, _/_, _%_, min}
+use Prim.Native.Nat.{ℕ, _+_, _-_, _*_, _^_}
 use mathlib.Core.Bool.{Bool, true, false}
 use mathlib.Core.List.{List, [], _∷_, _++_}
-use mathlib.Core.Path.{_≡_, refl}
-use lib.Dec.{eqb, leb, ltb}
-use lib.ListN.{length, replicate}
+use lib.Dec.{eqb, ltb}
+use lib.ListN.{replicate}
 use Rattle.types.specs.Pick.{pick, both}
-use Rattle.types.specs.Price.{capped, price}
-use Rattle.types.specs.Span.{inside, cut, over}
-use Rattle.types.specs.Answer.{bitsOf, float32, float64, numberOf, shownOf}
-use Rattle.types.specs.Fuel.{setFuel}
-use Rattle.types.specs.Limiter.{padded, noLimiter, saysOf, moved, heardOf}
+use Rattle.types.specs.Price.{price}
+use Rattle.types.specs.Answer.{numberOf, shownOf}
 use Rattle.types.specs.declared.answer.Answer.{Answer}
 use Rattle.types.specs.IndexType.{maxSize}
-use Rattle.types.specs.Limits.{validLimits, validMaximum, admitsOf}
-use Rattle.types.specs.MemoryType.{pageBound, validMemory, buildMemory, byteSize, minimumBytes}
-use Rattle.types.specs.TableType.{tableBound, validTable, elementMatches}
+use Rattle.types.specs.MemoryType.{buildMemory}
 use Rattle.types.specs.Raw.{rawBytes}
 use Rattle.types.specs.declared.index_ty.IndexType.the-variants.{I32}
 use Rattle.types.specs.declared.limits.Limits.{Limits}
 use Rattle.types.specs.declared.memory_ty.BuiltMemory.{BuiltMemory}
 use Rattle.types.specs.declared.memory_ty.BuiltMemory.the-variants.{Built, Refused}
-use Rattle.memory.specs.LittleEndian.{leBytes, leValue}
-use Rattle.memory.specs.Access.{addressOf, extend, loadedOf, loadFound, loadAt, storeFound, storeAt}
-use Rattle.memory.specs.Memory.{pagesOf, soundRoom, soundSize, soundMemory, loadMemory, storeMemory}
-use Rattle.memory.specs.New.{newMemory}
-use Rattle.table.specs.Table as table
-use Rattle.table.specs.Table.{soundBuffer, soundTable}
-use Rattle.table.specs.New.{newTable}
-use Rattle.table.specs.Element.{soundSegment, newSegment}
-use Rattle.table.specs.Copy.{copyWithin}
-use Rattle.table.specs.Init.{initTable}
-use Rattle.machine.specs.Machine.{Buffers, buffers, nextByte, nextCell, nextItem, freshMachine}
-use Rattle.machine.specs.Sound.{follow, soundList, soundMemories, soundTables, soundSegments, soundReferences, soundMachine}
-use Rattle.machine.specs.Operation.{binary, absentAsZero, limitFields, memoryFields, kindFields, tableFields, narrowStore, storeFields, itemField, itemFields, segmentFields, initFields, wellFormed, kindOf, narrowLoad, wideLoad, wholeLoad, loadKindOf, narrowStoreOf, wholeStore, storeKindOf}
-use Rattle.machine.specs.Outcome.{changed, settled}
-use Rattle.machine.specs.Step.{setting, madeMemory, newMemoryOn, loadOn, storeOn, madeTable, newTableOn, copyKnown, copyOn, initOn, madeSegment, newSegmentOn, perform, decide, step, run}
+use Rattle.types.specs.declared.raw.RefType.the-variants as ref
+use Rattle.memory.specs.declared.access.LoadKind.the-variants as load
+use Rattle.memory.specs.declared.access.StoreKind.the-variants as store
+use Rattle.machine.specs.Machine.{buffers, freshMachine}
+use Rattle.machine.specs.Step.{run}
 use Rattle.machine.specs.declared.operation.Operation.{Operation}
-use Rattle.machine.specs.declared.operation.Operation.the-variants.{SetFuel, NewMemory, Load, Store, NewTable, TableCopy, TableInit, NewSegment}
+use Rattle.machine.specs.declared.operation.Operation.the-variants as op
+use Rattle.machine.specs.declared.operation.FuelOp.the-variants as fuel
+use Rattle.machine.specs.declared.operation.MemoryOp.the-variants as memory
+use Rattle.claims.specs.Bound.{noFunction, bytesPerUnit}
 
 -- every test of a list holds
 unfoldable pub allHold : List Bool → Bool
@@ -63,7 +50,7 @@ shown (a ∷ more) = numberOf a ∷ shownOf a ∷ shown more
 -- what a fresh machine with B bytes a unit answers, over small buffers of zeros
 unfoldable pub answered : ℕ → List Operation → List ℕ
 answered b ops =
-    shown (run rawBytes (freshMachine true (record { copied = b; translated = 7; validated = 2 })) (buffers (replicate 8 0) (replicate 4 0) (replicate 4 0)) ops .answers)
+    shown (run rawBytes (freshMachine true (bytesPerUnit b)) (buffers (replicate 8 0) (replicate 4 0) (replicate 4 0)) ops .answers)
 
 unfoldable pub same : List ℕ → List ℕ → Bool
 same [] [] = true
@@ -73,11 +60,21 @@ same (x ∷ xs) (y ∷ ys) = both (eqb x y) (same xs ys)
 
 -- a table of two cells and a segment of two items
 abbrev pub tableAndSegment : List Operation
-tableAndSegment = NewTable 2 0 0 0 2 0 0 0 ∷ NewSegment 0 2 7 8 0 0 ∷ []
+tableAndSegment =
+    op.NewTable 2 (record { element = ref.Func; wide = false; limits = atLeast 2 }) noFunction
+    ∷ op.NewSegment ref.Func (record { count = 2; first = 7; second = 8; third = 0; fourth = 0 })
+    ∷ []
+
+-- an init of length 0
+abbrev pub init : ℕ → Operation
+init to = op.TableInit 0 0 (record { to = to; from = 0; len = 0 })
 
 -- a memory of one byte that holds ff
 abbrev pub byteFf : List Operation
-byteFf = NewMemory 1 0 0 1 0 0 ∷ Store 0 4 0 0 255 ∷ []
+byteFf =
+    op.NewMemory 1 (record { wide = false; limits = atLeast 1; exponent = 0 })
+    ∷ op.Memory 0 (memory.Store store.I32To8 0 0 255)
+    ∷ []
 
 unfoldable pub cases : List Bool
 cases =
@@ -97,15 +94,15 @@ cases =
     ∷ eqb (builtNumber (buildMemory false (upTo (2 ^ 32 + 1)) 0)) 1
     -- P6: 64-bit, exponent 16, minimum 2^48: valid type, creation gives 2
     ∷ eqb (builtNumber (buildMemory true (atLeast (2 ^ 48)) 16)) 0
-    ∷ same (answered 64 (NewMemory 0 1 0 (2 ^ 48) 0 16 ∷ [])) (2 ∷ 0 ∷ [])
+    ∷ same (answered 64 (op.NewMemory 0 (record { wide = true; limits = atLeast (2 ^ 48); exponent = 16 }) ∷ [])) (2 ∷ 0 ∷ [])
     -- P7: init of length 0 at the size passes, one further 13
-    ∷ same (answered 64 (tableAndSegment ++ (TableInit 0 0 2 0 0 ∷ TableInit 0 0 3 0 0 ∷ []))) (0 ∷ 0 ∷ 0 ∷ 0 ∷ 0 ∷ 0 ∷ 13 ∷ 0 ∷ [])
+    ∷ same (answered 64 (tableAndSegment ++ (init 2 ∷ init 3 ∷ []))) (0 ∷ 0 ∷ 0 ∷ 0 ∷ 0 ∷ 0 ∷ 13 ∷ 0 ∷ [])
     -- P8: B 0, fuel 5: copy of length 0 gives 7 with 2^64-1, init of length 0 passes
-    ∷ same (answered 0 (SetFuel 5 ∷ (tableAndSegment ++ (TableCopy 0 0 0 0 0 ∷ TableInit 0 0 0 0 0 ∷ [])))) (0 ∷ 0 ∷ 0 ∷ 0 ∷ 0 ∷ 0 ∷ 7 ∷ (2 ^ 64 - 1) ∷ 0 ∷ 0 ∷ [])
+    ∷ same (answered 0 (op.Fuel (fuel.SetFuel 5) ∷ (tableAndSegment ++ (op.TableCopy 0 0 (record { to = 0; from = 0; len = 0 }) ∷ init 0 ∷ [])))) (0 ∷ 0 ∷ 0 ∷ 0 ∷ 0 ∷ 0 ∷ 7 ∷ (2 ^ 64 - 1) ∷ 0 ∷ 0 ∷ [])
     -- P9: byte ff: i32 from 8s is -1, i64 from 8u is 255
-    ∷ same (answered 64 (byteFf ++ (Load 0 4 0 0 ∷ Load 0 9 0 0 ∷ []))) (0 ∷ 0 ∷ 0 ∷ 0 ∷ 0 ∷ (2 ^ 32 - 1) ∷ 0 ∷ 255 ∷ [])
+    ∷ same (answered 64 (byteFf ++ (op.Memory 0 (memory.Load load.I32From8S 0 0) ∷ op.Memory 0 (memory.Load load.I64From8U 0 0) ∷ []))) (0 ∷ 0 ∷ 0 ∷ 0 ∷ 0 ∷ (2 ^ 32 - 1) ∷ 0 ∷ 255 ∷ [])
     -- P10: pointer 2^64-1, offset 1: 9
-    ∷ same (answered 64 (byteFf ++ (Load 0 5 (2 ^ 64 - 1) 1 ∷ []))) (0 ∷ 0 ∷ 0 ∷ 0 ∷ 9 ∷ 0 ∷ [])
+    ∷ same (answered 64 (byteFf ++ (op.Memory 0 (memory.Load load.I32From8U (2 ^ 64 - 1) 1) ∷ []))) (0 ∷ 0 ∷ 0 ∷ 0 ∷ 9 ∷ 0 ∷ [])
     -- P11: 32-bit table bound: 2^32-2 plus 1 passes, plus 2 gives 6
     ∷ eqb (pick (ltb (2 ^ 32 - 2 + 1) (maxSize I32)) 0 6) 0
     ∷ eqb (pick (ltb (2 ^ 32 - 2 + 2) (maxSize I32)) 0 6) 6

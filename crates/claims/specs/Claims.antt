@@ -1,23 +1,40 @@
--- What the project promises, over any machine, any buffers and any operations. `claims` in proofs/Claims.antt is its one value.
-use Prim.Native.Nat.{ℕ, _+_, _*_, _-_, _^_, _≤_, _<_}
+-- What the project promises, over any machine, any buffers and any operations, down to the bytes of a session. `claims` in proofs/Claims.antt is its one value.
+use Prim.Native.Nat.{ℕ, _+_, _-_, _^_, _≤_, _<_}
 use mathlib.Core.Path.{_≡_}
 use mathlib.Core.Bool.{Bool, true, false}
-use mathlib.Core.List.{List}
+use mathlib.Core.List.{List, []}
+use contract.Lifetimes.{Lfts}
+use borrow.Fn.Kinds.{Dens, resT, endedOf}
+use denote.Triple.Clauses.{AtExit}
+use denote.Ref.{now}
 use lib.ListN.{length}
 use Rattle.types.specs.declared.fuel.FuelCosts.{FuelCosts}
-use Rattle.machine.specs.Machine.{Buffers, freshMachine}
+use Rattle.types.specs.Raw.{rawBytes}
+use Rattle.machine.specs.Machine.{Buffers, buffers, freshMachine}
 use Rattle.machine.specs.Sound.{soundReferences, soundOver}
-use Rattle.machine.specs.Step.{step, run}
+use Rattle.machine.specs.Step.{stepped, step, run}
 use Rattle.machine.specs.Frame.{OthersStay, OnlySizes}
 use Rattle.machine.specs.declared.records.Machine.{Machine}
 use Rattle.machine.specs.declared.operation.Operation.{Operation}
+use Rattle.machine.proofs.records.Machine.operate.Reads as operate-reads
+use Rattle.machine.proofs.records.Machine.operate.Kinds as operate-kinds
+use Rattle.lent.proofs.operate.operate_kept.Reads as lent-reads
+use Rattle.lent.proofs.operate.operate_kept.Kinds as lent-kinds
+use Rattle.lines.specs.Code.{readLine}
+use Rattle.lines.specs.Writing.{writeLine}
+use Rattle.lines.specs.Sayable.{Sayable}
+use Rattle.lines.specs.Session.{Held, linesOf, session}
+use Rattle.lines.specs.Pieces.{Feed, fedAll, whole}
+use Rattle.lines.proofs.Pieces.{started}
+use Rattle.lines.specs.declared.code.Read.the-variants as read
 use Rattle.claims.specs.Answers.{accepted, valueOrListed, never}
 use Rattle.claims.specs.Refused.{Leaves}
 use Rattle.claims.specs.Occasions.{acceptedWhen}
-use Rattle.claims.specs.Effects.{does}
-use Rattle.claims.specs.Bound.{Sums, sums, most, reaching, zeros, bytesPerUnit}
-use Rattle.claims.specs.Ledger.{Book, blank, saidTo, book}
+use Rattle.claims.specs.Effects.{acceptedStep}
+use Rattle.claims.specs.Bound.{totals, mostBytes, fullestRun, zeros, bytesPerUnit}
+use Rattle.claims.specs.Ledger.{blank, limiterSays, book}
 use Rattle.claims.specs.Cases.{allHold, cases}
+use Rattle.claims.specs.Sessions.{readAll, replies, answersIn, sessionText}
 use Rattle.claims.specs.Alike.{SameRest, SameNamed, SameOutcome}
 
 -- R, the bytes that a reference counts, is a number of its own in every claim; the machine's is 4
@@ -30,19 +47,19 @@ pub record Claims : Type 0 where
   -- 3. An operation is accepted exactly on its occasion, and then answers, changes, takes and writes what document 01 says.
   pub accepted-when : (r : ℕ) (m : Machine) (b : Buffers) (op : Operation) → accepted (step r m b op .answer) ≡ acceptedWhen r m b op
   pub accepted-does : (r : ℕ) (m : Machine) (b : Buffers) (op : Operation) → accepted (step r m b op .answer) ≡ true
-      → step r m b op ≡ does r m b op
+      → step r m b op ≡ acceptedStep r m b op
   -- 4. Metering on, B at least 1, R at most 16: the bytes written are at most B·F + (B-1)·K.
   pub byte-bound : (r : ℕ) (costs : FuelCosts) (b : Buffers) (ops : List Operation) → r ≤ 16 → 1 ≤ costs .copied
-      → sums r (freshMachine true costs) b ops .bytes
-      ≤ most (costs .copied) (sums r (freshMachine true costs) b ops .units) (sums r (freshMachine true costs) b ops .passed)
+      → totals r (freshMachine true costs) b ops .bytes
+      ≤ mostBytes (costs .copied) (totals r (freshMachine true costs) b ops .units) (totals r (freshMachine true costs) b ops .passed)
   -- No smaller number would do: for each B, F and K a run writes so many bytes, as far as a memory can hold them.
-  pub bound-reached : (r b f k : ℕ) → 1 ≤ b → 1 ≤ k → most b f k < 2 ^ 64
-      → sums r (freshMachine true (bytesPerUnit b)) (zeros (most b f k)) (reaching b f k)
-      ≡ record { bytes = most b f k; units = f; passed = k }
+  pub bound-reached : (r b f k : ℕ) → 1 ≤ b → 1 ≤ k → mostBytes b f k < 2 ^ 64
+      → totals r (freshMachine true (bytesPerUnit b)) (zeros (mostBytes b f k)) (fullestRun b f k)
+      ≡ record { bytes = mostBytes b f k; units = f; passed = k }
   -- 5. At each moment the fuel left and the charges since make up the amount last set, or 0.
   pub ledger : (r : ℕ) (costs : FuelCosts) (b : Buffers) (ops : List Operation)
       → let m = freshMachine true costs in
-      let k = book r (costs .copied) blank ops (run r m b ops .answers) (saidTo r m b ops) in
+      let k = book r (costs .copied) blank ops (run r m b ops .answers) (limiterSays r m b ops) in
       run r m b ops .machine .fuel .remaining + k .since ≡ k .set
   -- 6. An operation changes cells and size of one instance at most.
   pub others-stay : (r : ℕ) (m : Machine) (b : Buffers) (op : Operation) → soundOver m b ≡ true → OthersStay m b op (step r m b op)
@@ -59,5 +76,25 @@ pub record Claims : Type 0 where
   pub never-unsound : (r : ℕ) (metering : Bool) (costs : FuelCosts) (b : Buffers) (ops : List Operation)
       → soundReferences (length (b .cells)) (length (b .items)) ≡ true
       → never 19 (run r (freshMachine metering costs) b ops .answers) ≡ true
+  -- 8. What `operate` gives back under its contract is `step`'s: answer, machine, and the content of the three buffers.
+  pub operate-is-step : (κs : Lfts 3) (a : Dens κs operate-kinds.ps) (x : resT operate-kinds.r κs .Denot) (s : AtExit (endedOf 3 operate-kinds.ps operate-kinds.r) κs)
+      → operate-reads.Post κs a x s
+      → stepped (x .answer) (x .machine) (now (s .1 .0)) (now (s .1 .1 .0)) (now (s .1 .1 .1 .0))
+      ≡ step rawBytes (a .0) (buffers (now (a .1 .0)) (now (a .1 .1 .0)) (now (a .1 .1 .1 .0))) (a .1 .1 .1 .1 .0)
+  -- The same of one operation on records in lent lists and lent fuel.
+  pub lent-is-step : (κs : Lfts 3) (a : Dens κs lent-kinds.ps) (x : resT lent-kinds.r κs .Denot) (s : AtExit (endedOf 3 lent-kinds.ps lent-kinds.r) κs)
+      → lent-reads.Post κs a x s
+      → stepped (x .answer) (x .machine) (now (s .1 .0)) (now (s .1 .1 .0)) (now (s .1 .1 .1 .0))
+      ≡ step rawBytes (a .0) (buffers (now (a .1 .0)) (now (a .1 .1 .0)) (now (a .1 .1 .1 .0))) (a .1 .1 .1 .1 .0)
+  -- 9. A session's output is the answer lines of a run of the operations that its lines say, from the machine of its first line.
+  pub session-is-run : (r : ℕ) (m : Machine) (b : Buffers) (l : List ℕ)
+      → session r (record { machine = m; first = true; buffers = b }) l ≡ sessionText r m b (readAll (linesOf l))
+  pub replies-run : (r : ℕ) (m : Machine) (b : Buffers) (ops : List Operation) → answersIn (replies r m b ops) ≡ run r m b ops .answers
+  -- However the input is cut, the bytes sent are the session's.
+  pub any-cut : (r : ℕ) (h : Held) (xs : List Feed) → fedAll r (started h) xs .skip ≡ false → fedAll r (started h) xs .tail ≡ []
+      → fedAll r (started h) xs .sent ≡ session r h (whole xs)
+  -- An operation line is read as it is written, and in no other way.
+  pub read-write : (op : Operation) → Sayable op → readLine (writeLine op) ≡ read.Operation op
+  pub read-unique : (l : List ℕ) (op : Operation) → readLine l ≡ read.Operation op → l ≡ writeLine op
   -- The worked cases P1 to P11 of document 01, computed.
   pub worked-cases : allHold cases ≡ true

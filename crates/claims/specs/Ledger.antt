@@ -1,6 +1,6 @@
 -- Demand 3's ledger: the amount last set and the charges since, from the operations, their answers and the limiter's alone.
 use Prim.Native.Nat.{ℕ, _+_, _-_, _*_, _^_}
-use mathlib.Core.Bool.{Bool, true, false}
+use mathlib.Core.Bool.{Bool, true}
 use mathlib.Core.List.{List, [], _∷_, _++_}
 use lib.Dec.{eqb, leb, ltb}
 use lib.ListN.{getD, set}
@@ -12,13 +12,12 @@ use Rattle.types.specs.declared.answer.Answer.{Answer}
 use Rattle.types.specs.Limits.{admitsOf}
 use Rattle.types.specs.declared.limits.Limits.{Limits}
 use Rattle.machine.specs.Machine.{Buffers, noLimits}
-use Rattle.machine.specs.Operation.{limitsOf}
 use Rattle.machine.specs.Step.{step}
 use Rattle.machine.specs.declared.records.Machine.{Machine}
 use Rattle.machine.specs.declared.operation.Operation.{Operation}
-use Rattle.machine.specs.declared.operation.Operation.the-variants.{Make, SetFuel, GetFuel, Charge, SetLimiter, NewMemory, GrowMemory, MemorySize, Load, Store, NewTable, GrowTable, TableSize, TableGet, TableSet, TableFill, TableCopy, TableInit, DropSegment, NewSegment, LinkCheck}
+use Rattle.machine.specs.declared.operation.Operation.the-variants as op
 use Rattle.claims.specs.Answers.{accepted}
-use Rattle.claims.specs.Metered.{grants}
+use Rattle.claims.specs.Metered.{Metering, Free, Sets, Charges, GrowsPages, GrowsCells, Spans, Inits, fuelMetering, memoryMetering, tableMetering, grants}
 
 -- what the accepted creations and growths say of a table: its limits as asked for, and its size
 pub record Row : Type 0 where
@@ -66,23 +65,14 @@ unfoldable pub grown : Book → ℕ → ℕ → Answer → Book
 grown k i n a =
     pick (accepted a) (withTables k (set (k .tables) i (record { limits = rowAt k i .limits; size = rowAt k i .size + n }))) k
 
--- the book after one operation of which the answer, and the limiter's answer to its question, are told
-unfoldable pub entry : ℕ → ℕ → Book → Operation → Answer → ℕ → Book
-entry r b k (Make metering copied) a said = k
-entry r b k (SetFuel amount) a said = pick (accepted a) (record { set = amount; since = 0; pages = k .pages; tables = k .tables }) k
-entry r b k GetFuel a said = k
-entry r b k (Charge units) a said = pick (accepted a) (charged k units) k
-entry r b k (SetLimiter count digits) a said = k
-entry r b k (NewMemory room wide bounded minimum maximum exponent) a said =
-    pick (accepted a) (withPages k (k .pages ++ (2 ^ exponent ∷ []))) k
-entry r b k (GrowMemory memory pages) a said =
+-- what an operation that has to do with fuel enters, by its answer and the limiter's answer to its question
+unfoldable pub entryBy : ℕ → ℕ → Book → Metering → Answer → ℕ → Book
+entryBy r b k Free a said = k
+entryBy r b k (Sets amount) a said = pick (accepted a) (record { set = amount; since = 0; pages = k .pages; tables = k .tables }) k
+entryBy r b k (Charges units) a said = pick (accepted a) (charged k units) k
+entryBy r b k (GrowsPages memory pages) a said =
     pick (ltb 0 pages) (charged k (growthCharge k a said true (price b (pages * getD (k .pages) memory 0)))) k
-entry r b k (MemorySize memory) a said = k
-entry r b k (Load memory kind pointer offset) a said = k
-entry r b k (Store memory kind pointer offset bits) a said = k
-entry r b k (NewTable room kind wide bounded minimum maximum initial bits) a said =
-    pick (accepted a) (withTables k (k .tables ++ (record { limits = limitsOf bounded minimum maximum; size = minimum } ∷ []))) k
-entry r b k (GrowTable table cells kind bits) a said =
+entryBy r b k (GrowsCells table cells) a said =
     pick (ltb 0 cells)
     (grown
     (charged k (growthCharge k a said (admitsOf (rowAt k table .limits) (rowAt k table .size + cells)) (price b (cells * r))))
@@ -90,21 +80,26 @@ entry r b k (GrowTable table cells kind bits) a said =
     cells
     a)
     k
-entry r b k (TableSize table) a said = k
-entry r b k (TableGet table index) a said = k
-entry r b k (TableSet table index kind bits) a said = k
-entry r b k (TableFill table start kind bits len) a said = pick (accepted a) (charged k (price b (len * r))) k
-entry r b k (TableCopy into to source from len) a said = pick (accepted a) (charged k (price b (len * r))) k
-entry r b k (TableInit table segment to from len) a said =
-    pick (both (ltb 0 len) (accepted a)) (charged k (price b (len * r))) k
-entry r b k (DropSegment segment) a said = k
-entry r b k (NewSegment kind count first second third fourth) a said = k
-entry r b k (LinkCheck memory wide bounded minimum maximum exponent) a said = k
+entryBy r b k (Spans len) a said = pick (accepted a) (charged k (price b (len * r))) k
+entryBy r b k (Inits len) a said = pick (both (ltb 0 len) (accepted a)) (charged k (price b (len * r))) k
+
+-- the book after one operation: a creation adds the bytes of a page, or a table
+unfoldable pub entry : ℕ → ℕ → Book → Operation → Answer → ℕ → Book
+entry r b k (op.Fuel o) a said = entryBy r b k (fuelMetering o) a said
+entry r b k (op.NewMemory room wanted) a said = pick (accepted a) (withPages k (k .pages ++ (2 ^ (wanted .exponent) ∷ []))) k
+entry r b k (op.Memory number o) a said = entryBy r b k (memoryMetering number o) a said
+entry r b k (op.NewTable room wanted initial) a said =
+    pick (accepted a) (withTables k (k .tables ++ (record { limits = wanted .limits; size = wanted .limits .minimum } ∷ []))) k
+entry r b k (op.Table number o) a said = entryBy r b k (tableMetering number o) a said
+entry r b k (op.TableCopy into source span) a said = entryBy r b k (Spans (span .len)) a said
+entry r b k (op.TableInit table segment span) a said = entryBy r b k (Inits (span .len)) a said
+entry r b k (op.DropSegment segment) a said = k
+entry r b k (op.NewSegment element items) a said = k
 
 -- the limiter's answers to the questions of a run's operations
-unfoldable pub saidTo : ℕ → Machine → Buffers → List Operation → List ℕ
-saidTo r m b [] = []
-saidTo r m b (op ∷ ops) = saysOf (m .limiter) ∷ saidTo r (step r m b op .machine) (step r m b op .buffers) ops
+unfoldable pub limiterSays : ℕ → Machine → Buffers → List Operation → List ℕ
+limiterSays r m b [] = []
+limiterSays r m b (op ∷ ops) = saysOf (m .limiter) ∷ limiterSays r (step r m b op .machine) (step r m b op .buffers) ops
 
 -- the whole book: R, B, the operations, their answers and the limiter's, and nothing of the machine
 unfoldable pub book : ℕ → ℕ → Book → List Operation → List Answer → List ℕ → Book

@@ -7,4 +7,5 @@ pub mod Bound
 pub mod Ledger
 pub mod Alike
 pub mod Cases
+pub mod Sessions
 pub mod Claims

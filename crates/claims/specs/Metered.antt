@@ -12,7 +12,13 @@ use Rattle.machine.specs.Outcome.{metered}
 use Rattle.machine.specs.Step.{step}
 use Rattle.machine.specs.declared.records.Machine.{Machine}
 use Rattle.machine.specs.declared.operation.Operation.{Operation}
-use Rattle.machine.specs.declared.operation.Operation.the-variants.{Make, SetFuel, GetFuel, Charge, SetLimiter, NewMemory, GrowMemory, MemorySize, Load, Store, NewTable, GrowTable, TableSize, TableGet, TableSet, TableFill, TableCopy, TableInit, DropSegment, NewSegment, LinkCheck}
+use Rattle.machine.specs.declared.operation.Operation.the-variants as op
+use Rattle.machine.specs.declared.operation.FuelOp.{FuelOp}
+use Rattle.machine.specs.declared.operation.FuelOp.the-variants as fuel
+use Rattle.machine.specs.declared.operation.MemoryOp.{MemoryOp}
+use Rattle.machine.specs.declared.operation.MemoryOp.the-variants as memory
+use Rattle.machine.specs.declared.operation.TableOp.{TableOp}
+use Rattle.machine.specs.declared.operation.TableOp.the-variants as table
 use Rattle.claims.specs.Answers.{accepted}
 
 -- what an operation has to do with fuel
@@ -25,28 +31,40 @@ pub data Metering : Type 0 where
   Spans : ℕ → Metering
   Inits : ℕ → Metering
 
+-- of fuel and limiter
+unfoldable pub fuelMetering : FuelOp → Metering
+fuelMetering (fuel.SetFuel amount) = Sets amount
+fuelMetering fuel.GetFuel = Free
+fuelMetering (fuel.Charge units) = Charges units
+fuelMetering (fuel.SetLimiter script) = Free
+
+-- of one memory
+unfoldable pub memoryMetering : ℕ → MemoryOp → Metering
+memoryMetering i (memory.Grow pages) = GrowsPages i pages
+memoryMetering i memory.Size = Free
+memoryMetering i (memory.Load kind pointer offset) = Free
+memoryMetering i (memory.Store kind pointer offset bits) = Free
+memoryMetering i (memory.LinkCheck wanted) = Free
+
+-- of one table
+unfoldable pub tableMetering : ℕ → TableOp → Metering
+tableMetering i (table.Grow cells value) = GrowsCells i cells
+tableMetering i table.Size = Free
+tableMetering i (table.Get index) = Free
+tableMetering i (table.Set index value) = Free
+tableMetering i (table.Fill start value len) = Spans len
+
+-- of any operation
 unfoldable pub meteringOf : Operation → Metering
-meteringOf (Make metering copied) = Free
-meteringOf (SetFuel amount) = Sets amount
-meteringOf GetFuel = Free
-meteringOf (Charge units) = Charges units
-meteringOf (SetLimiter count digits) = Free
-meteringOf (NewMemory room wide bounded minimum maximum exponent) = Free
-meteringOf (GrowMemory memory pages) = GrowsPages memory pages
-meteringOf (MemorySize memory) = Free
-meteringOf (Load memory kind pointer offset) = Free
-meteringOf (Store memory kind pointer offset bits) = Free
-meteringOf (NewTable room kind wide bounded minimum maximum initial bits) = Free
-meteringOf (GrowTable table cells kind bits) = GrowsCells table cells
-meteringOf (TableSize table) = Free
-meteringOf (TableGet table index) = Free
-meteringOf (TableSet table index kind bits) = Free
-meteringOf (TableFill table start kind bits len) = Spans len
-meteringOf (TableCopy into to source from len) = Spans len
-meteringOf (TableInit table segment to from len) = Inits len
-meteringOf (DropSegment segment) = Free
-meteringOf (NewSegment kind count first second third fourth) = Free
-meteringOf (LinkCheck memory wide bounded minimum maximum exponent) = Free
+meteringOf (op.Fuel o) = fuelMetering o
+meteringOf (op.NewMemory room wanted) = Free
+meteringOf (op.Memory number o) = memoryMetering number o
+meteringOf (op.NewTable room wanted initial) = Free
+meteringOf (op.Table number o) = tableMetering number o
+meteringOf (op.TableCopy into source span) = Spans (span .len)
+meteringOf (op.TableInit table segment span) = Inits (span .len)
+meteringOf (op.DropSegment segment) = Free
+meteringOf (op.NewSegment element items) = Free
 
 -- growths, fills, copies and inits meet the fuel step, but for a growth by 0 and an init of length 0
 unfoldable pub meets : Metering → Bool
@@ -58,6 +76,7 @@ meets (GrowsCells table cells) = ltb 0 cells
 meets (Spans len) = true
 meets (Inits len) = ltb 0 len
 
+-- growths
 unfoldable pub grows : Metering → Bool
 grows Free = false
 grows (Sets amount) = false
@@ -80,8 +99,12 @@ lengthOf r m (Inits len) = len * r
 abbrev pub bytesOf : ℕ → Machine → Operation → ℕ
 bytesOf r m op = lengthOf r m (meteringOf op)
 
+-- the price of that length
+abbrev pub priceFor : ℕ → Machine → Metering → ℕ
+priceFor r m x = price (m .fuel .costs .copied) (lengthOf r m x)
+
 abbrev pub priceOf : ℕ → Machine → Operation → ℕ
-priceOf r m op = price (m .fuel .costs .copied) (bytesOf r m op)
+priceOf r m op = priceFor r m (meteringOf op)
 
 -- what is left pays a price; with metering off every price is paid
 unfoldable pub affords : Machine → ℕ → Bool

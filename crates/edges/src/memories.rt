@@ -4,22 +4,23 @@ use super::settings;
 use super::text;
 use super::text::Order;
 use super::words;
-use types::answer::Answer;
-use types::answer::Refusal;
-use types::answer::Value;
-use types::fuel::Fuel;
-use types::fuel::FuelCosts;
-use types::limiter::Limiter;
 use memory::access::LoadKind;
 use memory::access::StoreKind;
 use memory::grow::GrownMemory;
 use memory::memory::Memory;
 use memory::new::CreatedMemory;
 use memory::new::MadeMemory;
+use types::answer::Answer;
+use types::answer::Refusal;
+use types::answer::Value;
+use types::fuel::Fuel;
+use types::fuel::FuelCosts;
 use types::index_ty::IndexType;
+use types::limiter::Limiter;
 use types::limits::Limits;
 use types::memory_ty::MemoryType;
 use types::memory_ty::PageSize;
+use types::memory_ty::WantedMemory;
 ghost use mathlib.Core.Path.{_≡_};
 ghost use lib.ListN.{length};
 
@@ -86,10 +87,13 @@ fn create(x: Order, m: GrownMemory, bytes: &mut [u8]) -> GrownMemory {
         bounded: x.d != 0,
         maximum: x.e,
     };
-    let exponent = text::byte(x.b);
-    let wide = x.a != 0;
+    let wanted = WantedMemory {
+        wide: x.a != 0,
+        limits,
+        exponent: text::byte(x.b),
+    };
     let start = x.f as usize;
-    let done = memory::new::new_memory(wide, limits, exponent, start, x.g, bytes, m.limiter);
+    let done = memory::new::new_memory(wanted, start, x.g, bytes, m.limiter);
     created(m, done)
 }
 

@@ -1,7 +1,7 @@
 // The line that a case prints.
-use types::answer::Answer;
 use memory::grow::GrownMemory;
 use table::grow::GrownTable;
+use types::answer::Answer;
 
 // A space and a number.
 fn number(n: u64) {

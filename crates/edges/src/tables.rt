@@ -4,24 +4,27 @@ use super::settings;
 use super::text;
 use super::text::Order;
 use super::words;
+use table::element::ElementSegment;
+use table::grow::GrownTable;
+use table::new::CreatedTable;
+use table::new::MadeTable;
+use table::table::Table;
 use types::answer::Answer;
 use types::answer::Refusal;
 use types::answer::Value;
 use types::fuel::Fuel;
 use types::fuel::FuelCosts;
 use types::grant::Spanned;
-use types::limiter::Limiter;
-use table::element::ElementSegment;
-use table::grow::GrownTable;
-use table::new::CreatedTable;
-use table::new::MadeTable;
-use table::table::Table;
 use types::index_ty::IndexType;
+use types::limiter::Limiter;
 use types::limits::Limits;
 use types::raw::RawRef;
 use types::raw::RefType;
 use types::raw::TypedRawRef;
+use types::span::CopySpan;
+use types::span::FillSpan;
 use types::table_ty::TableType;
+use types::table_ty::WantedTable;
 ghost use mathlib.Core.Path.{_≡_};
 ghost use lib.ListN.{length};
 
@@ -135,16 +138,12 @@ fn create(x: Order, t: GrownTable, cells: &mut [u64]) -> GrownTable {
     };
     let value = reference(x.d, x.e);
     let start = x.f as usize;
-    let done = table::new::new_table(
-        RefType::Func,
-        false,
+    let wanted = WantedTable {
+        element: RefType::Func,
+        wide: false,
         limits,
-        value,
-        start,
-        x.g,
-        cells,
-        t.limiter,
-    );
+    };
+    let done = table::new::new_table(wanted, value, start, x.g, cells, t.limiter);
     created(t, done)
 }
 
@@ -166,14 +165,27 @@ fn set(x: Order, t: GrownTable, cells: &mut [u64]) -> GrownTable {
 fn fill(x: Order, t: GrownTable, cells: &mut [u64]) -> GrownTable {
     let table = t.table;
     let value = reference(x.b, x.c);
-    spanned(t, table.fill(cells, x.a, value, x.d, t.fuel))
+    let span = FillSpan {
+        start: x.a,
+        len: x.d,
+    };
+    spanned(t, table.fill(cells, span, value, t.fuel))
+}
+
+// To, from, length.
+fn span_of(x: Order) -> CopySpan {
+    CopySpan {
+        to: x.a,
+        from: x.b,
+        len: x.c,
+    }
 }
 
 // To, from, length; then the other table: kind, start, room, size.
 fn copy(x: Order, t: GrownTable, cells: &mut [u64]) -> GrownTable {
     let table = t.table;
     let from = table_of(x.d, 0, x.e, x.f, x.g);
-    spanned(t, table.copy(from, cells, x.a, x.b, x.c, t.fuel))
+    spanned(t, table.copy(from, cells, span_of(x), t.fuel))
 }
 
 // The segment after the first three numbers, as it is or dropped: kind, start, places, size.
@@ -195,13 +207,13 @@ fn segment_of(x: Order) -> ElementSegment {
 fn init(x: Order, t: GrownTable, cells: &mut [u64], items: &[u64]) -> GrownTable {
     let table = t.table;
     let from = segment_of(x);
-    spanned(t, table.init(from, cells, items, x.a, x.b, x.c, t.fuel))
+    spanned(t, table.init(from, cells, items, span_of(x), t.fuel))
 }
 
 // To, from, length.
 fn within(x: Order, t: GrownTable, cells: &mut [u64]) -> GrownTable {
     let table = t.table;
-    spanned(t, table.copy_within(cells, x.a, x.b, x.c, t.fuel))
+    spanned(t, table.copy_within(cells, span_of(x), t.fuel))
 }
 
 // Fuel and limiter for the lines that follow.

@@ -6,7 +6,8 @@ use lib.Dec.{ltb}
 use Rattle.types.specs.Pick.{pick}
 use Rattle.types.specs.Answer.{refusal}
 use Rattle.types.specs.Fuel.{left, setFuel, getFuel, consume, consumeIf, consumeUnchecked}
-use Rattle.lent.specs.Fuel.{FuelDone, fuelDone, setBy, chargedBy, requested, leftOf}
+use Rattle.lent.specs.Fuel.{FuelDone, fuelDone, setBy, chargedBy, requested}
+use Rattle.lent.specs.stages.Fuel.{leftOf}
 use Rattle.types.specs.declared.answer.Refusal.{Refusal}
 use Rattle.types.specs.declared.fuel.Fuel.{Fuel}
 use Rattle.types.specs.declared.fuel.FuelStep.{FuelStep}

@@ -1,6 +1,7 @@
+pub mod Lists
+pub mod Walk
 pub mod FuelLaws
-pub mod MemoryLaws
-pub mod TableLaws
+pub mod GrowthLaws
 pub mod RecordParts
 pub mod RecordLaws
 pub mod Unique

@@ -1,5 +1,4 @@
 -- Document 01, "Fuel": the fuel record is lent and charged where it stands.
-use Prim.Native.Nat.{ℕ}
 use Rattle.types.specs.Answer.{accept}
 use Rattle.types.specs.Fuel.{setFuel, getFuel, consume, consumeIf, consumeUnchecked}
 use Rattle.types.specs.declared.answer.Answer.{Answer}
@@ -9,13 +8,13 @@ use Rattle.types.specs.declared.fuel.FuelStep.{FuelStep}
 use Rattle.types.specs.declared.fuel.FuelStep.the-variants.{Done, Refused}
 use Rattle.lent.specs.declared.fuel.FuelRequest.{FuelRequest}
 use Rattle.lent.specs.declared.fuel.FuelRequest.the-variants.{Set, Get, Charge, ChargeIf, ChargeUnchecked}
-use Rattle.lent.specs.declared.fuel.FuelLeft.{FuelLeft}
 
 -- an answer, and the fuel record after it
 pub record FuelDone : Type 0 where
   pub answer : Answer
   pub fuel : Fuel
 
+-- an answer with its record
 abbrev pub fuelDone : Answer → Fuel → FuelDone
 fuelDone a f = record { answer = a; fuel = f }
 
@@ -36,10 +35,3 @@ requested f Get = fuelDone (getFuel f) f
 requested f (Charge p) = chargedBy f (consume f p)
 requested f (ChargeIf p) = chargedBy f (consumeIf f p)
 requested f (ChargeUnchecked p) = chargedBy f (consumeUnchecked f p)
-
--- what is left, and the answer
-abbrev pub fuelLeft : ℕ → Answer → FuelLeft
-fuelLeft n a = record { left = n; answer = a }
-
-unfoldable pub leftOf : FuelDone → FuelLeft
-leftOf d = fuelLeft (d .fuel .remaining) (d .answer)

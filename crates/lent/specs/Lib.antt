@@ -1,6 +1,6 @@
 pub mod Fuel
-pub mod Regrown
+pub mod Growth
 pub mod Memories
 pub mod Tables
 pub mod Records
-pub mod Places
+pub mod stages

@@ -1,4 +1,4 @@
--- Document 01, "The machine": records stand in lent lists, and the fuel record is lent and charged where it stands.
+-- Document 01, "The machine": records stand in lent lists, and the fuel record is lent and charged where it stands. One operation on all that is lent.
 use Prim.Native.Nat.{ℕ}
 use mathlib.Core.Bool.{Bool}
 use mathlib.Core.List.{List, _++_}
@@ -11,14 +11,14 @@ use Rattle.types.specs.declared.fuel.Fuel.{Fuel}
 use Rattle.memory.specs.declared.memory.Memory.{Memory}
 use Rattle.table.specs.declared.table.Table.{Table}
 use Rattle.table.specs.declared.element.ElementSegment.{ElementSegment}
-use Rattle.machine.specs.Machine.{Buffers, buffers}
+use Rattle.machine.specs.Machine.{Buffers}
 use Rattle.machine.specs.Operation.{wellFormed}
 use Rattle.machine.specs.Step.{step}
 use Rattle.machine.specs.declared.records.Machine.{Machine}
 use Rattle.machine.specs.declared.operation.Operation.{Operation}
 use Rattle.lent.specs.declared.operate.Standing.{Standing}
 
--- what is lent beside the buffers
+-- what is lent beside the buffers: three lists of records, the numbers in use with the limiter, and the fuel record
 pub record Lent : Type 0 where
   pub memories : List Memory
   pub tables : List Table
@@ -26,6 +26,7 @@ pub record Lent : Type 0 where
   pub standing : Standing
   pub fuel : Fuel
 
+-- these lists and records, lent
 abbrev pub lent : List Memory → List Table → List ElementSegment → Standing → Fuel → Lent
 lent ms ts gs s f = record { memories = ms; tables = ts; segments = gs; standing = s; fuel = f }
 
@@ -43,6 +44,7 @@ machineOf l =
 unfoldable pub longEnough : ℕ → ℕ → ℕ → Bool
 longEnough memories tables segments = both (leb 8 memories) (both (leb 8 tables) (leb 8 segments))
 
+-- the lent lists have their places
 abbrev pub placed : Lent → Bool
 placed l = longEnough (length (l .memories)) (length (l .tables)) (length (l .segments))
 
@@ -62,11 +64,11 @@ pub record LentStepped : Type 0 where
   pub lent : Lent
   pub buffers : Buffers
 
-abbrev pub lentStepped : Answer → List Memory → List Table → List ElementSegment → Standing → Fuel → List ℕ → List ℕ → List ℕ → LentStepped
-lentStepped a ms ts gs s f bytes cells items =
-    record { answer = a; lent = lent ms ts gs s f; buffers = buffers bytes cells items }
+-- an answer with what is lent and the buffers
+abbrev pub lentStepped : Answer → Lent → Buffers → LentStepped
+lentStepped a l b = record { answer = a; lent = l; buffers = b }
 
--- lists with fewer places are unsound; first check wins
+-- lists with fewer places are unsound (19); 18 comes first
 unfoldable pub unfit : Operation → Answer
 unfit op = unless (wellFormed op) (refuse 18 0) (refuse 19 0)
 
@@ -74,9 +76,8 @@ unfit op = unless (wellFormed op) (refuse 18 0) (refuse 19 0)
 unfoldable pub stepPlaced : ℕ → Lent → Buffers → Operation → LentStepped
 stepPlaced r l b op =
     let s = step r (machineOf l) b op in
-    record { answer = s .answer; lent = lentBack (s .machine) l; buffers = s .buffers }
+    lentStepped (s .answer) (lentBack (s .machine) l) (s .buffers)
 
+-- one operation on all that is lent
 unfoldable pub lentStep : ℕ → Lent → Buffers → Operation → LentStepped
-lentStep r l b op =
-    unless (placed l) (record { answer = unfit op; lent = l; buffers = b })
-    (stepPlaced r l b op)
+lentStep r l b op = unless (placed l) (lentStepped (unfit op) l b) (stepPlaced r l b op)

@@ -4,7 +4,8 @@ use types::answer::Value;
 use types::fuel::Fuel;
 use types::fuel::FuelStep;
 ghost use mathlib.Core.Path.{_≡_};
-ghost use Rattle.lent.specs.Fuel.{setBy, chargedBy, fuelLeft, leftOf, fuelDone, requested};
+ghost use Rattle.lent.specs.Fuel.{setBy, chargedBy, fuelDone, requested};
+ghost use Rattle.lent.specs.stages.Fuel.{fuelLeft, leftOf};
 ghost use Rattle.types.specs.Fuel.{setFuel, getFuel, consume, consumeIf, consumeUnchecked};
 
 // What the fuel record is asked for.

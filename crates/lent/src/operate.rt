@@ -1,18 +1,18 @@
 // One operation on records that stand in lent lists, with the fuel record lent: each list has one record stored to it.
-use types::answer::Answer;
-use types::answer::Refusal;
-use types::answer::Value;
-use types::fuel::Fuel;
-use types::limiter::Limiter;
 use machine::operate::Operated;
+use machine::operation::Operation;
 use machine::outcome::Change;
 use machine::outcome::Outcome;
 use machine::records::Counts;
 use machine::records::Machine;
 use memory::memory::Memory;
-use machine::operation::Operation;
 use table::element::ElementSegment;
 use table::table::Table;
+use types::answer::Answer;
+use types::answer::Refusal;
+use types::answer::Value;
+use types::fuel::Fuel;
+use types::limiter::Limiter;
 ghost use mathlib.Core.Path.{_≡_};
 ghost use Prim.Native.Nat.{_≤_};
 ghost use lib.ListN.{length, set};
@@ -20,7 +20,7 @@ ghost use Rattle.types.specs.Raw.{rawBytes};
 ghost use Rattle.machine.specs.Machine.{buffers, noMemory, noTable, noSegment};
 ghost use Rattle.machine.specs.Step.{stepped, step};
 ghost use Rattle.lent.specs.Records.{lent, gathered, longEnough, unfit, lentStepped, lentStep};
-ghost use Rattle.lent.specs.Places.{verdict, orFirst, memoryPlace, tablePlace, segmentPlace, orKept, memoryAfter, tableAfter, segmentAfter, oneMore, countsAfter, placedOf, placing, place, eight};
+ghost use Rattle.lent.specs.stages.Places.{verdict, firstPlaces, putMemory, putTable, putSegment, put, placedOf, placing, place, eight};
 
 // How many instances there are, and the limiter.
 pub struct Standing {
@@ -55,15 +55,6 @@ pub struct Kept {
     pub standing: Standing,
     pub fuel: Fuel,
     pub answer: Answer,
-}
-
-fn or_first(i: usize) -> usize
-    ensures { λ r. ⌜ r ≡ orFirst i ⌝ }
-{
-    if i < 8 {
-        return i;
-    }
-    0
 }
 
 // Whether each list has its places.
@@ -112,153 +103,75 @@ fn judge(memories: usize, tables: usize, segments: usize, op: Operation) -> Verd
     }
 }
 
-fn memory_place(machine: Machine, change: Change) -> usize
-    ensures { λ r. ⌜ r ≡ memoryPlace change machine ⌝ }
+// The first record of each list, for its own place, with all else that an operation gave back.
+fn first_places(machine: Machine, outcome: Outcome) -> Placed
+    ensures { λ r. ⌜ r ≡ firstPlaces machine outcome ⌝ }
 {
-    match change {
-        Change::Nothing => 0,
-        Change::Memory(i, _) => or_first(i),
-        Change::AddMemory(_) => or_first(machine.counts.memories),
-        Change::Table(_, _) => 0,
-        Change::AddTable(_) => 0,
-        Change::Segment(_, _) => 0,
-        Change::AddSegment(_) => 0,
+    let answer = outcome.answer;
+    let counts = outcome.counts;
+    let fuel = outcome.fuel;
+    let limiter = outcome.limiter;
+    let memory = machine.memory_at(0);
+    let table = machine.table_at(0);
+    let segment = machine.segment_at(0);
+    Placed {
+        memory_at: 0,
+        memory,
+        table_at: 0,
+        table,
+        segment_at: 0,
+        segment,
+        standing: Standing { counts, limiter },
+        fuel,
+        answer,
     }
 }
 
-fn table_place(machine: Machine, change: Change) -> usize
-    ensures { λ r. ⌜ r ≡ tablePlace change machine ⌝ }
-{
-    match change {
-        Change::Nothing => 0,
-        Change::Memory(_, _) => 0,
-        Change::AddMemory(_) => 0,
-        Change::Table(i, _) => or_first(i),
-        Change::AddTable(_) => or_first(machine.counts.tables),
-        Change::Segment(_, _) => 0,
-        Change::AddSegment(_) => 0,
-    }
-}
-
-fn segment_place(machine: Machine, change: Change) -> usize
-    ensures { λ r. ⌜ r ≡ segmentPlace change machine ⌝ }
-{
-    match change {
-        Change::Nothing => 0,
-        Change::Memory(_, _) => 0,
-        Change::AddMemory(_) => 0,
-        Change::Table(_, _) => 0,
-        Change::AddTable(_) => 0,
-        Change::Segment(i, _) => or_first(i),
-        Change::AddSegment(_) => or_first(machine.counts.segments),
-    }
-}
-
-fn or_memory(i: usize, given: Memory, first: Memory) -> Memory
-    ensures { λ r. ⌜ r ≡ orKept i given first ⌝ }
+fn put_memory(placed: Placed, i: usize, memory: Memory) -> Placed
+    ensures { λ r. ⌜ r ≡ putMemory i memory placed ⌝ }
 {
     if i < 8 {
-        return given;
+        let mut next = placed;
+        next.memory_at = i;
+        next.memory = memory;
+        return next;
     }
-    first
+    placed
 }
 
-// The memory that goes back: the changed or added one, or the first itself.
-fn memory_after(change: Change, first: Memory, count: usize) -> Memory
-    ensures { λ r. ⌜ r ≡ memoryAfter change first count ⌝ }
-{
-    match change {
-        Change::Nothing => first,
-        Change::Memory(i, given) => or_memory(i, given, first),
-        Change::AddMemory(given) => or_memory(count, given, first),
-        Change::Table(_, _) => first,
-        Change::AddTable(_) => first,
-        Change::Segment(_, _) => first,
-        Change::AddSegment(_) => first,
-    }
-}
-
-fn or_table(i: usize, given: Table, first: Table) -> Table
-    ensures { λ r. ⌜ r ≡ orKept i given first ⌝ }
+fn put_table(placed: Placed, i: usize, table: Table) -> Placed
+    ensures { λ r. ⌜ r ≡ putTable i table placed ⌝ }
 {
     if i < 8 {
-        return given;
+        let mut next = placed;
+        next.table_at = i;
+        next.table = table;
+        return next;
     }
-    first
+    placed
 }
 
-// The table that goes back: the changed or added one, or the first itself.
-fn table_after(change: Change, first: Table, count: usize) -> Table
-    ensures { λ r. ⌜ r ≡ tableAfter change first count ⌝ }
-{
-    match change {
-        Change::Nothing => first,
-        Change::Memory(_, _) => first,
-        Change::AddMemory(_) => first,
-        Change::Table(i, given) => or_table(i, given, first),
-        Change::AddTable(given) => or_table(count, given, first),
-        Change::Segment(_, _) => first,
-        Change::AddSegment(_) => first,
-    }
-}
-
-fn or_segment(i: usize, given: ElementSegment, first: ElementSegment) -> ElementSegment
-    ensures { λ r. ⌜ r ≡ orKept i given first ⌝ }
+fn put_segment(placed: Placed, i: usize, segment: ElementSegment) -> Placed
+    ensures { λ r. ⌜ r ≡ putSegment i segment placed ⌝ }
 {
     if i < 8 {
-        return given;
+        let mut next = placed;
+        next.segment_at = i;
+        next.segment = segment;
+        return next;
     }
-    first
+    placed
 }
 
-// The segment that goes back: the changed or added one, or the first itself.
-fn segment_after(change: Change, first: ElementSegment, count: usize) -> ElementSegment
-    ensures { λ r. ⌜ r ≡ segmentAfter change first count ⌝ }
+// The changed record instead of the first of its list.
+fn put(placed: Placed, change: Change) -> Placed
+    ensures { λ r. ⌜ r ≡ put change placed ⌝ }
 {
     match change {
-        Change::Nothing => first,
-        Change::Memory(_, _) => first,
-        Change::AddMemory(_) => first,
-        Change::Table(_, _) => first,
-        Change::AddTable(_) => first,
-        Change::Segment(i, given) => or_segment(i, given, first),
-        Change::AddSegment(given) => or_segment(count, given, first),
-    }
-}
-
-fn one_more(n: usize) -> usize
-    ensures { λ r. ⌜ r ≡ oneMore n ⌝ }
-{
-    if n < 8 {
-        return n + 1;
-    }
-    n
-}
-
-// How many instances there are after a change.
-fn counts_after(change: Change, counts: Counts) -> Counts
-    ensures { λ r. ⌜ r ≡ countsAfter change counts ⌝ }
-{
-    match change {
-        Change::Nothing => counts,
-        Change::Memory(_, _) => counts,
-        Change::AddMemory(_) => Counts {
-            memories: one_more(counts.memories),
-            tables: counts.tables,
-            segments: counts.segments,
-        },
-        Change::Table(_, _) => counts,
-        Change::AddTable(_) => Counts {
-            memories: counts.memories,
-            tables: one_more(counts.tables),
-            segments: counts.segments,
-        },
-        Change::Segment(_, _) => counts,
-        Change::AddSegment(_) => Counts {
-            memories: counts.memories,
-            tables: counts.tables,
-            segments: one_more(counts.segments),
-        },
+        Change::Nothing => placed,
+        Change::Memory(i, memory) => put_memory(placed, i, memory),
+        Change::Table(i, table) => put_table(placed, i, table),
+        Change::Segment(i, segment) => put_segment(placed, i, segment),
     }
 }
 
@@ -267,28 +180,8 @@ fn places_of(machine: Machine, outcome: Outcome) -> Placed
     ensures { λ r. ⌜ r ≡ placedOf machine outcome ⌝ }
 {
     let change = outcome.change;
-    let answer = outcome.answer;
-    let fuel = outcome.fuel;
-    let limiter = outcome.limiter;
-    let before = machine.counts;
-    let memory_at = memory_place(machine, change);
-    let table_at = table_place(machine, change);
-    let segment_at = segment_place(machine, change);
-    let memory = memory_after(change, machine.memory_at(0), before.memories);
-    let table = table_after(change, machine.table_at(0), before.tables);
-    let segment = segment_after(change, machine.segment_at(0), before.segments);
-    let counts = counts_after(change, before);
-    Placed {
-        memory_at,
-        memory,
-        table_at,
-        table,
-        segment_at,
-        segment,
-        standing: Standing { counts, limiter },
-        fuel,
-        answer,
-    }
+    let first = first_places(machine, outcome);
+    put(first, change)
 }
 
 // One operation: what goes back.
@@ -511,7 +404,7 @@ pub fn operate_lent(
     items: &mut [u64],
     op: Operation,
 ) -> Answer
-    ensures { λ r. ⌜ lentStepped r (now (memories .exit)) (now (tables .exit)) (now (segments .exit)) (now (standing .exit)) (now (fuel .exit)) (now (bytes .exit)) (now (cells .exit)) (now (items .exit)) ≡ lentStep rawBytes (lent (now (memories .entry)) (now (tables .entry)) (now (segments .entry)) (now (standing .entry)) (now (fuel .entry))) (buffers (now (bytes .entry)) (now (cells .entry)) (now (items .entry))) op ⌝ }
+    ensures { λ r. ⌜ lentStepped r (lent (now (memories .exit)) (now (tables .exit)) (now (segments .exit)) (now (standing .exit)) (now (fuel .exit))) (buffers (now (bytes .exit)) (now (cells .exit)) (now (items .exit))) ≡ lentStep rawBytes (lent (now (memories .entry)) (now (tables .entry)) (now (segments .entry)) (now (standing .entry)) (now (fuel .entry))) (buffers (now (bytes .entry)) (now (cells .entry)) (now (items .entry))) op ⌝ }
 {
     let found = judge(memories.len(), tables.len(), segments.len(), op);
     if found.short {

@@ -1,85 +1,121 @@
 -- Laws of an operation as a line's numbers. Assumes nothing.
 use mathlib.Core.Path.{_≡_, ap, _∙_}
+use mathlib.Core.Bool.{Bool}
 use mathlib.Core.List.{List, [], _∷_}
 use Prim.Native.Nat.{ℕ, _+_, _≤_}
 use native.Mathlib.Omega.{arith}
-use lib.ListN.{length, take, length-take}
+use lib.ListN.{length, take, replicate, length-take}
 use lib.Seq.{take-all}
 use Rattle.types.specs.Span.{over}
+use Rattle.types.specs.Done.{Done}
+use Rattle.types.specs.declared.raw.RefType.{RefType}
+use Rattle.machine.specs.declared.operation.Items.{Items}
+use Rattle.machine.specs.declared.operation.FuelOp.{FuelOp}
+use Rattle.machine.specs.declared.operation.FuelOp.the-variants as fuel
+use Rattle.machine.specs.declared.operation.MemoryOp.{MemoryOp}
+use Rattle.machine.specs.declared.operation.MemoryOp.the-variants as memory
+use Rattle.machine.specs.declared.operation.TableOp.{TableOp}
+use Rattle.machine.specs.declared.operation.TableOp.the-variants as table
 use Rattle.machine.specs.declared.operation.Operation.{Operation}
-use Rattle.machine.specs.declared.operation.Operation.the-variants.{Make, SetFuel, GetFuel, Charge, SetLimiter, NewMemory, GrowMemory, MemorySize, Load, Store}
-use Rattle.machine.specs.declared.operation.Operation.the-variants.{NewTable, GrowTable, TableSize, TableGet, TableSet, TableFill}
-use Rattle.machine.specs.declared.operation.Operation.the-variants.{TableCopy, TableInit, DropSegment, NewSegment, LinkCheck}
-use Rattle.lines.specs.Line.{filled, lineText}
-use Rattle.lines.specs.Code.{codeOf, fieldsBack, writeLine}
-use Rattle.lines.specs.Written.{fieldedOf, backOf, wroteOf, Wrote}
+use Rattle.machine.specs.declared.operation.Operation.the-variants as op
+use Rattle.lines.specs.Line.{some, filled, lineText, wroteOf}
+use Rattle.lines.specs.Fields.{flag, kindNumber}
+use Rattle.lines.specs.Writing.{codeOf, fuelBack, memoryBack, tableBack, fieldsBack, writeLine, writeMaking}
+use Rattle.lines.specs.stages.Back.{fieldedOf, backOf, makingBack}
 use Rattle.lines.specs.declared.line.Line.{Line}
 use Rattle.lines.proofs.FieldText.{take-over}
 use Rattle.lines.proofs.Writing.{length-line}
 
 -- a segment of so many items
-module _ (w : Line) (k n a b c d : ℕ) where
-  pub back-0 : n ≡ 0 → w ≡ fieldedOf 41 2 (k ∷ n ∷ 0 ∷ 0 ∷ 0 ∷ 0 ∷ 0 ∷ 0 ∷ []) → w ≡ backOf (NewSegment k n a b c d)
+module _ (w : Line) (e : RefType) (i : Items) (k : ℕ) where
+  pub back-0 : i .count ≡ 0 → k ≡ kindNumber e → w ≡ fieldedOf 0x29 2 (k ∷ i .count ∷ 0 ∷ 0 ∷ 0 ∷ 0 ∷ 0 ∷ 0 ∷ []) → w ≡ backOf (op.NewSegment e i)
   unfolding backOf filled over codeOf fieldsBack
-  back-0 e q = rw e (rw e at q)
+  back-0 n h q = rw n (rw (n, h) at q)
 
-  pub back-1 : n ≡ 1 → w ≡ fieldedOf 41 3 (k ∷ n ∷ a ∷ 0 ∷ 0 ∷ 0 ∷ 0 ∷ 0 ∷ []) → w ≡ backOf (NewSegment k n a b c d)
+  pub back-1 : i .count ≡ 1 → k ≡ kindNumber e → w ≡ fieldedOf 0x29 3 (k ∷ i .count ∷ i .first ∷ 0 ∷ 0 ∷ 0 ∷ 0 ∷ 0 ∷ []) → w ≡ backOf (op.NewSegment e i)
   unfolding backOf filled over codeOf fieldsBack
-  back-1 e q = rw e (rw e at q)
+  back-1 n h q = rw n (rw (n, h) at q)
 
-  pub back-2 : n ≡ 2 → w ≡ fieldedOf 41 4 (k ∷ n ∷ a ∷ b ∷ 0 ∷ 0 ∷ 0 ∷ 0 ∷ []) → w ≡ backOf (NewSegment k n a b c d)
+  pub back-2 : i .count ≡ 2 → k ≡ kindNumber e → w ≡ fieldedOf 0x29 4 (k ∷ i .count ∷ i .first ∷ i .second ∷ 0 ∷ 0 ∷ 0 ∷ 0 ∷ []) → w ≡ backOf (op.NewSegment e i)
   unfolding backOf filled over codeOf fieldsBack
-  back-2 e q = rw e (rw e at q)
+  back-2 n h q = rw n (rw (n, h) at q)
 
-  pub back-3 : n ≡ 3 → w ≡ fieldedOf 41 5 (k ∷ n ∷ a ∷ b ∷ c ∷ 0 ∷ 0 ∷ 0 ∷ []) → w ≡ backOf (NewSegment k n a b c d)
+  pub back-3 : i .count ≡ 3 → k ≡ kindNumber e → w ≡ fieldedOf 0x29 5 (k ∷ i .count ∷ i .first ∷ i .second ∷ i .third ∷ 0 ∷ 0 ∷ 0 ∷ []) → w ≡ backOf (op.NewSegment e i)
   unfolding backOf filled over codeOf fieldsBack
-  back-3 e q = rw e (rw e at q)
+  back-3 n h q = rw n (rw (n, h) at q)
 
-  pub back-4 : (n ≡ 0 → ⊥) → (n ≡ 1 → ⊥) → (n ≡ 2 → ⊥) → (n ≡ 3 → ⊥) → w ≡ fieldedOf 41 6 (k ∷ n ∷ a ∷ b ∷ c ∷ d ∷ 0 ∷ 0 ∷ []) → w ≡ backOf (NewSegment k n a b c d)
+  pub back-4 : (i .count ≡ 0 → ⊥) → (i .count ≡ 1 → ⊥) → (i .count ≡ 2 → ⊥) → (i .count ≡ 3 → ⊥) → k ≡ kindNumber e
+      → w ≡ fieldedOf 0x29 6 (k ∷ i .count ∷ i .first ∷ i .second ∷ i .third ∷ i .fourth ∷ 0 ∷ 0 ∷ []) → w ≡ backOf (op.NewSegment e i)
   unfolding backOf filled over codeOf fieldsBack
-  back-4 n0 n1 n2 n3 q =
-      let e : take n (a ∷ b ∷ c ∷ d ∷ []) ≡ a ∷ b ∷ c ∷ d ∷ [] = take-all n (a ∷ b ∷ c ∷ d ∷ []) (omega arith) in
-      rw e q
+  back-4 n0 n1 n2 n3 h q =
+      let l = i .first ∷ i .second ∷ i .third ∷ i .fourth ∷ [] in
+      let t : take (i .count) l ≡ l = take-all (i .count) l (omega arith) in
+      rw t (rw h at q)
 
 -- at most 8 fields
-few : (op : Operation) → length (fieldsBack op) ≤ 8
+few-fuel : (o : FuelOp) → length (fuelBack o) ≤ 2
+unfolding fuelBack
+few-fuel (fuel.SetFuel amount) = omega arith
+few-fuel fuel.GetFuel = omega arith
+few-fuel (fuel.Charge units) = omega arith
+few-fuel (fuel.SetLimiter script) = omega arith
+
+few-memory : (o : MemoryOp) → length (memoryBack o) ≤ 5
+unfolding memoryBack
+few-memory (memory.Grow pages) = omega arith
+few-memory memory.Size = omega arith
+few-memory (memory.Load kind pointer offset) = omega arith
+few-memory (memory.Store kind pointer offset bits) = omega arith
+few-memory (memory.LinkCheck wanted) = omega arith
+
+few-table : (o : TableOp) → length (tableBack o) ≤ 4
+unfolding tableBack
+few-table (table.Grow cells value) = omega arith
+few-table table.Size = omega arith
+few-table (table.Get index) = omega arith
+few-table (table.Set index value) = omega arith
+few-table (table.Fill start value len) = omega arith
+
+pub few : (o : Operation) → length (fieldsBack o) ≤ 8
 unfolding fieldsBack
-few (Make a b) = omega arith
-few (SetFuel a) = omega arith
-few GetFuel = omega arith
-few (Charge a) = omega arith
-few (SetLimiter a b) = omega arith
-few (NewMemory a b c d e f) = omega arith
-few (GrowMemory a b) = omega arith
-few (MemorySize a) = omega arith
-few (Load a b c d) = omega arith
-few (Store a b c d e) = omega arith
-few (NewTable a b c d e f g h) = omega arith
-few (GrowTable a b c d) = omega arith
-few (TableSize a) = omega arith
-few (TableGet a b) = omega arith
-few (TableSet a b c d) = omega arith
-few (TableFill a b c d e) = omega arith
-few (TableCopy a b c d e) = omega arith
-few (TableInit a b c d e) = omega arith
-few (DropSegment a) = omega arith
-few (NewSegment k n a b c d) = omega (arith, length-take n (a ∷ b ∷ c ∷ d ∷ []))
-few (LinkCheck a b c d e f) = omega arith
+few (op.Fuel o) = omega (arith, few-fuel o)
+few (op.NewMemory room wanted) = omega arith
+few (op.Memory number o) = omega (arith, few-memory o)
+few (op.NewTable room wanted initial) = omega arith
+few (op.Table number o) = omega (arith, few-table o)
+few (op.TableCopy into source span) = omega arith
+few (op.TableInit table segment span) = omega arith
+few (op.DropSegment segment) = omega arith
+few (op.NewSegment element items) = omega (arith, length-take (items .count) (items .first ∷ items .second ∷ items .third ∷ items .fourth ∷ []))
 
 -- 138 bytes are enough
-pub fits : (op : Operation) → length (writeLine op) ≤ 138
+pub fits : (o : Operation) → length (writeLine o) ≤ 138
 unfolding writeLine
-fits op = omega (arith, few op, length-line (codeOf op) (fieldsBack op))
+fits o = omega (arith, few o, length-line (codeOf o) (fieldsBack o))
 
-pub back-few : (w : Line) (op : Operation) → w ≡ backOf op → w .count ≤ 8
-unfolding backOf filled
-back-few w op e = let h : w .count ≡ 0 + length (fieldsBack op) = ap (λ (x : Line). x .count) e in omega (arith, few op)
+-- the text of a code and fields
+back-text : (c : ℕ) (l : List ℕ) (w : Line) → w ≡ filled c 0 (replicate 8 0) (some l) → lineText (w .code) (take (w .count) (w .list)) ≡ lineText c l
+unfolding filled
+back-text c l w e = ap (λ (x : Line). lineText (x .code) (take (x .count) (x .list))) e ∙ ap (lineText c) (take-over l)
 
--- their text
-back-text : (op : Operation) → lineText (backOf op .code) (take (backOf op .count) (backOf op .list)) ≡ writeLine op
-unfolding backOf filled writeLine
-back-text op = ap (lineText (codeOf op)) (take-over (fieldsBack op))
+back-count : (c : ℕ) (l : List ℕ) (w : Line) → w ≡ filled c 0 (replicate 8 0) (some l) → w .count ≡ length l
+unfolding filled
+back-count c l w e = let h : w .count ≡ 0 + length l = ap (λ (x : Line). x .count) e in omega arith
 
-pub back-wrote : (w : Line) (op : Operation) (l : List ℕ) {r : Wrote} → w ≡ backOf op
-    → r ≡ wroteOf l (lineText (w .code) (take (w .count) (w .list))) → r ≡ wroteOf l (writeLine op)
-back-wrote w op l e q = q ∙ ap (λ (x : Line). wroteOf l (lineText (x .code) (take (x .count) (x .list)))) e ∙ ap (wroteOf l) (back-text op)
+pub back-few : (w : Line) (o : Operation) → w ≡ backOf o → w .count ≤ 8
+unfolding backOf
+back-few w o e = omega (arith, few o, back-count (codeOf o) (fieldsBack o) w e)
+
+pub back-wrote : (w : Line) (o : Operation) (l : List ℕ) {r : Done ℕ} → w ≡ backOf o
+    → r ≡ wroteOf l (lineText (w .code) (take (w .count) (w .list))) → r ≡ wroteOf l (writeLine o)
+unfolding backOf writeLine
+back-wrote w o l e q = q ∙ ap (wroteOf l) (back-text (codeOf o) (fieldsBack o) w e)
+
+pub making-few : (w : Line) (m : Bool) (b : ℕ) → w ≡ makingBack m b → w .count ≤ 8
+unfolding makingBack
+making-few w m b e = omega (arith, back-count 0 (flag m ∷ b ∷ []) w e)
+
+pub making-wrote : (w : Line) (m : Bool) (b : ℕ) (l : List ℕ) {r : Done ℕ} → w ≡ makingBack m b
+    → r ≡ wroteOf l (lineText (w .code) (take (w .count) (w .list))) → r ≡ wroteOf l (writeMaking m b)
+unfolding makingBack writeMaking
+making-wrote w m b l e q = q ∙ ap (wroteOf l) (back-text 0 (flag m ∷ b ∷ []) w e)

@@ -6,7 +6,7 @@ use Prim.Native.Nat.{ℕ, _<_}
 use lib.Dec.{eqb, eqb→eq}
 use lib.ListN.{getD}
 use Rattle.types.specs.Pick.{pick}
-use Rattle.lines.specs.Digits.{digitTable}
+use Rattle.lines.specs.stages.Digits.{digitTable}
 use Rattle.lines.specs.Hex.{digitOf}
 use Rattle.lines.proofs.Entries.{at}
 

@@ -12,7 +12,7 @@ use Rattle.types.specs.Pick.{pick}
 use Rattle.types.proofs.Picks.{pick-true, pick-false, pick-same}
 use Rattle.lines.specs.Hex.{digitOf, hexFrom}
 use Rattle.types.specs.Span.{over}
-use Rattle.lines.specs.Line.{Got, none, some, then, thenField, ended, headed, fieldsOf, filled, noLine, coded, lineOf}
+use Rattle.lines.specs.Line.{space, Got, none, some, then, thenField, ended, headed, fieldsOf, filled, noLine, coded, lineOf}
 use Rattle.lines.specs.declared.field.Field.{Field}
 use Rattle.lines.specs.declared.field.Field.the-variants.{Value, Bad}
 use Rattle.lines.specs.declared.line.Line.{Line}
@@ -32,12 +32,12 @@ hex-short (suc n) v (b ∷ l) h = pick-bad (ltb (digitOf b) 16) _ (hex-short n (
 
 -- the fields from a place where a byte stands
 some-left : (k : ℕ) (b : ℕ) (l : List ℕ) (s : List ℕ) → s ≡ b ∷ l
-    → fieldsOf (suc k) s ≡ pick (eqb b 32) (thenField (hexFrom 16 0 (drop 1 s)) (fieldsOf k (drop 17 s))) none
+    → fieldsOf (suc k) s ≡ pick (eqb b space) (thenField (hexFrom 16 0 (drop 1 s)) (fieldsOf k (drop 17 s))) none
 unfolding fieldsOf headed
 some-left k b l s e = ap (λ (z : List ℕ). headed z (hexFrom 16 0 (drop 1 s)) (fieldsOf k (drop 17 s))) e
 
 at-byte : (n at : ℕ) (s : List ℕ) → n ≤ 7 → at < length s →
-    fieldsOf (8 - n) (drop at s) ≡ pick (eqb (getD s at 0) 32) (thenField (hexFrom 16 0 (drop (at + 1) s)) (fieldsOf (8 - (n + 1)) (drop (at + 17) s))) none
+    fieldsOf (8 - n) (drop at s) ≡ pick (eqb (getD s at 0) space) (thenField (hexFrom 16 0 (drop (at + 1) s)) (fieldsOf (8 - (n + 1)) (drop (at + 17) s))) none
 at-byte n at s h k =
     let j : 8 - n ≡ suc (8 - (n + 1)) = omega arith in
     let a : drop 1 (drop at s) ≡ drop (at + 1) s = drop-drop 1 at s in
@@ -56,7 +56,7 @@ filled-then c n v list (some l) h =
     rw (a, b) refl
 
 -- the loop over fields: a field more, then the ways out
-pub fields-on : (c n at v : ℕ) (s list : List ℕ) {f : Field} {r : Line} → n ≤ 7 → length list ≡ 8 → at < length s → getD s at 0 ≡ 32 →
+pub fields-on : (c n at v : ℕ) (s list : List ℕ) {f : Field} {r : Line} → n ≤ 7 → length list ≡ 8 → at < length s → getD s at 0 ≡ space →
     f ≡ hexFrom 16 0 (drop (at + 1) s) → f ≡ Value v →
     filled c n list (fieldsOf (8 - n) (drop at s)) ≡ r → filled c (n + 1) (set list n v) (fieldsOf (8 - (n + 1)) (drop (at + 17) s)) ≡ r
 unfolding thenField
@@ -67,7 +67,7 @@ fields-on c n at v s list h z k e d g q =
     sym (filled-then c n v list rest (omega arith)) ∙ ap (λ (u : Got). filled c n list u) (sym w) ∙ q
 
 -- no number stands there
-pub fields-bad : (c n at : ℕ) (s list : List ℕ) {f : Field} {o r : Line} → o ≡ noLine → n ≤ 7 → at < length s → getD s at 0 ≡ 32 →
+pub fields-bad : (c n at : ℕ) (s list : List ℕ) {f : Field} {o r : Line} → o ≡ noLine → n ≤ 7 → at < length s → getD s at 0 ≡ space →
     f ≡ hexFrom 16 0 (drop (at + 1) s) → f ≡ Bad → filled c n list (fieldsOf (8 - n) (drop at s)) ≡ r → o ≡ r
 unfolding thenField filled
 fields-bad c n at s list o h k e d g q =
@@ -77,7 +77,7 @@ fields-bad c n at s list o h k e d g q =
     o ∙ ap (λ (u : Got). filled c n list u) (sym w) ∙ q
 
 -- no space stands there
-pub fields-char : (c n at : ℕ) (s list : List ℕ) {o r : Line} → o ≡ noLine → n ≤ 7 → at < length s → (getD s at 0 ≡ 32 → ⊥) →
+pub fields-char : (c n at : ℕ) (s list : List ℕ) {o r : Line} → o ≡ noLine → n ≤ 7 → at < length s → (getD s at 0 ≡ space → ⊥) →
     filled c n list (fieldsOf (8 - n) (drop at s)) ≡ r → o ≡ r
 unfolding filled
 fields-char c n at s list o h k e q =
@@ -91,7 +91,7 @@ fields-short c n at s list o h k e q =
     let rest = fieldsOf (8 - (n + 1)) (drop (at + 17) s) in
     let b : hexFrom 16 0 (drop (at + 1) s) ≡ Bad = hex-short 16 0 (drop (at + 1) s) (omega (arith, length-drop (at + 1) s)) in
     let w : fieldsOf (8 - n) (drop at s) ≡ none =
-    at-byte n at s h k ∙ ap (λ (u : Field). pick (eqb (getD s at 0) 32) (thenField u rest) none) b ∙ pick-same (eqb (getD s at 0) 32) none in
+    at-byte n at s h k ∙ ap (λ (u : Field). pick (eqb (getD s at 0) space) (thenField u rest) none) b ∙ pick-same (eqb (getD s at 0) space) none in
     o ∙ ap (λ (u : Got). filled c n list u) (sym w) ∙ q
 
 -- something stands behind the eighth field

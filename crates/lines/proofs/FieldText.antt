@@ -12,7 +12,7 @@ use Rattle.types.specs.Span.{over}
 use Rattle.types.proofs.Picks.{pick-true, pick-false, either}
 use Rattle.types.proofs.Spans.{length-over}
 use Rattle.lines.specs.Hex.{hexFrom, hexText}
-use Rattle.lines.specs.Line.{Got, none, some, then, thenField, ended, headed, fieldsOf, fieldsText, filled, coded, lineOf, lineText}
+use Rattle.lines.specs.Line.{space, Got, none, some, then, thenField, ended, headed, fieldsOf, fieldsText, filled, coded, lineOf, lineText}
 use Rattle.lines.specs.Sayable.{Small}
 use Rattle.lines.specs.declared.field.Field.{Field}
 use Rattle.lines.specs.declared.field.Field.the-variants.{Value, Bad}
@@ -21,7 +21,7 @@ use Rattle.lines.proofs.HexText.{hex-all, hex-whole}
 use Rattle.lines.proofs.Writing.{length-hex}
 
 -- one field and the rest of a line
-field-read : (n b : ℕ) (l xs : List ℕ) (f : Field) (g : Got) → b ≡ 32 → hexFrom 16 0 l ≡ f → ((ys : List ℕ) → g ≡ some ys → drop 16 l ≡ fieldsText ys) →
+field-read : (n b : ℕ) (l xs : List ℕ) (f : Field) (g : Got) → b ≡ space → hexFrom 16 0 l ≡ f → ((ys : List ℕ) → g ≡ some ys → drop 16 l ≡ fieldsText ys) →
     thenField f g ≡ some xs → b ∷ l ≡ fieldsText xs
 unfolding thenField then fieldsText
 field-read n b l xs Bad g e q r k = let z : _≡_ {A = ℕ} 0 1 = cc in absurd (omega arith)
@@ -30,7 +30,7 @@ field-read n b l xs (Value v) (some ys) e q r k =
     let x : v ∷ ys ≡ xs = cc in
     let t : hexText 16 v ≡ take 16 l = hex-whole 16 v l q in
     let d : drop 16 l ≡ fieldsText ys = r ys refl in
-    rw (e, ← x) (ap (λ (z : List ℕ). 32 ∷ z) (sym (take-append-drop 16 l) ∙ rw (t, d) refl))
+    rw (e, ← x) (ap (λ (z : List ℕ). space ∷ z) (sym (take-append-drop 16 l) ∙ rw (t, d) refl))
 
 -- fields, both ways
 pub fields-write : (n : ℕ) (xs : List ℕ) → length xs ≤ n → Small xs → fieldsOf n (fieldsText xs) ≡ some xs
@@ -41,7 +41,7 @@ fields-write zero (v ∷ xs) h a = absurd (omega arith)
 fields-write (suc n) (v ∷ xs) h a =
     let p : hexFrom 16 0 (hexText 16 v ++ fieldsText xs) ≡ Value v = hex-all 16 v (fieldsText xs) (a .0) in
     let d : drop 16 (hexText 16 v ++ fieldsText xs) ≡ fieldsText xs = drop-at (hexText 16 v) (fieldsText xs) 16 (length-hex 16 v) in
-    rw (p, d, fields-write n xs (omega arith) (a .1)) (pick-true (eqb 32 32) (some (v ∷ xs)) none refl)
+    rw (p, d, fields-write n xs (omega arith) (a .1)) (pick-true (eqb space space) (some (v ∷ xs)) none refl)
 
 pub fields-read : (n : ℕ) (l xs : List ℕ) → fieldsOf n l ≡ some xs → l ≡ fieldsText xs
 unfolding fieldsOf fieldsText headed ended
@@ -49,8 +49,8 @@ fields-read zero [] xs q = let e : [] ≡ xs = cc in rw (← e) refl
 fields-read zero (b ∷ l) xs q = let z : _≡_ {A = ℕ} 0 1 = cc in absurd (omega arith)
 fields-read (suc n) [] xs q = let e : [] ≡ xs = cc in rw (← e) refl
 fields-read (suc n) (b ∷ l) xs q =
-    either (eqb b 32)
-    (λ t. field-read n b l xs (hexFrom 16 0 l) (fieldsOf n (drop 16 l)) (eqb-true b 32 t) refl (λ ys. fields-read n (drop 16 l) ys) (sym (pick-true _ _ _ t) ∙ q))
+    either (eqb b space)
+    (λ t. field-read n b l xs (hexFrom 16 0 l) (fieldsOf n (drop 16 l)) (eqb-true b space t) refl (λ ys. fields-read n (drop 16 l) ys) (sym (pick-true _ _ _ t) ∙ q))
     (λ t. let y = sym (pick-false _ _ _ t) ∙ q in let z : _≡_ {A = ℕ} 0 1 = cc in absurd (omega arith))
 
 field-few : (n : ℕ) (xs : List ℕ) (f : Field) (g : Got) → ((ys : List ℕ) → g ≡ some ys → length ys ≤ n) → thenField f g ≡ some xs → length xs ≤ suc n
@@ -67,7 +67,7 @@ fields-few zero [] xs q = let e : [] ≡ xs = cc in rw (← e) (omega arith)
 fields-few zero (b ∷ l) xs q = let z : _≡_ {A = ℕ} 0 1 = cc in absurd (omega arith)
 fields-few (suc n) [] xs q = let e : [] ≡ xs = cc in rw (← e) (omega arith)
 fields-few (suc n) (b ∷ l) xs q =
-    either (eqb b 32)
+    either (eqb b space)
     (λ t. field-few n xs (hexFrom 16 0 l) (fieldsOf n (drop 16 l)) (λ ys. fields-few n (drop 16 l) ys) (sym (pick-true _ _ _ t) ∙ q))
     (λ t. let y = sym (pick-false _ _ _ t) ∙ q in let z : _≡_ {A = ℕ} 0 1 = cc in absurd (omega arith))
 

@@ -2,8 +2,9 @@ pub mod Entries
 pub mod DigitLaws
 pub mod HexLaws
 pub mod FieldLaws
-pub mod Writing
+pub mod NumberLaws
 pub mod CodeLaws
+pub mod Writing
 pub mod HexText
 pub mod FieldText
 pub mod BackLaws

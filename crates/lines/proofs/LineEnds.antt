@@ -1,43 +1,44 @@
 -- Where lines end: the first line of a text, and a session behind it. Assumes nothing.
 use mathlib.Core.Path.{_≡_, refl, sym, ap, _∙_}
-use mathlib.Core.Bool.{Bool, true, false}
+use mathlib.Core.Bool.{true, false}
 use mathlib.Core.List.{List, [], _∷_, _++_, append-assoc, append-nil}
 use Prim.Native.Nat.{ℕ, zero, suc, _+_, _<_, _≤_}
 use native.Mathlib.Omega.{arith}
 use lib.Dec.{ltb, eqb}
-use lib.ListN.{length, take, drop, getD, length-append, length-drop, drop-of-length-le}
-use lib.Seq.{drop-cons, drop-drop, drop-append-le, drop-append-add, take-length}
+use lib.ListN.{length, take, drop, getD, length-drop, drop-of-length-le}
+use lib.Seq.{drop-cons, drop-drop, drop-append-add, take-length}
 use borrow.Author.Tests.{ltb-true, ltb-false, eq-eqb, ne-eqb}
 use Rattle.types.specs.Pick.{pick}
 use Rattle.types.proofs.Picks.{pick-true, pick-false, either}
+use Rattle.lines.specs.Line.{lf}
 use Rattle.lines.specs.Session.{Held, onto, linesOf, turnOf, textOf, answersOf, session}
 use Rattle.lines.specs.Pieces.{lfAt, wholeLines}
 
-pub lf-true : (b : ℕ) (l : List ℕ) → eqb b 10 ≡ true → lfAt (b ∷ l) ≡ 0
+pub lf-true : (b : ℕ) (l : List ℕ) → eqb b lf ≡ true → lfAt (b ∷ l) ≡ 0
 unfolding lfAt
 lf-true b l e = pick-true _ _ _ e
 
-pub lf-false : (b : ℕ) (l : List ℕ) → eqb b 10 ≡ false → lfAt (b ∷ l) ≡ suc (lfAt l)
+pub lf-false : (b : ℕ) (l : List ℕ) → eqb b lf ≡ false → lfAt (b ∷ l) ≡ suc (lfAt l)
 unfolding lfAt
 lf-false b l e = pick-false _ _ _ e
 
 pub lf-le : (l : List ℕ) → lfAt l ≤ length l
 unfolding lfAt
 lf-le [] = omega arith
-lf-le (b ∷ l) = either (eqb b 10) (λ e. rw (pick-true _ _ _ e) (omega arith)) (λ e. rw (pick-false _ _ _ e) (omega (arith, lf-le l)))
+lf-le (b ∷ l) = either (eqb b lf) (λ e. rw (pick-true _ _ _ e) (omega arith)) (λ e. rw (pick-false _ _ _ e) (omega (arith, lf-le l)))
 
 -- a text with no LF before another
 pub lf-append : (x l : List ℕ) → lfAt x ≡ length x → lfAt (x ++ l) ≡ length x + lfAt l
 lf-append [] l h = omega arith
 lf-append (b ∷ x) l h =
-    either (eqb b 10)
+    either (eqb b lf)
     (λ e. absurd (omega (arith, lf-true b x e)))
     (λ e. omega (arith, lf-false b (x ++ l) e, lf-append x l (omega (arith, lf-false b x e))))
 
 pub lf-in : (x l : List ℕ) → lfAt x < length x → lfAt (x ++ l) ≡ lfAt x
 lf-in [] l h = absurd (omega arith)
 lf-in (b ∷ x) l h =
-    either (eqb b 10)
+    either (eqb b lf)
     (λ e. lf-true b (x ++ l) e ∙ sym (lf-true b x e))
     (λ e. omega (arith, lf-false b (x ++ l) e, lf-false b x e, lf-in x l (omega (arith, lf-false b x e))))
 
@@ -47,18 +48,18 @@ behind x l e =
     ap (λ (n : ℕ). drop n (x ++ l)) j ∙ drop-append-add x l (lfAt l + 1)
 
 -- the search for a line's end
-lf-step : (s : List ℕ) (i : ℕ) → i < length s → lfAt (drop i s) ≡ pick (eqb (getD s i 0) 10) 0 (suc (lfAt (drop (suc i) s)))
+lf-step : (s : List ℕ) (i : ℕ) → i < length s → lfAt (drop i s) ≡ pick (eqb (getD s i 0) lf) 0 (suc (lfAt (drop (suc i) s)))
 unfolding lfAt
 lf-step s i h = ap lfAt (drop-cons s i 0 h)
 
-pub lf-on : (s : List ℕ) (i n : ℕ) → i < length s → (getD s i 0 ≡ 10 → ⊥) → i + lfAt (drop i s) ≡ n → (i + 1) + lfAt (drop (i + 1) s) ≡ n
+pub lf-on : (s : List ℕ) (i n : ℕ) → i < length s → (getD s i 0 ≡ lf → ⊥) → i + lfAt (drop i s) ≡ n → (i + 1) + lfAt (drop (i + 1) s) ≡ n
 lf-on s i n h e q =
     let a : lfAt (drop i s) ≡ suc (lfAt (drop (suc i) s)) = lf-step s i h ∙ pick-false _ _ _ (ne-eqb _ _ e) in
     let j : suc i ≡ i + 1 = omega arith in
     let b : lfAt (drop (suc i) s) ≡ lfAt (drop (i + 1) s) = ap (λ (k : ℕ). lfAt (drop k s)) j in
     omega arith
 
-pub lf-here : (s : List ℕ) (i n : ℕ) → i < length s → getD s i 0 ≡ 10 → i + lfAt (drop i s) ≡ n → i ≡ n
+pub lf-here : (s : List ℕ) (i n : ℕ) → i < length s → getD s i 0 ≡ lf → i + lfAt (drop i s) ≡ n → i ≡ n
 lf-here s i n h e q =
     let a : lfAt (drop i s) ≡ 0 = lf-step s i h ∙ pick-true _ _ _ (eq-eqb _ _ e) in
     omega arith
@@ -70,11 +71,11 @@ lf-none s i n h q =
     omega arith
 
 -- the first line of a text
-here : (b : ℕ) (l more : List ℕ) → eqb b 10 ≡ true → linesOf (b ∷ (l ++ more)) ≡ take (lfAt (b ∷ l)) (b ∷ l) ∷ linesOf (drop (lfAt (b ∷ l) + 1) (b ∷ l) ++ more)
+here : (b : ℕ) (l more : List ℕ) → eqb b lf ≡ true → linesOf (b ∷ (l ++ more)) ≡ take (lfAt (b ∷ l)) (b ∷ l) ∷ linesOf (drop (lfAt (b ∷ l) + 1) (b ∷ l) ++ more)
 unfolding linesOf
 here b l more e = rw (lf-true b l e) (pick-true _ _ _ e)
 
-further : (b : ℕ) (l more : List ℕ) → eqb b 10 ≡ false → linesOf (l ++ more) ≡ take (lfAt l) l ∷ linesOf (drop (lfAt l + 1) l ++ more) →
+further : (b : ℕ) (l more : List ℕ) → eqb b lf ≡ false → linesOf (l ++ more) ≡ take (lfAt l) l ∷ linesOf (drop (lfAt l + 1) l ++ more) →
     linesOf (b ∷ (l ++ more)) ≡ take (lfAt (b ∷ l)) (b ∷ l) ∷ linesOf (drop (lfAt (b ∷ l) + 1) (b ∷ l) ++ more)
 unfolding linesOf onto
 further b l more e q =
@@ -84,14 +85,14 @@ further b l more e q =
 pub first-line : (l more : List ℕ) → lfAt l < length l → linesOf (l ++ more) ≡ take (lfAt l) l ∷ linesOf (drop (lfAt l + 1) l ++ more)
 first-line [] more h = absurd (omega arith)
 first-line (b ∷ l) more h =
-    either (eqb b 10) (here b l more) (λ e. further b l more e (first-line l more (omega (arith, lf-false b l e))))
+    either (eqb b lf) (here b l more) (λ e. further b l more e (first-line l more (omega (arith, lf-false b l e))))
 
 -- a text with no LF is one line
 one-line : (l : List ℕ) (b : ℕ) → lfAt (b ∷ l) ≡ length (b ∷ l) → linesOf (b ∷ l) ≡ (b ∷ l) ∷ []
 unfolding linesOf onto
-one-line [] b h = either (eqb b 10) (λ e. absurd (omega (arith, lf-true b [] e))) (λ e. pick-false _ _ _ e)
+one-line [] b h = either (eqb b lf) (λ e. absurd (omega (arith, lf-true b [] e))) (λ e. pick-false _ _ _ e)
 one-line (a ∷ l) b h =
-    either (eqb b 10) (λ e. absurd (omega (arith, lf-true b (a ∷ l) e)))
+    either (eqb b lf) (λ e. absurd (omega (arith, lf-true b (a ∷ l) e)))
     (λ e. pick-false _ _ _ e ∙ ap (onto b) (one-line l a (omega (arith, lf-false b (a ∷ l) e))))
 
 module _ (r : ℕ) (h : Held) where

@@ -4,63 +4,43 @@ use mathlib.Core.Bool.{Bool, true, false}
 use mathlib.Core.List.{List, [], _∷_, _++_, append-assoc, append-nil}
 use Prim.Native.Nat.{ℕ, zero, suc, _+_, _*_, _<_, _≤_}
 use native.Mathlib.Omega.{arith}
-use lib.Dec.{ltb, leb, eqb}
+use lib.Dec.{ltb, leb}
 use lib.ListN.{length, take, drop, length-append, length-drop, drop-of-length-le}
 use lib.Seq.{drop-drop, drop-append-le, drop-append-seam, drop-length, take-append-add, take-at, take-length}
 use borrow.Author.Tests.{ltb-true, ltb-false, leb-false, le-ltb, lt-leb}
-use Rattle.types.specs.Pick.{both}
-use Rattle.types.specs.Answer.{refuse}
-use Rattle.types.proofs.Picks.{pick-true, pick-false, both-right, both-1, both-2, either}
-use Rattle.machine.specs.Operation.{binary}
-use Rattle.machine.specs.declared.operation.Operation.{Operation}
-use Rattle.machine.specs.declared.operation.Operation.the-variants.{Make}
-use Rattle.lines.specs.Line.{lineOf, at}
-use Rattle.lines.specs.Code.{taking, fuelCode, memoryCode, tableCode, spanCode, operationOf, readLine}
-use Rattle.lines.specs.Session.{Held, Turn, turned, makes, operated, turnBy, turnOf, textOf, session}
-use Rattle.lines.specs.Pieces.{lfAt, overlong, sessionFrom, Run, still, ahead, wholeLines, closeOf, pieceOf, Host, Feed, ranOf, fed, fedAll, whole}
-use Rattle.lines.specs.declared.line.Line.{Line}
-use Rattle.lines.specs.declared.code.Parsed.{Parsed}
-use Rattle.lines.specs.declared.code.Parsed.the-variants.{Good, Malformed}
+use Rattle.types.proofs.Picks.{pick-true, pick-false, either}
+use Rattle.lines.specs.Line.{lf, longest}
+use Rattle.lines.specs.AnswerLine.{answerBytes}
+use Rattle.lines.specs.Session.{Held, Turn, malformed, turnBy, turnOf, textOf, session}
+use Rattle.lines.specs.Pieces.{lfAt, sessionFrom, Run, still, ahead, wholeLines, closeOf, pieceOf, Host, Feed, ranOf, fed, fedAll, whole}
 use Rattle.lines.proofs.Text.{long-malformed, answer-line-long}
 use Rattle.lines.proofs.LineEnds.{lf-le, lf-append, lf-in, behind, nothing, session-first, whole-used, session-whole}
 
--- a line that makes a machine is an operation
-makes-good : (w : Line) → makes w ≡ true → operationOf w ≡ Good (Make (at w 0) (at w 1))
-unfolding makes operationOf fuelCode taking
-makes-good w e =
-    let rest = both-2 _ _ e in
-    pick-true _ _ _ (both-1 _ _ e) ∙ pick-true _ _ _ (both-1 _ _ rest) ∙ pick-true _ _ _ (both-1 _ _ (both-2 _ _ rest))
-
-no-make : (w : Line) → operationOf w ≡ Malformed → makes w ≡ false
-no-make w q = either (makes w) (λ e. let g = makes-good w e in let z : _≡_ {A = ℕ} 0 1 = cc in absurd (omega arith)) (λ e. e)
-
 -- a line of over 160 bytes is malformed, the first one too
-long-turn : (r : ℕ) (h : Held) (l : List ℕ) → 160 < length l → turnOf r h l ≡ overlong h
-unfolding turnOf turnBy operated readLine
-long-turn r h l g =
-    let q : operationOf (lineOf l) ≡ Malformed = long-malformed l g in
-    pick-false _ _ _ (both-right (h .first) _ (no-make (lineOf l) q)) ∙ ap (operated r (h .machine) (h .buffers)) q
+long-turn : (r : ℕ) (h : Held) (l : List ℕ) → longest < length l → turnOf r h l ≡ malformed h
+unfolding turnOf turnBy
+long-turn r h l g = ap (turnBy r h) (long-malformed l g)
 
 module _ (r : ℕ) (h : Held) where
   -- a line that is too long already has its answer, wherever it ends
-  long-line : (x l : List ℕ) → lfAt x ≡ length x → 160 < length x → session r h (x ++ l) ≡ sessionFrom true r h l
+  long-line : (x l : List ℕ) → lfAt x ≡ length x → longest < length x → session r h (x ++ l) ≡ sessionFrom true r h l
   unfolding sessionFrom
   long-line x l e g =
       let t : take (lfAt (x ++ l)) (x ++ l) ≡ x ++ take (lfAt l) l = ap (λ (n : ℕ). take n (x ++ l)) (lf-append x l e) ∙ take-append-add x l (lfAt l) in
-      let k : turnOf r h (take (lfAt (x ++ l)) (x ++ l)) ≡ overlong h =
+      let k : turnOf r h (take (lfAt (x ++ l)) (x ++ l)) ≡ malformed h =
       ap (turnOf r h) t ∙ long-turn r h (x ++ take (lfAt l) l) (omega (arith, length-append x (take (lfAt l) l))) in
       session-first r h (x ++ l) (omega (arith, length-append x l))
       ∙ ap (λ (y : Turn). textOf y ++ session r (y .held) (drop (lfAt (x ++ l) + 1) (x ++ l))) k
-      ∙ ap (λ (y : List ℕ). textOf (overlong h) ++ session r (overlong h .held) y) (behind x l e)
+      ∙ ap (λ (y : List ℕ). textOf (malformed h) ++ session r (malformed h .held) y) (behind x l e)
 
   skip-more : (x l : List ℕ) → lfAt x ≡ length x → sessionFrom true r h (x ++ l) ≡ sessionFrom true r h l
   unfolding sessionFrom
-  skip-more x l e = ap (λ (y : List ℕ). textOf (overlong h) ++ session r (overlong h .held) y) (behind x l e)
+  skip-more x l e = ap (λ (y : List ℕ). textOf (malformed h) ++ session r (malformed h .held) y) (behind x l e)
 
-  skip-end : (x l : List ℕ) → lfAt x < length x → sessionFrom true r h (x ++ l) ≡ textOf (overlong h) ++ session r (overlong h .held) (drop (lfAt x + 1) x ++ l)
+  skip-end : (x l : List ℕ) → lfAt x < length x → sessionFrom true r h (x ++ l) ≡ textOf (malformed h) ++ session r (malformed h .held) (drop (lfAt x + 1) x ++ l)
   unfolding sessionFrom
   skip-end x l e =
-      ap (λ (y : List ℕ). textOf (overlong h) ++ session r (overlong h .held) y)
+      ap (λ (y : List ℕ). textOf (malformed h) ++ session r (malformed h .held) y)
       (ap (λ (n : ℕ). drop (n + 1) (x ++ l)) (lf-in x l e) ∙ drop-append-le (lfAt x + 1) x l (omega arith))
 
   plain : (t : Bool) (o l : List ℕ) → t ≡ false → o ++ session r h l ≡ o ++ sessionFrom t r h l
@@ -68,15 +48,15 @@ module _ (r : ℕ) (h : Held) where
   plain t o l k = ap (λ (u : Bool). o ++ sessionFrom u r h l) (sym k)
 
   tail-skip : (l more : List ℕ) (k : ℕ) (x : Run) → lfAt l < length l →
-      x ≡ ahead (textOf (overlong h)) (lfAt l + 1) (wholeLines k r (overlong h .held) (drop (lfAt l + 1) l)) →
+      x ≡ ahead (textOf (malformed h)) (lfAt l + 1) (wholeLines k r (malformed h .held) (drop (lfAt l + 1) l)) →
       sessionFrom true r h (l ++ more) ≡ x .out ++ session r (x .held) (drop (x .used) l ++ more)
   tail-skip l more k x g q =
-      let w = wholeLines k r (overlong h .held) (drop (lfAt l + 1) l) in
-      let t = textOf (overlong h) in
+      let w = wholeLines k r (malformed h .held) (drop (lfAt l + 1) l) in
+      let t = textOf (malformed h) in
       let j : drop (lfAt l + 1 + w .used) l ≡ drop (w .used) (drop (lfAt l + 1) l) = sym (drop-drop (w .used) (lfAt l + 1) l) in
       rw q
       (rw j
-      (skip-end l more g ∙ ap (λ (z : List ℕ). t ++ z) (session-whole k r (overlong h .held) (drop (lfAt l + 1) l) more)
+      (skip-end l more g ∙ ap (λ (z : List ℕ). t ++ z) (session-whole k r (malformed h .held) (drop (lfAt l + 1) l) more)
       ∙ sym (append-assoc t (w .out) (session r (w .held) (drop (w .used) (drop (lfAt l + 1) l) ++ more)))))
 
 no-skip : (k r : ℕ) (h : Held) (l : List ℕ) → wholeLines k r h l .skip ≡ false
@@ -95,9 +75,9 @@ close-keeps t r h l more x k q =
     let same : sessionFrom t r h (l ++ more) ≡ x .out ++ sessionFrom (x .skip) r (x .held) (w ++ more) = q ∙ plain r (x .held) (x .skip) (x .out) (w ++ more) k in
     either (ltb (lfAt w) (length w)) (λ e. rw (pick-true _ _ _ e) same)
     (λ e. rw (pick-false _ _ _ e)
-    (either (leb (length w) 160) (λ f. rw (pick-true _ _ _ f) same)
+    (either (leb (length w) longest) (λ f. rw (pick-true _ _ _ f) same)
     (λ f.
-    let m : 160 < length w = leb-false (length w) 160 f in
+    let m : longest < length w = leb-false (length w) longest f in
     let n : lfAt w ≡ length w = omega (arith, lf-le w, ltb-false (lfAt w) (length w) e) in
     rw (pick-false _ _ _ f)
     (q ∙ ap (λ (y : List ℕ). x .out ++ y) (long-line r (x .held) w more n m)
@@ -113,11 +93,11 @@ piece-on k false r h l more = close-keeps false r h l more (wholeLines k r h l) 
     begun k = sym (plain r h false [] (l ++ more) refl) ∙ session-whole k r h l more
 piece-on zero true r h l more = refl
 piece-on (suc k) true r h l more =
-    let x = ahead (textOf (overlong h)) (lfAt l + 1) (wholeLines k r (overlong h .held) (drop (lfAt l + 1) l)) in
+    let x = ahead (textOf (malformed h)) (lfAt l + 1) (wholeLines k r (malformed h .held) (drop (lfAt l + 1) l)) in
     either (ltb (lfAt l) (length l))
     (λ e.
     rw (pick-true _ _ _ e)
-    (close-keeps true r h l more x (no-skip k r (overlong h .held) (drop (lfAt l + 1) l)) (tail-skip r h l more k x (ltb-true (lfAt l) (length l) e) refl)))
+    (close-keeps true r h l more x (no-skip k r (malformed h .held) (drop (lfAt l + 1) l)) (tail-skip r h l more k x (ltb-true (lfAt l) (length l) e) refl)))
     (λ e.
     let n : lfAt l ≡ length l = omega (arith, lf-le l, ltb-false (lfAt l) (length l) e) in
     rw (pick-false _ _ _ e) (skip-more r h l more n ∙ ap (λ (y : List ℕ). sessionFrom true r h (y ++ more)) (sym (drop-length l))))
@@ -168,33 +148,33 @@ fed-whole r h xs k e =
     ∙ sym (plain r h false [] (whole xs) refl)
 
 -- the end of the input: a last line that lacks its LF is answered as with it
-lf-lf : lfAt (10 ∷ []) ≡ 0
+lf-lf : lfAt (lf ∷ []) ≡ 0
 unfolding lfAt
 lf-lf = pick-true _ _ _ refl
 
-last-behind : (l : List ℕ) → lfAt l ≡ length l → drop (lfAt (l ++ (10 ∷ [])) + 1) (l ++ (10 ∷ [])) ≡ drop (lfAt l + 1) l
+last-behind : (l : List ℕ) → lfAt l ≡ length l → drop (lfAt (l ++ (lf ∷ [])) + 1) (l ++ (lf ∷ [])) ≡ drop (lfAt l + 1) l
 last-behind l e =
     let g : length l ≤ lfAt l + 1 = omega arith in
-    let a : drop {A = ℕ} (lfAt (10 ∷ []) + 1) (10 ∷ []) ≡ [] = rw lf-lf refl in
-    behind l (10 ∷ []) e ∙ a ∙ sym (drop-of-length-le l g)
+    let a : drop {A = ℕ} (lfAt (lf ∷ []) + 1) (lf ∷ []) ≡ [] = rw lf-lf refl in
+    behind l (lf ∷ []) e ∙ a ∙ sym (drop-of-length-le l g)
 
-pub close-skip : (r : ℕ) (h : Held) (l : List ℕ) → lfAt l ≡ length l → sessionFrom true r h (l ++ (10 ∷ [])) ≡ sessionFrom true r h l
+pub close-skip : (r : ℕ) (h : Held) (l : List ℕ) → lfAt l ≡ length l → sessionFrom true r h (l ++ (lf ∷ [])) ≡ sessionFrom true r h l
 unfolding sessionFrom
-close-skip r h l e = ap (λ (y : List ℕ). textOf (overlong h) ++ session r (overlong h .held) y) (last-behind l e)
+close-skip r h l e = ap (λ (y : List ℕ). textOf (malformed h) ++ session r (malformed h .held) y) (last-behind l e)
 
-pub close-line : (r : ℕ) (h : Held) (l : List ℕ) → 0 < length l → lfAt l ≡ length l → session r h (l ++ (10 ∷ [])) ≡ session r h l
+pub close-line : (r : ℕ) (h : Held) (l : List ℕ) → 0 < length l → lfAt l ≡ length l → session r h (l ++ (lf ∷ [])) ≡ session r h l
 close-line r h l g e =
-    let z = l ++ (10 ∷ []) in
-    let n : lfAt z ≡ length l = omega (arith, lf-append l (10 ∷ []) e, lf-lf) in
-    let t : take (lfAt z) z ≡ take (lfAt l) l = ap (λ (k : ℕ). take k z) n ∙ take-at l (10 ∷ []) (length l) refl ∙ sym (ap (λ (k : ℕ). take k l) e ∙ take-length l) in
-    session-first r h z (omega (arith, length-append l (10 ∷ []))) ∙ rw (t, last-behind l e) (sym (session-first r h l g))
+    let z = l ++ (lf ∷ []) in
+    let n : lfAt z ≡ length l = omega (arith, lf-append l (lf ∷ []) e, lf-lf) in
+    let t : take (lfAt z) z ≡ take (lfAt l) l = ap (λ (k : ℕ). take k z) n ∙ take-at l (lf ∷ []) (length l) refl ∙ sym (ap (λ (k : ℕ). take k l) e ∙ take-length l) in
+    session-first r h z (omega (arith, length-append l (lf ∷ []))) ∙ rw (t, last-behind l e) (sym (session-first r h l g))
 
-pub length-text : (t : Turn) → length (textOf t) ≡ 37
+pub length-text : (t : Turn) → length (textOf t) ≡ answerBytes
 unfolding textOf
 length-text t = answer-line-long _ _
 
 -- a run over whole lines that wrote less than its room left no whole line
-pub whole-done : (k r : ℕ) (h : Held) (l : List ℕ) → length (wholeLines k r h l .out) < 37 * k →
+pub whole-done : (k r : ℕ) (h : Held) (l : List ℕ) → length (wholeLines k r h l .out) < answerBytes * k →
     lfAt (drop (wholeLines k r h l .used) l) ≡ length (drop (wholeLines k r h l .used) l)
 unfolding wholeLines
 whole-done zero r h l g = absurd (omega arith)
@@ -204,7 +184,7 @@ whole-done (suc k) r h l g =
     let w = wholeLines k r (x .held) (drop (n + 1) l) in
     either (ltb n (length l))
     (λ e.
-    let c : length (textOf x ++ w .out) < 37 * suc k = rw (pick-true _ _ _ e) at g in
+    let c : length (textOf x ++ w .out) < answerBytes * suc k = rw (pick-true _ _ _ e) at g in
     let j : drop (n + 1 + w .used) l ≡ drop (w .used) (drop (n + 1) l) = sym (drop-drop (w .used) (n + 1) l) in
     rw (pick-true _ _ _ e) (rw j (whole-done k r (x .held) (drop (n + 1) l) (omega (arith, length-append (textOf x) (w .out), length-text x)))))
     (λ e. rw (pick-false _ _ _ e) (omega (arith, lf-le l, ltb-false n (length l) e)))
@@ -222,17 +202,17 @@ unfolding closeOf
 close-done l x e =
     let w = drop (x .used) l in
     either (ltb (lfAt w) (length w)) (λ t. rw (pick-true _ _ _ t) e)
-    (λ t. rw (pick-false _ _ _ t) (either (leb (length w) 160) (λ f. rw (pick-true _ _ _ f) e) (λ f. rw (pick-false _ _ _ f) (all-used l))))
+    (λ t. rw (pick-false _ _ _ t) (either (leb (length w) longest) (λ f. rw (pick-true _ _ _ f) e) (λ f. rw (pick-false _ _ _ f) (all-used l))))
 
 close-out : (l : List ℕ) (x : Run) → closeOf l x .out ≡ x .out
 unfolding closeOf
 close-out l x =
     let w = drop (x .used) l in
     either (ltb (lfAt w) (length w)) (λ t. rw (pick-true _ _ _ t) refl)
-    (λ t. rw (pick-false _ _ _ t) (either (leb (length w) 160) (λ f. rw (pick-true _ _ _ f) refl) (λ f. rw (pick-false _ _ _ f) refl)))
+    (λ t. rw (pick-false _ _ _ t) (either (leb (length w) longest) (λ f. rw (pick-true _ _ _ f) refl) (λ f. rw (pick-false _ _ _ f) refl)))
 
 -- a piece that wrote less than its room left no whole line
-pub piece-done : (k : ℕ) (t : Bool) (r : ℕ) (h : Held) (l : List ℕ) → length (pieceOf k t r h l .out) < 37 * k →
+pub piece-done : (k : ℕ) (t : Bool) (r : ℕ) (h : Held) (l : List ℕ) → length (pieceOf k t r h l .out) < answerBytes * k →
     lfAt (drop (pieceOf k t r h l .used) l) ≡ length (drop (pieceOf k t r h l .used) l)
 unfolding pieceOf
 piece-done k false r h l g =
@@ -241,14 +221,14 @@ piece-done k false r h l g =
 piece-done zero true r h l g = absurd (omega arith)
 piece-done (suc k) true r h l g =
     let n = lfAt l in
-    let w = wholeLines k r (overlong h .held) (drop (n + 1) l) in
-    let x = ahead (textOf (overlong h)) (n + 1) w in
+    let w = wholeLines k r (malformed h .held) (drop (n + 1) l) in
+    let x = ahead (textOf (malformed h)) (n + 1) w in
     either (ltb n (length l))
     (λ e.
-    let c : length (closeOf l x .out) < 37 * suc k = rw (pick-true _ _ _ e) at g in
+    let c : length (closeOf l x .out) < answerBytes * suc k = rw (pick-true _ _ _ e) at g in
     let j : drop (n + 1 + w .used) l ≡ drop (w .used) (drop (n + 1) l) = sym (drop-drop (w .used) (n + 1) l) in
     let d : lfAt (drop (w .used) (drop (n + 1) l)) ≡ length (drop (w .used) (drop (n + 1) l)) =
-    whole-done k r (overlong h .held) (drop (n + 1) l) (omega (arith, ap length (close-out l x), length-append (textOf (overlong h)) (w .out), length-text (overlong h))) in
+    whole-done k r (malformed h .held) (drop (n + 1) l) (omega (arith, ap length (close-out l x), length-append (textOf (malformed h)) (w .out), length-text (malformed h))) in
     rw (pick-true _ _ _ e) (close-done l x (rw j d)))
     (λ e. rw (pick-false _ _ _ e) (all-used l))
 
@@ -258,7 +238,7 @@ unfolding closeOf
 close-le l x g =
     let w = drop (x .used) l in
     either (ltb (lfAt w) (length w)) (λ t. rw (pick-true _ _ _ t) g)
-    (λ t. rw (pick-false _ _ _ t) (either (leb (length w) 160) (λ f. rw (pick-true _ _ _ f) g) (λ f. rw (pick-false _ _ _ f) (omega arith))))
+    (λ t. rw (pick-false _ _ _ t) (either (leb (length w) longest) (λ f. rw (pick-true _ _ _ f) g) (λ f. rw (pick-false _ _ _ f) (omega arith))))
 
 pub piece-used : (k : ℕ) (t : Bool) (r : ℕ) (h : Held) (l : List ℕ) → pieceOf k t r h l .used ≤ length l
 unfolding pieceOf
@@ -266,15 +246,15 @@ piece-used k false r h l = close-le l (wholeLines k r h l) (whole-used k r h l)
 piece-used zero true r h l = omega arith
 piece-used (suc k) true r h l =
     let n = lfAt l in
-    let w = wholeLines k r (overlong h .held) (drop (n + 1) l) in
+    let w = wholeLines k r (malformed h .held) (drop (n + 1) l) in
     either (ltb n (length l))
     (λ e.
-    let g : n + 1 + w .used ≤ length l = omega (arith, whole-used k r (overlong h .held) (drop (n + 1) l), length-drop (n + 1) l, ltb-true n (length l) e) in
-    rw (pick-true _ _ _ e) (close-le l (ahead (textOf (overlong h)) (n + 1) w) g))
+    let g : n + 1 + w .used ≤ length l = omega (arith, whole-used k r (malformed h .held) (drop (n + 1) l), length-drop (n + 1) l, ltb-true n (length l) e) in
+    rw (pick-true _ _ _ e) (close-le l (ahead (textOf (malformed h)) (n + 1) w) g))
     (λ e. rw (pick-false _ _ _ e) (omega arith))
 
 -- and writes no more than there is room for
-whole-wrote : (k r : ℕ) (h : Held) (l : List ℕ) → length (wholeLines k r h l .out) ≤ 37 * k
+whole-wrote : (k r : ℕ) (h : Held) (l : List ℕ) → length (wholeLines k r h l .out) ≤ answerBytes * k
 unfolding wholeLines
 whole-wrote zero r h l = omega arith
 whole-wrote (suc k) r h l =
@@ -285,17 +265,17 @@ whole-wrote (suc k) r h l =
     (λ e. rw (pick-true _ _ _ e) (omega (arith, whole-wrote k r (x .held) (drop (n + 1) l), length-append (textOf x) (w .out), length-text x)))
     (λ e. rw (pick-false _ _ _ e) (omega arith))
 
-pub piece-wrote : (k : ℕ) (t : Bool) (r : ℕ) (h : Held) (l : List ℕ) → length (pieceOf k t r h l .out) ≤ 37 * k
+pub piece-wrote : (k : ℕ) (t : Bool) (r : ℕ) (h : Held) (l : List ℕ) → length (pieceOf k t r h l .out) ≤ answerBytes * k
 unfolding pieceOf
 piece-wrote k false r h l = rw close-out (whole-wrote k r h l)
 piece-wrote zero true r h l = omega arith
 piece-wrote (suc k) true r h l =
     let n = lfAt l in
-    let w = wholeLines k r (overlong h .held) (drop (n + 1) l) in
-    let t = textOf (overlong h) in
+    let w = wholeLines k r (malformed h .held) (drop (n + 1) l) in
+    let t = textOf (malformed h) in
     either (ltb n (length l))
     (λ e.
-    let g : length (t ++ w .out) ≤ 37 * suc k = omega (arith, whole-wrote k r (overlong h .held) (drop (n + 1) l), length-append t (w .out), length-text (overlong h)) in
+    let g : length (t ++ w .out) ≤ answerBytes * suc k = omega (arith, whole-wrote k r (malformed h .held) (drop (n + 1) l), length-append t (w .out), length-text (malformed h)) in
     rw (pick-true _ _ _ e) (rw close-out g))
     (λ e. rw (pick-false _ _ _ e) (omega arith))
 
@@ -305,14 +285,14 @@ unfolding closeOf
 close-used l x g e =
     let w = drop (x .used) l in
     either (ltb (lfAt w) (length w)) (λ t. rw (pick-true _ _ _ t) e)
-    (λ t. rw (pick-false _ _ _ t) (either (leb (length w) 160) (λ f. rw (pick-true _ _ _ f) e) (λ f. rw (pick-false _ _ _ f) g)))
+    (λ t. rw (pick-false _ _ _ t) (either (leb (length w) longest) (λ f. rw (pick-true _ _ _ f) e) (λ f. rw (pick-false _ _ _ f) g)))
 
-close-long : (l : List ℕ) (h : Held) → length l ≤ lfAt l → 160 < length l → 0 < closeOf l (still h) .used
+close-long : (l : List ℕ) (h : Held) → length l ≤ lfAt l → longest < length l → 0 < closeOf l (still h) .used
 unfolding closeOf
 close-long l h e g = rw (pick-false _ _ _ (le-ltb _ _ e), pick-false _ _ _ (lt-leb _ _ g)) (omega arith)
 
 -- with room for an answer, a piece of more than 160 bytes is never left whole
-pub piece-moves : (k : ℕ) (t : Bool) (r : ℕ) (h : Held) (l : List ℕ) → 160 < length l → 0 < pieceOf (suc k) t r h l .used
+pub piece-moves : (k : ℕ) (t : Bool) (r : ℕ) (h : Held) (l : List ℕ) → longest < length l → 0 < pieceOf (suc k) t r h l .used
 unfolding pieceOf wholeLines
 piece-moves k false r h l g =
     let n = lfAt l in
@@ -323,9 +303,9 @@ piece-moves k false r h l g =
     (λ e. rw (pick-false _ _ _ e) (close-long l h (ltb-false n (length l) e) g))
 piece-moves k true r h l g =
     let n = lfAt l in
-    let w = wholeLines k r (overlong h .held) (drop (n + 1) l) in
+    let w = wholeLines k r (malformed h .held) (drop (n + 1) l) in
     either (ltb n (length l))
-    (λ e. rw (pick-true _ _ _ e) (close-used l (ahead (textOf (overlong h)) (n + 1) w) (omega arith) (omega arith)))
+    (λ e. rw (pick-true _ _ _ e) (close-used l (ahead (textOf (malformed h)) (n + 1) w) (omega arith) (omega arith)))
     (λ e. rw (pick-false _ _ _ e) (omega arith))
 
 -- two cuts of the same input: what was sent, with what is to come, is the same, whatever comes

@@ -1,32 +1,104 @@
--- A line's text and its operation: each way, and only one text. A line of over 160 bytes is no operation; an answer line has 37. Assumes nothing.
-use mathlib.Core.Path.{_≡_, refl, ap, _∙_}
+-- A line's text and what it says: each way, and only one text. A line of over 160 bytes says nothing; an answer line has 37. Assumes nothing.
+use mathlib.Core.Path.{_≡_, refl, sym, ap, _∙_}
 use mathlib.Core.Bool.{Bool, true, false}
 use mathlib.Core.List.{List, [], _∷_, _++_}
 use Prim.Native.Nat.{ℕ, zero, suc, _+_, _^_, _<_, _≤_}
 use native.Mathlib.Omega.{arith}
 use lib.Dec.{eqb}
-use lib.ListN.{length, take, getD, replicate, length-append, length-take}
-use borrow.Author.Tests.{leb-true, eqb-true}
-use Rattle.types.specs.Pick.{pick}
+use lib.ListN.{length, take, getD, length-append, length-take}
+use borrow.Author.Tests.{ltb-true, leb-true, eqb-true, lt-ltb}
+use Rattle.types.specs.Pick.{pick, both}
 use Rattle.types.specs.Span.{over}
 use Rattle.types.specs.declared.answer.Answer.{Answer}
 use Rattle.types.specs.declared.fuel.Fuel.{Fuel}
-use Rattle.types.proofs.Picks.{pick-false, either}
+use Rattle.types.specs.declared.raw.RefType.{RefType}
+use Rattle.types.proofs.Picks.{pick-false, both-1, both-2, either}
+use Rattle.machine.specs.Operation.{itemField, itemFields, itemsOf}
+use Rattle.machine.specs.declared.operation.Items.{Items}
+use Rattle.machine.specs.declared.operation.FuelOp.{FuelOp}
+use Rattle.machine.specs.declared.operation.FuelOp.the-variants as fuel
+use Rattle.machine.specs.declared.operation.MemoryOp.{MemoryOp}
+use Rattle.machine.specs.declared.operation.MemoryOp.the-variants as memory
+use Rattle.machine.specs.declared.operation.TableOp.{TableOp}
+use Rattle.machine.specs.declared.operation.TableOp.the-variants as table
 use Rattle.machine.specs.declared.operation.Operation.{Operation}
-use Rattle.machine.specs.declared.operation.Operation.the-variants.{Make, SetFuel, GetFuel, Charge, SetLimiter, NewMemory, GrowMemory, MemorySize, Load, Store}
-use Rattle.machine.specs.declared.operation.Operation.the-variants.{NewTable, GrowTable, TableSize, TableGet, TableSet, TableFill}
-use Rattle.machine.specs.declared.operation.Operation.the-variants.{TableCopy, TableInit, DropSegment, NewSegment, LinkCheck}
+use Rattle.machine.specs.declared.operation.Operation.the-variants as op
 use Rattle.lines.specs.Hex.{hexText}
-use Rattle.lines.specs.Line.{lineText, filled, lineOf, at}
-use Rattle.lines.specs.Code.{taking, segmentOf, fuelCode, memoryCode, tableCode, spanCode, operationOf, readLine, codeOf, fieldsBack, writeLine}
-use Rattle.lines.specs.AnswerLine.{answerText, answerLine}
-use Rattle.lines.specs.Sayable.{Small, Items, Sayable}
+use Rattle.lines.specs.Line.{space, lf, longest, lineText, filled, lineOf, at}
+use Rattle.lines.specs.Fields.{kindOf, segmentRanges, flag}
+use Rattle.lines.specs.Code.{taken, itemsFrom, byCode, meant, operationOf, readLine}
+use Rattle.lines.specs.Writing.{fuelCode, memoryCode, tableCode, codeOf, fuelBack, memoryBack, tableBack, fieldsBack, writeLine, writeMaking}
+use Rattle.lines.specs.AnswerLine.{answerText, answerBytes, answerLine}
+use Rattle.lines.specs.Sayable.{Small, MemoryOpSaid, Said, Sayable}
+use Rattle.lines.specs.stages.Back.{backOf, makingBack}
 use Rattle.lines.specs.declared.line.Line.{Line}
-use Rattle.lines.specs.declared.code.Parsed.{Parsed}
-use Rattle.lines.specs.declared.code.Parsed.the-variants.{Good, Malformed}
-use Rattle.lines.proofs.CodeLaws.{meant}
+use Rattle.lines.specs.declared.code.Read.{Read}
+use Rattle.lines.specs.declared.code.Read.the-variants as read
+use Rattle.lines.proofs.NumberLaws.{load-number, store-number, kind-number, flag-number, load-said, store-said, kind-said, flag-said}
+use Rattle.lines.proofs.NumberLaws.{reference-said, reference-fields, memory-in, memory-said, memory-fields, table-in, table-said, table-fields}
 use Rattle.lines.proofs.FieldText.{line-write, line-read, Told}
+use Rattle.lines.proofs.BackLaws.{few}
 use Rattle.lines.proofs.Writing.{length-hex, length-line}
+
+-- two digits hold every code
+fuel-code : (o : FuelOp) → fuelCode o < 256
+unfolding fuelCode
+fuel-code (fuel.SetFuel amount) = omega arith
+fuel-code fuel.GetFuel = omega arith
+fuel-code (fuel.Charge units) = omega arith
+fuel-code (fuel.SetLimiter script) = omega arith
+
+memory-code : (o : MemoryOp) → memoryCode o < 256
+unfolding memoryCode
+memory-code (memory.Grow pages) = omega arith
+memory-code memory.Size = omega arith
+memory-code (memory.Load kind pointer offset) = omega arith
+memory-code (memory.Store kind pointer offset bits) = omega arith
+memory-code (memory.LinkCheck wanted) = omega arith
+
+table-code : (o : TableOp) → tableCode o < 256
+unfolding tableCode
+table-code (table.Grow cells value) = omega arith
+table-code table.Size = omega arith
+table-code (table.Get index) = omega arith
+table-code (table.Set index value) = omega arith
+table-code (table.Fill start value len) = omega arith
+
+code : (o : Operation) → codeOf o < 256
+unfolding codeOf
+code (op.Fuel o) = fuel-code o
+code (op.NewMemory room wanted) = omega arith
+code (op.Memory number o) = memory-code o
+code (op.NewTable room wanted initial) = omega arith
+code (op.Table number o) = table-code o
+code (op.TableCopy into source span) = omega arith
+code (op.TableInit table segment span) = omega arith
+code (op.DropSegment segment) = omega arith
+code (op.NewSegment element items) = omega arith
+
+-- an operation's numbers say it
+fuel-says : (o : FuelOp) → operationOf (backOf (op.Fuel o)) ≡ read.Operation (op.Fuel o)
+unfolding operationOf meant byCode taken backOf codeOf fieldsBack fuelCode fuelBack filled over pick both
+fuel-says (fuel.SetFuel amount) = refl
+fuel-says fuel.GetFuel = refl
+fuel-says (fuel.Charge units) = refl
+fuel-says (fuel.SetLimiter script) = refl
+
+memory-says : (n : ℕ) (o : MemoryOp) → MemoryOpSaid o → operationOf (backOf (op.Memory n o)) ≡ read.Operation (op.Memory n o)
+unfolding operationOf meant byCode taken backOf codeOf fieldsBack memoryCode memoryBack filled over pick both MemoryOpSaid
+memory-says n (memory.Grow pages) h = refl
+memory-says n memory.Size h = refl
+memory-says n (memory.Load kind pointer offset) h = rw (load-said kind .0, load-said kind .1) refl
+memory-says n (memory.Store kind pointer offset bits) h = rw (store-said kind .0, store-said kind .1) refl
+memory-says n (memory.LinkCheck wanted) h = rw (memory-in wanted h, memory-said wanted h) refl
+
+table-says : (n : ℕ) (o : TableOp) → operationOf (backOf (op.Table n o)) ≡ read.Operation (op.Table n o)
+unfolding operationOf meant byCode taken backOf codeOf fieldsBack tableCode tableBack filled over pick both
+table-says n (table.Grow cells value) = rw (kind-said (value .ty) .0, reference-said value) refl
+table-says n table.Size = refl
+table-says n (table.Get index) = refl
+table-says n (table.Set index value) = rw (kind-said (value .ty) .0, reference-said value) refl
+table-says n (table.Fill start value len) = rw (kind-said (value .ty) .0, reference-said value) refl
 
 -- a claim of the counts 0 to 4
 five : (C : ℕ → Type 0) (n : ℕ) → n ≤ 4 → C 0 → C 1 → C 2 → C 3 → C 4 → C n
@@ -37,49 +109,72 @@ five C (suc (suc (suc zero))) h a b c d e = d
 five C (suc (suc (suc (suc zero)))) h a b c d e = e
 five C (suc (suc (suc (suc (suc n))))) h a b c d e = absurd (omega arith)
 
--- a segment's text, for each count
-module _ (k a b c d : ℕ) (m : k < 2 ^ 64) (s : Small (a ∷ b ∷ c ∷ d ∷ [])) where
-  abbrev Read : ℕ → Type 0
-  Read n = over (replicate 4 0) 0 (take n (a ∷ b ∷ c ∷ d ∷ [])) ≡ a ∷ b ∷ c ∷ d ∷ [] → readLine (writeLine (NewSegment k n a b c d)) ≡ Good (NewSegment k n a b c d)
+-- a segment of each count
+module _ (k : RefType) (a b c d : ℕ) where
+  abbrev some-items : ℕ → Items
+  some-items n = record { count = n; first = a; second = b; third = c; fourth = d }
 
-  segment-write : (n : ℕ) → n ≤ 4 → Read n
-  unfolding readLine writeLine codeOf fieldsBack operationOf fuelCode memoryCode tableCode spanCode segmentOf taking filled over pick Small
-  segment-write n h =
-      five Read n h
-      (λ e. let w : Good (NewSegment k 0 0 0 0 0) ≡ Good (NewSegment k 0 a b c d) = cc in
-      ap operationOf (line-write 41 (k ∷ 0 ∷ []) (omega arith) (omega arith) (m, (omega arith, tt))) ∙ w)
-      (λ e. let w : Good (NewSegment k 1 a 0 0 0) ≡ Good (NewSegment k 1 a b c d) = cc in
-      ap operationOf (line-write 41 (k ∷ 1 ∷ a ∷ []) (omega arith) (omega arith) (m, (omega arith, (s .0, tt)))) ∙ w)
-      (λ e. let w : Good (NewSegment k 2 a b 0 0) ≡ Good (NewSegment k 2 a b c d) = cc in
-      ap operationOf (line-write 41 (k ∷ 2 ∷ a ∷ b ∷ []) (omega arith) (omega arith) (m, (omega arith, (s .0, (s .1 .0, tt))))) ∙ w)
-      (λ e. let w : Good (NewSegment k 3 a b c 0) ≡ Good (NewSegment k 3 a b c d) = cc in
-      ap operationOf (line-write 41 (k ∷ 3 ∷ a ∷ b ∷ c ∷ []) (omega arith) (omega arith) (m, (omega arith, (s .0, (s .1 .0, (s .1 .1 .0, tt)))))) ∙ w)
-      (λ e. ap operationOf (line-write 41 (k ∷ 4 ∷ a ∷ b ∷ c ∷ d ∷ []) (omega arith) (omega arith) (m, (omega arith, s))))
+  abbrev Says : ℕ → Type 0
+  Says n = itemFields (some-items n) ≡ true → operationOf (backOf (op.NewSegment k (some-items n))) ≡ read.Operation (op.NewSegment k (some-items n))
+
+  items-few : (n : ℕ) → itemFields (some-items n) ≡ true → n ≤ 4
+  unfolding itemFields
+  items-few n h = leb-true _ _ (both-1 _ _ h)
+
+  segment-says : (n : ℕ) → n ≤ 4 → Says n
+  unfolding operationOf meant byCode taken backOf codeOf fieldsBack filled over pick both itemFields itemField
+  segment-says n m =
+      let e = kind-said k in
+      five Says n m
+      (λ h.
+      let ea : a ≡ 0 = eqb-true _ _ (both-1 _ _ h) in
+      let hb = both-2 (eqb a 0) _ h in
+      let eb : b ≡ 0 = eqb-true _ _ (both-1 _ _ hb) in
+      let hc = both-2 (eqb b 0) _ hb in
+      let ec : c ≡ 0 = eqb-true _ _ (both-1 _ _ hc) in
+      let ed : d ≡ 0 = eqb-true _ _ (both-2 (eqb c 0) _ hc) in
+      rw (e .0, e .1, ea, eb, ec, ed) refl)
+      (λ h.
+      let eb : b ≡ 0 = eqb-true _ _ (both-1 _ _ h) in
+      let hc = both-2 (eqb b 0) _ h in
+      let ec : c ≡ 0 = eqb-true _ _ (both-1 _ _ hc) in
+      let ed : d ≡ 0 = eqb-true _ _ (both-2 (eqb c 0) _ hc) in
+      rw (e .0, e .1, eb, ec, ed) refl)
+      (λ h.
+      let ec : c ≡ 0 = eqb-true _ _ (both-1 _ _ h) in
+      let ed : d ≡ 0 = eqb-true _ _ (both-2 (eqb c 0) _ h) in
+      rw (e .0, e .1, ec, ed) refl)
+      (λ h.
+      let ed : d ≡ 0 = eqb-true _ _ h in
+      rw (e .0, e .1, ed) refl)
+      (λ h. rw (e .0, e .1) refl)
+
+says : (o : Operation) → Said o → operationOf (backOf o) ≡ read.Operation o
+unfolding operationOf meant byCode taken backOf codeOf fieldsBack filled over pick both Said
+says (op.Fuel o) h = fuel-says o
+says (op.NewMemory room wanted) h = rw (memory-in wanted h, memory-said wanted h) refl
+says (op.Memory number o) h = memory-says number o h
+says (op.NewTable room wanted initial) h = rw (kind-said (initial .ty) .0, table-in wanted h, table-said wanted, reference-said initial) refl
+says (op.Table number o) h = table-says number o
+says (op.TableCopy into source span) h = refl
+says (op.TableInit table segment span) h = refl
+says (op.DropSegment segment) h = refl
+says (op.NewSegment k i) h = segment-says k (i .first) (i .second) (i .third) (i .fourth) (i .count) (items-few k (i .first) (i .second) (i .third) (i .fourth) (i .count) h) h
+
+making-says : (m : Bool) (b : ℕ) → b < 2 ^ 32 → operationOf (makingBack m b) ≡ read.Making m b
+unfolding operationOf meant byCode taken makingBack filled over pick both
+making-says m b h = rw (lt-ltb b (2 ^ 32) h, flag-said m .0, flag-said m .1) refl
 
 -- the way there: what is written is read as what was meant
-pub read-write : (op : Operation) → Sayable op → readLine (writeLine op) ≡ Good op
-unfolding readLine writeLine codeOf fieldsBack operationOf fuelCode memoryCode tableCode spanCode taking filled over pick Small Items Sayable
-read-write (Make a b) k = ap operationOf (line-write 0 (a ∷ b ∷ []) (omega arith) (omega arith) k)
-read-write (SetFuel a) k = ap operationOf (line-write 1 (a ∷ []) (omega arith) (omega arith) k)
-read-write GetFuel k = ap operationOf (line-write 2 ([]) (omega arith) (omega arith) k)
-read-write (Charge a) k = ap operationOf (line-write 3 (a ∷ []) (omega arith) (omega arith) k)
-read-write (SetLimiter a b) k = ap operationOf (line-write 4 (a ∷ b ∷ []) (omega arith) (omega arith) k)
-read-write (NewMemory a b c d e f) k = ap operationOf (line-write 16 (a ∷ b ∷ c ∷ d ∷ e ∷ f ∷ []) (omega arith) (omega arith) k)
-read-write (GrowMemory a b) k = ap operationOf (line-write 17 (a ∷ b ∷ []) (omega arith) (omega arith) k)
-read-write (MemorySize a) k = ap operationOf (line-write 18 (a ∷ []) (omega arith) (omega arith) k)
-read-write (Load a b c d) k = ap operationOf (line-write 19 (a ∷ b ∷ c ∷ d ∷ []) (omega arith) (omega arith) k)
-read-write (Store a b c d e) k = ap operationOf (line-write 20 (a ∷ b ∷ c ∷ d ∷ e ∷ []) (omega arith) (omega arith) k)
-read-write (NewTable a b c d e f g h) k = ap operationOf (line-write 32 (a ∷ b ∷ c ∷ d ∷ e ∷ f ∷ g ∷ h ∷ []) (omega arith) (omega arith) k)
-read-write (GrowTable a b c d) k = ap operationOf (line-write 33 (a ∷ b ∷ c ∷ d ∷ []) (omega arith) (omega arith) k)
-read-write (TableSize a) k = ap operationOf (line-write 34 (a ∷ []) (omega arith) (omega arith) k)
-read-write (TableGet a b) k = ap operationOf (line-write 35 (a ∷ b ∷ []) (omega arith) (omega arith) k)
-read-write (TableSet a b c d) k = ap operationOf (line-write 36 (a ∷ b ∷ c ∷ d ∷ []) (omega arith) (omega arith) k)
-read-write (TableFill a b c d e) k = ap operationOf (line-write 37 (a ∷ b ∷ c ∷ d ∷ e ∷ []) (omega arith) (omega arith) k)
-read-write (TableCopy a b c d e) k = ap operationOf (line-write 38 (a ∷ b ∷ c ∷ d ∷ e ∷ []) (omega arith) (omega arith) k)
-read-write (TableInit a b c d e) k = ap operationOf (line-write 39 (a ∷ b ∷ c ∷ d ∷ e ∷ []) (omega arith) (omega arith) k)
-read-write (DropSegment a) k = ap operationOf (line-write 40 (a ∷ []) (omega arith) (omega arith) k)
-read-write (NewSegment k n a b c d) h = segment-write k a b c d (h .0) (h .1 .1) n (h .1 .0) (h .1 .2)
-read-write (LinkCheck a b c d e f) k = ap operationOf (line-write 48 (a ∷ b ∷ c ∷ d ∷ e ∷ f ∷ []) (omega arith) (omega arith) k)
+pub read-write : (o : Operation) → Sayable o → readLine (writeLine o) ≡ read.Operation o
+unfolding readLine writeLine backOf Sayable
+read-write o h = ap operationOf (line-write (codeOf o) (fieldsBack o) (code o) (few o) (h .0)) ∙ says o (h .1)
+
+pub making-write : (m : Bool) (b : ℕ) → b < 2 ^ 32 → readLine (writeMaking m b) ≡ read.Making m b
+unfolding readLine writeMaking makingBack Small
+making-write m b h =
+    let t : flag m < 2 = ltb-true (flag m) 2 (flag-said m .0) in
+    ap operationOf (line-write 0 (flag m ∷ b ∷ []) (omega arith) (omega arith) (omega arith, (omega arith, tt))) ∙ making-says m b h
 
 -- a list of 8, by its elements
 abbrev all : Line → List ℕ
@@ -103,107 +198,104 @@ told-as l w c n t e f =
     ∙ ap (λ (z : ℕ). lineText c (take z (w .list))) f
     ∙ ap (λ (z : List ℕ). lineText c (take n z)) (elements (w .list) (t .long))
 
--- a test that gives an operation, and the same of one that goes on to others
-passed : (t : Bool) (p : Parsed) (op : Operation) → pick t p Malformed ≡ Good op → (t ≡ true) × (p ≡ Good op)
+-- the text that is written for what was read
+unfoldable pub written : Read → List ℕ
+written (read.Operation o) = writeLine o
+written (read.Making m b) = writeMaking m b
+written read.Malformed = []
+
+-- a test that gives what is not malformed, and the same of one that goes on to others
+passed : (t : Bool) (x r : Read) → (r ≡ read.Malformed → ⊥) → pick t x read.Malformed ≡ r → (t ≡ true) × (x ≡ r)
 unfolding pick
-passed true p op q = (refl, q)
-passed false p op q = let z : _≡_ {A = ℕ} 0 1 = cc in absurd (omega arith)
+passed true x r g q = (refl, q)
+passed false x r g q = absurd (g (sym q))
 
-try : (t : Bool) (p r : Parsed) (op : Operation) {C : Type 0} → pick t p r ≡ Good op → (t ≡ true → p ≡ Good op → C) → (r ≡ Good op → C) → C
+try : (t : Bool) (p s r : Read) {C : Type 0} → pick t p s ≡ r → (t ≡ true → p ≡ r → C) → (s ≡ r → C) → C
 unfolding pick
-try true p r op q f g = f refl q
-try false p r op q f g = g q
+try true p s r q f g = f refl q
+try false p s r q f g = g q
 
-same-op : (x op : Operation) → Good x ≡ Good op → x ≡ op
-same-op x op q = cc
+trim : (a b c d e f n : ℕ) → n ≤ 4 → take n (a ∷ b ∷ c ∷ d ∷ e ∷ f ∷ []) ≡ take n (a ∷ b ∷ c ∷ d ∷ [])
+trim a b c d e f n h = five (λ (n : ℕ). take n (a ∷ b ∷ c ∷ d ∷ e ∷ f ∷ []) ≡ take n (a ∷ b ∷ c ∷ d ∷ [])) n h refl refl refl refl refl
 
-module _ (l : List ℕ) (w : Line) (op : Operation) (t : Told l w) where
-  -- a code with its number of fields
-  arm : (c n : ℕ) (x : Operation) → eqb (w .code) c ≡ true → taking n w x ≡ Good op → lineText c (take n (all w)) ≡ writeLine x → l ≡ writeLine op
-  unfolding taking
-  arm c n x e q d =
-      let p = passed _ _ _ q in
-      told-as l w c n t (eqb-true _ _ e) (eqb-true _ _ (p .0)) ∙ d ∙ ap writeLine (same-op x op (p .1))
+module _ (l : List ℕ) (w : Line) (r : Read) (g : r ≡ read.Malformed → ⊥) (t : Told l w) where
+  -- a code with its number of fields, in range
+  arm : (c n : ℕ) (ok : Bool) (x : Read) → eqb (w .code) c ≡ true → taken (w .count) n ok x ≡ r → (ok ≡ true → lineText c (take n (all w)) ≡ written x) → l ≡ written r
+  unfolding taken
+  arm c n ok x e q d =
+      let p = passed _ _ _ g q in
+      told-as l w c n t (eqb-true _ _ e) (eqb-true _ _ (both-1 _ _ (p .0))) ∙ d (both-2 _ _ (p .0)) ∙ ap written (p .1)
 
-  trim : (a b c d e f n : ℕ) → n ≤ 4 → take n (a ∷ b ∷ c ∷ d ∷ e ∷ f ∷ []) ≡ take n (a ∷ b ∷ c ∷ d ∷ [])
-  trim a b c d e f n h = five (λ (n : ℕ). take n (a ∷ b ∷ c ∷ d ∷ e ∷ f ∷ []) ≡ take n (a ∷ b ∷ c ∷ d ∷ [])) n h refl refl refl refl refl
-
-  segment-arm : eqb (w .code) 41 ≡ true → segmentOf w ≡ Good op → l ≡ writeLine op
-  unfolding segmentOf writeLine codeOf fieldsBack
+  segment-arm : eqb (w .code) 0x29 ≡ true
+      → taken (w .count) (2 + at w 1) (segmentRanges (at w 0) (at w 1)) (read.Operation (op.NewSegment (kindOf (at w 0)) (itemsFrom w))) ≡ r → l ≡ written r
+  unfolding written writeLine codeOf fieldsBack
   segment-arm e q =
-      let p = passed _ _ _ q in
       let k : 2 + at w 1 ≡ suc (suc (at w 1)) = omega arith in
-      let g : taking (suc (suc (at w 1))) w (NewSegment (at w 0) (at w 1) (at w 2) (at w 3) (at w 4) (at w 5)) ≡ Good op = rw k at (p .1) in
-      arm 41 (suc (suc (at w 1))) _ e g
-      (ap (λ (z : List ℕ). lineText 41 (at w 0 ∷ at w 1 ∷ z)) (trim (at w 2) (at w 3) (at w 4) (at w 5) (at w 6) (at w 7) (at w 1) (leb-true _ _ (p .0))))
+      arm 0x29 (suc (suc (at w 1))) _ _ e (rw k at q) (λ h.
+      ap (λ (z : List ℕ). lineText 0x29 (at w 0 ∷ at w 1 ∷ z))
+      (trim (at w 2) (at w 3) (at w 4) (at w 5) (at w 6) (at w 7) (at w 1) (leb-true _ _ (both-1 _ _ h)))
+      ∙ ap (λ (n : ℕ). lineText 0x29 (n ∷ at w 1 ∷ itemsOf (itemsFrom w))) (sym (kind-number (at w 0) (both-2 _ _ h))))
 
-  from-fuel : (r : Parsed) → fuelCode w r ≡ Good op → (r ≡ Good op → l ≡ writeLine op) → l ≡ writeLine op
-  unfolding fuelCode writeLine codeOf fieldsBack
-  from-fuel r q k =
-      try _ _ _ _ q (λ e p. arm 0 2 _ e p refl) (λ q.
-      try _ _ _ _ q (λ e p. arm 1 1 _ e p refl) (λ q.
-      try _ _ _ _ q (λ e p. arm 2 0 _ e p refl) (λ q.
-      try _ _ _ _ q (λ e p. arm 3 1 _ e p refl) (λ q.
-      try _ _ _ _ q (λ e p. arm 4 2 _ e p refl) k))))
-
-  from-memory : (r : Parsed) → memoryCode w r ≡ Good op → (r ≡ Good op → l ≡ writeLine op) → l ≡ writeLine op
-  unfolding memoryCode writeLine codeOf fieldsBack
-  from-memory r q k =
-      try _ _ _ _ q (λ e p. arm 16 6 _ e p refl) (λ q.
-      try _ _ _ _ q (λ e p. arm 17 2 _ e p refl) (λ q.
-      try _ _ _ _ q (λ e p. arm 18 1 _ e p refl) (λ q.
-      try _ _ _ _ q (λ e p. arm 19 4 _ e p refl) (λ q.
-      try _ _ _ _ q (λ e p. arm 20 5 _ e p refl) (λ q.
-      try _ _ _ _ q (λ e p. arm 48 6 _ e p refl) k)))))
-
-  from-table : (r : Parsed) → tableCode w r ≡ Good op → (r ≡ Good op → l ≡ writeLine op) → l ≡ writeLine op
-  unfolding tableCode writeLine codeOf fieldsBack
-  from-table r q k =
-      try _ _ _ _ q (λ e p. arm 32 8 _ e p refl) (λ q.
-      try _ _ _ _ q (λ e p. arm 33 4 _ e p refl) (λ q.
-      try _ _ _ _ q (λ e p. arm 34 1 _ e p refl) (λ q.
-      try _ _ _ _ q (λ e p. arm 35 2 _ e p refl) (λ q.
-      try _ _ _ _ q (λ e p. arm 36 4 _ e p refl) (λ q.
-      try _ _ _ _ q (λ e p. arm 37 5 _ e p refl) k)))))
-
-  from-span : (r : Parsed) → spanCode w r ≡ Good op → (r ≡ Good op → l ≡ writeLine op) → l ≡ writeLine op
-  unfolding spanCode writeLine codeOf fieldsBack
-  from-span r q k =
-      try _ _ _ _ q (λ e p. arm 38 5 _ e p refl) (λ q.
-      try _ _ _ _ q (λ e p. arm 39 5 _ e p refl) (λ q.
-      try _ _ _ _ q (λ e p. arm 40 1 _ e p refl) (λ q.
-      try _ _ _ _ q (λ e p. segment-arm e p) k)))
-
-  from-code : meant w ≡ Good op → l ≡ writeLine op
+  from-code : meant w ≡ r → l ≡ written r
+  unfolding meant byCode written writeLine writeMaking codeOf fieldsBack fuelCode fuelBack memoryCode memoryBack tableCode tableBack
   from-code q =
-      from-fuel _ q (λ q. from-memory _ q (λ q. from-table _ q (λ q. from-span _ q (λ q. let z : _≡_ {A = ℕ} 0 1 = cc in absurd (omega arith)))))
+      try _ _ _ _ q (λ e p. arm 0x00 2 _ _ e p (λ h. ap (λ (n : ℕ). lineText 0x00 (n ∷ at w 1 ∷ [])) (sym (flag-number (at w 0) (both-2 _ _ h))))) (λ q.
+      try _ _ _ _ q (λ e p. arm 0x01 1 _ _ e p (λ h. refl)) (λ q.
+      try _ _ _ _ q (λ e p. arm 0x02 0 _ _ e p (λ h. refl)) (λ q.
+      try _ _ _ _ q (λ e p. arm 0x03 1 _ _ e p (λ h. refl)) (λ q.
+      try _ _ _ _ q (λ e p. arm 0x04 2 _ _ e p (λ h. refl)) (λ q.
+      try _ _ _ _ q (λ e p. arm 0x10 6 _ _ e p (λ h. ap (λ (z : List ℕ). lineText 0x10 (at w 0 ∷ z)) (sym (memory-fields _ _ _ _ _ h)))) (λ q.
+      try _ _ _ _ q (λ e p. arm 0x11 2 _ _ e p (λ h. refl)) (λ q.
+      try _ _ _ _ q (λ e p. arm 0x12 1 _ _ e p (λ h. refl)) (λ q.
+      try _ _ _ _ q (λ e p. arm 0x13 4 _ _ e p (λ h. ap (λ (n : ℕ). lineText 0x13 (at w 0 ∷ n ∷ at w 2 ∷ at w 3 ∷ [])) (sym (load-number (at w 1) (leb-true _ _ h))))) (λ q.
+      try _ _ _ _ q (λ e p. arm 0x14 5 _ _ e p (λ h. ap (λ (n : ℕ). lineText 0x14 (at w 0 ∷ n ∷ at w 2 ∷ at w 3 ∷ at w 4 ∷ [])) (sym (store-number (at w 1) (leb-true _ _ h))))) (λ q.
+      try _ _ _ _ q (λ e p. arm 0x20 8 _ _ e p (λ h. ap (λ (z : List ℕ). lineText 0x20 (at w 0 ∷ z)) (sym (table-fields _ _ _ _ _ _ _ h)))) (λ q.
+      try _ _ _ _ q (λ e p. arm 0x21 4 _ _ e p (λ h. ap (λ (z : List ℕ). lineText 0x21 (at w 0 ∷ at w 1 ∷ z)) (sym (reference-fields _ _ h)))) (λ q.
+      try _ _ _ _ q (λ e p. arm 0x22 1 _ _ e p (λ h. refl)) (λ q.
+      try _ _ _ _ q (λ e p. arm 0x23 2 _ _ e p (λ h. refl)) (λ q.
+      try _ _ _ _ q (λ e p. arm 0x24 4 _ _ e p (λ h. ap (λ (z : List ℕ). lineText 0x24 (at w 0 ∷ at w 1 ∷ z)) (sym (reference-fields _ _ h)))) (λ q.
+      try _ _ _ _ q (λ e p. arm 0x25 5 _ _ e p (λ h. ap (λ (n : ℕ). lineText 0x25 (at w 0 ∷ at w 1 ∷ n ∷ at w 3 ∷ at w 4 ∷ [])) (sym (kind-number (at w 2) h)))) (λ q.
+      try _ _ _ _ q (λ e p. arm 0x26 5 _ _ e p (λ h. refl)) (λ q.
+      try _ _ _ _ q (λ e p. arm 0x27 5 _ _ e p (λ h. refl)) (λ q.
+      try _ _ _ _ q (λ e p. arm 0x28 1 _ _ e p (λ h. refl)) (λ q.
+      try _ _ _ _ q (λ e p. segment-arm e p) (λ q.
+      try _ _ _ _ q (λ e p. arm 0x30 6 _ _ e p (λ h. ap (λ (z : List ℕ). lineText 0x30 (at w 0 ∷ z)) (sym (memory-fields _ _ _ _ _ h)))) (λ q.
+      absurd (g (sym q)))))))))))))))))))))))
 
--- the way back: a text that is read as an operation is the text that is written for it
-pub read-unique : (l : List ℕ) (op : Operation) → readLine l ≡ Good op → l ≡ writeLine op
+-- the way back: a text that is read as something is the text that is written for it
+unique : (l : List ℕ) (r : Read) → (r ≡ read.Malformed → ⊥) → readLine l ≡ r → l ≡ written r
 unfolding readLine operationOf
-read-unique l op q = let p = passed _ _ _ q in from-code l (lineOf l) op (line-read l (p .0)) (p .1)
+unique l r g q = let p = passed _ _ _ g q in from-code l (lineOf l) r g (line-read l (p .0)) (p .1)
 
--- a line of over 160 bytes is none
-long-bad : (l : List ℕ) → 160 < length l → lineOf l .good ≡ true → ⊥
+pub read-unique : (l : List ℕ) (o : Operation) → readLine l ≡ read.Operation o → l ≡ writeLine o
+unfolding written
+read-unique l o q = unique l (read.Operation o) (λ e. let z : _≡_ {A = ℕ} 0 1 = cc in absurd (omega arith)) q
+
+pub making-unique : (l : List ℕ) (m : Bool) (b : ℕ) → readLine l ≡ read.Making m b → l ≡ writeMaking m b
+unfolding written
+making-unique l m b q = unique l (read.Making m b) (λ e. let z : _≡_ {A = ℕ} 0 1 = cc in absurd (omega arith)) q
+
+-- a line of over 160 bytes says nothing
+long-bad : (l : List ℕ) → longest < length l → lineOf l .good ≡ true → ⊥
 long-bad l h e =
     let t = line-read l e in
     let w = lineOf l in
     omega (arith, ap length (t .text), length-line (w .code) (take (w .count) (w .list)), length-take (w .count) (w .list), t .long)
 
-pub long-malformed : (l : List ℕ) → 160 < length l → readLine l ≡ Malformed
+pub long-malformed : (l : List ℕ) → longest < length l → readLine l ≡ read.Malformed
 unfolding readLine operationOf
 long-malformed l h = either (lineOf l .good) (λ e. absurd (long-bad l h e)) (λ e. pick-false _ _ _ e)
 
 -- an answer line has 37 bytes
-pub answer-long : (number shown fuel : ℕ) → length (answerText number shown fuel) ≡ 37
+pub answer-long : (number shown fuel : ℕ) → length (answerText number shown fuel) ≡ answerBytes
 unfolding answerText
 answer-long n v f =
-    let x = hexText 16 f ++ (10 ∷ []) in
-    let y = hexText 16 v ++ (32 ∷ x) in
-    let h : length x ≡ 17 = omega (arith, length-append (hexText 16 f) (10 ∷ []), length-hex 16 f) in
-    let g : length y ≡ 34 = omega (arith, length-append (hexText 16 v) (32 ∷ x), length-hex 16 v) in
-    omega (arith, length-append (hexText 2 n) (32 ∷ y), length-hex 2 n)
+    let x = hexText 16 f ++ (lf ∷ []) in
+    let y = hexText 16 v ++ (space ∷ x) in
+    let h : length x ≡ 17 = omega (arith, length-append (hexText 16 f) (lf ∷ []), length-hex 16 f) in
+    let g : length y ≡ 34 = omega (arith, length-append (hexText 16 v) (space ∷ x), length-hex 16 v) in
+    omega (arith, length-append (hexText 2 n) (space ∷ y), length-hex 2 n)
 
-pub answer-line-long : (a : Answer) (f : Fuel) → length (answerLine a f) ≡ 37
+pub answer-line-long : (a : Answer) (f : Fuel) → length (answerLine a f) ≡ answerBytes
 unfolding answerLine
 answer-line-long a f = answer-long _ _ _

@@ -1,24 +1,25 @@
 -- Uniqueness: each public function's contract names one answer, and one content of what it is lent to write, for each input. Assumes nothing.
 use mathlib.Core.Path.{sym, _∙_, ap}
+use mathlib.Core.Bool.{Bool}
 use mathlib.Core.List.{List}
 use Prim.Native.Nat.{ℕ}
 use denote.Ref.{now}
 use Rattle.types.proofs.One.{One, OneWith}
-use Rattle.machine.specs.Machine.{Buffers, buffers}
-use Rattle.lines.specs.Progress.{Progressed}
-use Rattle.lines.specs.Written.{Answered, Wrote}
+use Rattle.types.specs.Done.{Done}
 use Rattle.lines.proofs.line.no_line.Reads as no-line-reads
 use Rattle.lines.proofs.line.no_line.Kinds as no-line-kinds
-use Rattle.lines.proofs.line.read.Reads as read-reads
-use Rattle.lines.proofs.line.read.Kinds as read-kinds
 use Rattle.lines.proofs.code.operation_of.Reads as operation-of-reads
 use Rattle.lines.proofs.code.operation_of.Kinds as operation-of-kinds
 use Rattle.lines.proofs.code.read_line.Reads as read-line-reads
 use Rattle.lines.proofs.code.read_line.Kinds as read-line-kinds
-use Rattle.lines.proofs.code.write_line.Reads as write-line-reads
-use Rattle.lines.proofs.code.write_line.Kinds as write-line-kinds
+use Rattle.lines.proofs.write.write_line.Reads as write-line-reads
+use Rattle.lines.proofs.write.write_line.Kinds as write-line-kinds
+use Rattle.lines.proofs.write.write_making.Reads as write-making-reads
+use Rattle.lines.proofs.write.write_making.Kinds as write-making-kinds
 use Rattle.lines.proofs.answer_line.write_answer_line.Reads as write-answer-line-reads
 use Rattle.lines.proofs.answer_line.write_answer_line.Kinds as write-answer-line-kinds
+use Rattle.machine.specs.Machine.{Buffers, buffers}
+use Rattle.lines.specs.Progress.{Progressed}
 use Rattle.lines.proofs.session.Session.new.Reads as new-reads
 use Rattle.lines.proofs.session.Session.new.Kinds as new-kinds
 use Rattle.lines.proofs.session.piece.Reads as piece-reads
@@ -26,9 +27,6 @@ use Rattle.lines.proofs.session.piece.Kinds as piece-kinds
 
 pub no-line-one : One 0 no-line-kinds.ps no-line-kinds.r no-line-reads.Pre no-line-reads.Post
 no-line-one κs a x x′ s s′ z p q = p ∙ sym q
-
-pub read-one : One 1 read-kinds.ps read-kinds.r read-reads.Pre read-reads.Post
-read-one κs a x x′ s s′ z p q = p ∙ sym q
 
 pub operation-of-one : One 0 operation-of-kinds.ps operation-of-kinds.r operation-of-reads.Pre operation-of-reads.Post
 operation-of-one κs a x x′ s s′ z p q = p ∙ sym q
@@ -38,10 +36,13 @@ read-line-one κs a x x′ s s′ z p q = p ∙ sym q
 
 -- one length, and one content of the buffer
 pub write-line-one : OneWith 1 write-line-kinds.ps write-line-kinds.r write-line-reads.Pre write-line-reads.Post (List ℕ) (λ κs s. now (s .1 .0))
-write-line-one κs a x x′ s s′ z p q = (ap (λ (o : Wrote). o .size) (p ∙ sym q), ap (λ (o : Wrote). o .cells) (p ∙ sym q))
+write-line-one κs a x x′ s s′ z p q = (ap (λ (o : Done ℕ). o .out) (p ∙ sym q), ap (λ (o : Done ℕ). o .cells) (p ∙ sym q))
+
+pub write-making-one : OneWith 1 write-making-kinds.ps write-making-kinds.r write-making-reads.Pre write-making-reads.Post (List ℕ) (λ κs s. now (s .1 .1 .0))
+write-making-one κs a x x′ s s′ z p q = (ap (λ (o : Done ℕ). o .out) (p ∙ sym q), ap (λ (o : Done ℕ). o .cells) (p ∙ sym q))
 
 pub write-answer-line-one : OneWith 1 write-answer-line-kinds.ps write-answer-line-kinds.r write-answer-line-reads.Pre write-answer-line-reads.Post (List ℕ) (λ κs s. now (s .0))
-write-answer-line-one κs a x x′ s s′ z p q = (ap (λ (o : Answered). o .done) (p ∙ sym q), ap (λ (o : Answered). o .cells) (p ∙ sym q))
+write-answer-line-one κs a x x′ s s′ z p q = (ap (λ (o : Done Bool). o .out) (p ∙ sym q), ap (λ (o : Done Bool). o .cells) (p ∙ sym q))
 
 pub session-new-one : One 0 new-kinds.ps new-kinds.r new-reads.Pre new-reads.Post
 session-new-one κs a x x′ s s′ z p q = p ∙ sym q

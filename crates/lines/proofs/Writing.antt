@@ -8,15 +8,15 @@ use native.Mathlib.Numerals.{add-one}
 use lib.ListN.{length, take, set, getD, length-append, length-take}
 use lib.Seq.{take-suc}
 use borrow.Author.Tests.{lt-ltb, le-ltb}
+use Rattle.types.specs.Done.{done}
 use Rattle.types.specs.Span.{over}
 use Rattle.types.specs.declared.answer.Answer.{Answer}
 use Rattle.types.specs.declared.fuel.Fuel.{Fuel}
 use Rattle.types.proofs.Picks.{pick-true, pick-false}
 use Rattle.types.proofs.Spans.{over-nil, over-put, over-over, over-last}
 use Rattle.lines.specs.Hex.{hexText, charOf}
-use Rattle.lines.specs.Line.{fieldsText, lineText}
-use Rattle.lines.specs.AnswerLine.{answerText, answerLine}
-use Rattle.lines.specs.Written.{answered, answeredOf, wrote, wroteOf}
+use Rattle.lines.specs.Line.{space, lf, fieldsText, lineText, wroteOf}
+use Rattle.lines.specs.AnswerLine.{answerBytes, answerText, answerLine, answeredOf}
 
 -- so many digits
 pub length-hex : (k v : ℕ) → length (hexText k v) ≡ k
@@ -52,32 +52,32 @@ put-end l m a i w h q =
     sym (over-nil l a) ∙ ap (λ (n : ℕ). over l a (hexText n w)) (sym j) ∙ q
 
 -- the parts of an answer line, one after the other
-pub answer-put : (l : List ℕ) (a n v f : ℕ) {o p q : List ℕ} → a + 37 ≤ length l →
-    o ≡ over l a (hexText 2 n) → p ≡ over (set o (a + 2) 32) (a + 3) (hexText 16 v) → q ≡ over (set p (a + 19) 32) (a + 20) (hexText 16 f) →
-    set q (a + 36) 10 ≡ over l a (answerText n v f)
+pub answer-put : (l : List ℕ) (a n v f : ℕ) {o p q : List ℕ} → a + answerBytes ≤ length l →
+    o ≡ over l a (hexText 2 n) → p ≡ over (set o (a + 2) space) (a + 3) (hexText 16 v) → q ≡ over (set p (a + 19) space) (a + 20) (hexText 16 f) →
+    set q (a + 36) lf ≡ over l a (answerText n v f)
 unfolding answerText
 answer-put l a n v f {o} {p} {q} h d e g =
     let x1 = hexText 2 n in
-    let x2 = x1 ++ (32 ∷ []) in
+    let x2 = x1 ++ (space ∷ []) in
     let x3 = x2 ++ hexText 16 v in
-    let x4 = x3 ++ (32 ∷ []) in
+    let x4 = x3 ++ (space ∷ []) in
     let x5 = x4 ++ hexText 16 f in
     let l1 : length x1 ≡ 2 = length-hex 2 n in
-    let l2 : length x2 ≡ 3 = omega (arith, length-append x1 (32 ∷ [])) in
+    let l2 : length x2 ≡ 3 = omega (arith, length-append x1 (space ∷ [])) in
     let l3 : length x3 ≡ 19 = omega (arith, length-append x2 (hexText 16 v), length-hex 16 v) in
-    let l4 : length x4 ≡ 20 = omega (arith, length-append x3 (32 ∷ [])) in
+    let l4 : length x4 ≡ 20 = omega (arith, length-append x3 (space ∷ [])) in
     let l5 : length x5 ≡ 36 = omega (arith, length-append x4 (hexText 16 f), length-hex 16 f) in
-    let s2 : set o (a + 2) 32 ≡ over l a x2 = ap (λ (z : List ℕ). set z (a + 2) 32) d ∙ put-at l a (a + 2) x1 32 (omega arith) (omega arith) in
+    let s2 : set o (a + 2) space ≡ over l a x2 = ap (λ (z : List ℕ). set z (a + 2) space) d ∙ put-at l a (a + 2) x1 space (omega arith) (omega arith) in
     let s3 : p ≡ over l a x3 = e ∙ ap (λ (z : List ℕ). over z (a + 3) (hexText 16 v)) s2 ∙ more-at l a (a + 3) x2 (hexText 16 v) (omega arith) (omega arith) in
-    let s4 : set p (a + 19) 32 ≡ over l a x4 = ap (λ (z : List ℕ). set z (a + 19) 32) s3 ∙ put-at l a (a + 19) x3 32 (omega arith) (omega arith) in
+    let s4 : set p (a + 19) space ≡ over l a x4 = ap (λ (z : List ℕ). set z (a + 19) space) s3 ∙ put-at l a (a + 19) x3 space (omega arith) (omega arith) in
     let s5 : q ≡ over l a x5 = g ∙ ap (λ (z : List ℕ). over z (a + 20) (hexText 16 f)) s4 ∙ more-at l a (a + 20) x4 (hexText 16 f) (omega arith) (omega arith) in
-    let s6 : set q (a + 36) 10 ≡ over l a (x5 ++ (10 ∷ [])) = ap (λ (z : List ℕ). set z (a + 36) 10) s5 ∙ put-at l a (a + 36) x5 10 (omega arith) (omega arith) in
+    let s6 : set q (a + 36) lf ≡ over l a (x5 ++ (lf ∷ [])) = ap (λ (z : List ℕ). set z (a + 36) lf) s5 ∙ put-at l a (a + 36) x5 lf (omega arith) (omega arith) in
     s6 ∙ ap (λ (z : List ℕ). over l a z) (simp append-assoc)
 
 -- a buffer with room for a line
-pub room-for : (l o : List ℕ) (a : Answer) (f : Fuel) → 37 ≤ length l → o ≡ over l 0 (answerLine a f) → answered true o ≡ answeredOf l a f
+pub room-for : (l o : List ℕ) (a : Answer) (f : Fuel) → answerBytes ≤ length l → o ≡ over l 0 (answerLine a f) → done true o ≡ answeredOf l a f
 unfolding answeredOf
-room-for l o a f h e = ap (answered true) e ∙ sym (pick-false _ _ _ (le-ltb (length l) 37 h))
+room-for l o a f h e = ap (done true) e ∙ sym (pick-false _ _ _ (le-ltb (length l) answerBytes h))
 
 -- how long a line is
 pub length-fields : (xs : List ℕ) → length (fieldsText xs) ≡ 17 * length xs
@@ -94,14 +94,14 @@ text-append : (xs ys : List ℕ) → fieldsText (xs ++ ys) ≡ fieldsText xs ++ 
 unfolding fieldsText
 text-append [] ys = refl
 text-append (v ∷ xs) ys =
-    ap (λ (z : List ℕ). 32 ∷ (hexText 16 v ++ z)) (text-append xs ys)
-    ∙ ap (λ (z : List ℕ). 32 ∷ z) (sym (append-assoc (hexText 16 v) (fieldsText xs) (fieldsText ys)))
+    ap (λ (z : List ℕ). space ∷ (hexText 16 v ++ z)) (text-append xs ys)
+    ∙ ap (λ (z : List ℕ). space ∷ z) (sym (append-assoc (hexText 16 v) (fieldsText xs) (fieldsText ys)))
 
-field-more : (xs : List ℕ) (v : ℕ) → (fieldsText xs ++ 32 ∷ []) ++ hexText 16 v ≡ fieldsText (xs ++ v ∷ [])
+field-more : (xs : List ℕ) (v : ℕ) → (fieldsText xs ++ space ∷ []) ++ hexText 16 v ≡ fieldsText (xs ++ v ∷ [])
 unfolding fieldsText
 field-more xs v =
-    append-assoc (fieldsText xs) (32 ∷ []) (hexText 16 v)
-    ∙ ap (λ (z : List ℕ). fieldsText xs ++ 32 ∷ z) (sym (append-nil (hexText 16 v)))
+    append-assoc (fieldsText xs) (space ∷ []) (hexText 16 v)
+    ∙ ap (λ (z : List ℕ). fieldsText xs ++ space ∷ z) (sym (append-nil (hexText 16 v)))
     ∙ sym (text-append xs (v ∷ []))
 
 -- the loop that writes fields: none yet, a turn, and all
@@ -113,13 +113,13 @@ pub fields-all : (l o list : List ℕ) (i n : ℕ) → n ≤ i → i ≤ n → o
 fields-all l o list i n h g e = let k : i ≡ n = omega arith in e ∙ ap (λ (z : ℕ). over l 2 (fieldsText (take z list))) k
 
 pub fields-put : (l o p list : List ℕ) (i at n v : ℕ) → i < n → n ≤ 8 → length list ≡ 8 → at ≡ 2 + 17 * i → 2 + 17 * n ≤ length l → v ≡ getD list i 0
-    → o ≡ over l 2 (fieldsText (take i list)) → p ≡ over (set o at 32) (at + 1) (hexText 16 v) → p ≡ over l 2 (fieldsText (take (i + 1) list))
+    → o ≡ over l 2 (fieldsText (take i list)) → p ≡ over (set o at space) (at + 1) (hexText 16 v) → p ≡ over l 2 (fieldsText (take (i + 1) list))
 fields-put l o p list i at n v h g k a r d e q =
     let x = fieldsText (take i list) in
-    let y = x ++ 32 ∷ [] in
+    let y = x ++ space ∷ [] in
     let lx : length x ≡ 17 * i = omega (arith, length-fields (take i list), length-take i list) in
-    let ly : length y ≡ 17 * i + 1 = omega (arith, length-append x (32 ∷ []), lx) in
-    let s : set o at 32 ≡ over l 2 y = ap (λ (z : List ℕ). set z at 32) e ∙ put-at l 2 at x 32 (omega (arith, lx)) (omega (arith, lx)) in
+    let ly : length y ≡ 17 * i + 1 = omega (arith, length-append x (space ∷ []), lx) in
+    let s : set o at space ≡ over l 2 y = ap (λ (z : List ℕ). set z at space) e ∙ put-at l 2 at x space (omega (arith, lx)) (omega (arith, lx)) in
     let t : take i list ++ v ∷ [] ≡ take (i + 1) list =
     ap (λ (z : ℕ). take i list ++ z ∷ []) d ∙ sym (take-suc list i 0 (omega arith)) ∙ ap (λ (z : ℕ). take z list) (sym (add-one i)) in
     q ∙ ap (λ (z : List ℕ). over z (at + 1) (hexText 16 v)) s
@@ -132,16 +132,16 @@ module _ (l list : List ℕ) (c n : ℕ) (h : n ≤ 8) (k : length list ≡ 8) w
   whole = omega (arith, length-line c (take n list), length-take n list)
 
   pub line-put : (o p : List ℕ) → 2 + 17 * n ≤ length l → o ≡ over l 0 (hexText 2 c) → p ≡ over o 2 (fieldsText (take n list))
-      → wrote (2 + 17 * n) p ≡ wroteOf l (lineText c (take n list))
+      → done (2 + 17 * n) p ≡ wroteOf l (lineText c (take n list))
   unfolding wroteOf lineText
   line-put o p g d e =
       let x = fieldsText (take n list) in
       let q : p ≡ over l 0 (lineText c (take n list)) =
       e ∙ ap (λ (z : List ℕ). over z 2 x) d ∙ more-at l 0 2 (hexText 2 c) x (omega (arith, length-hex 2 c)) (omega (arith, length-hex 2 c)) in
-      ap (wrote (2 + 17 * n)) q
-      ∙ ap (λ (z : ℕ). wrote z (over l 0 (lineText c (take n list)))) (sym whole)
+      ap (done (2 + 17 * n)) q
+      ∙ ap (λ (z : ℕ). done z (over l 0 (lineText c (take n list)))) (sym whole)
       ∙ sym (pick-false _ _ _ (le-ltb (length l) (length (lineText c (take n list))) (omega (arith, whole))))
 
-  pub line-kept : length l < 2 + 17 * n → wrote 0 l ≡ wroteOf l (lineText c (take n list))
+  pub line-kept : length l < 2 + 17 * n → done 0 l ≡ wroteOf l (lineText c (take n list))
   unfolding wroteOf
   line-kept g = sym (pick-true _ _ _ (lt-ltb (length l) (length (lineText c (take n list))) (omega (arith, whole))))

@@ -1,119 +1,105 @@
--- Document 01, "Operation lines": the codes, how many fields each has, and the operation that they stand for.
--- Fields keep their ranges in the machine (wellFormed); here a line is an operation by its code and its number of fields.
+-- Document 01, "Operation lines": what a line says, by its code, its number of fields and their ranges. Codes are hexadecimal, as in the text.
 use Prim.Native.Nat.{ℕ, _+_}
 use mathlib.Core.Bool.{Bool, true}
-use mathlib.Core.List.{List, [], _∷_}
+use mathlib.Core.List.{List}
 use lib.Dec.{leb, eqb}
-use lib.ListN.{take}
 use Rattle.types.specs.Pick.{pick, both}
+use Rattle.types.specs.declared.memory_ty.WantedMemory.{WantedMemory}
+use Rattle.types.specs.declared.table_ty.WantedTable.{WantedTable}
+use Rattle.machine.specs.declared.operation.Items.{Items}
+use Rattle.types.specs.declared.span.CopySpan.{CopySpan}
+use Rattle.machine.specs.declared.operation.FuelOp.{FuelOp}
+use Rattle.machine.specs.declared.operation.FuelOp.the-variants as fuel
+use Rattle.machine.specs.declared.operation.MemoryOp.{MemoryOp}
+use Rattle.machine.specs.declared.operation.MemoryOp.the-variants as memory
+use Rattle.machine.specs.declared.operation.TableOp.{TableOp}
+use Rattle.machine.specs.declared.operation.TableOp.the-variants as table
 use Rattle.machine.specs.declared.operation.Operation.{Operation}
-use Rattle.machine.specs.declared.operation.Operation.the-variants.{Make, SetFuel, GetFuel, Charge, SetLimiter, NewMemory, GrowMemory, MemorySize, Load, Store, NewTable, GrowTable, TableSize, TableGet, TableSet, TableFill, TableCopy, TableInit, DropSegment, NewSegment, LinkCheck}
-use Rattle.lines.specs.Line.{lineOf, at, lineText}
+use Rattle.machine.specs.declared.operation.Operation.the-variants as op
+use Rattle.lines.specs.Line.{lineOf, at}
+use Rattle.lines.specs.Fields.{binary, yes, kindOf, referenceOf, memoryRanges, wantedMemory, tableRanges, makingRanges, segmentRanges, wantedTable, loadKindOf, storeKindOf}
 use Rattle.lines.specs.declared.line.Line.{Line}
-use Rattle.lines.specs.declared.code.Parsed.{Parsed}
-use Rattle.lines.specs.declared.code.Parsed.the-variants.{Good, Malformed}
+use Rattle.lines.specs.declared.code.Read.{Read}
+use Rattle.lines.specs.declared.code.Read.the-variants as read
 
--- an operation, where the line has that many fields
-unfoldable pub taking : ℕ → Line → Operation → Parsed
-taking n w op = pick (eqb (w .count) n) (Good op) Malformed
+-- what a line of so many fields says where it should have n and they are in range; else it is malformed
+unfoldable pub taken : ℕ → ℕ → Bool → Read → Read
+taken count n ok x = pick (both (eqb count n) ok) x read.Malformed
 
--- 29: a kind, a count of 0 to 4, then that many items
-unfoldable pub segmentOf : Line → Parsed
-segmentOf w =
-    pick (leb (at w 1) 4) (taking (2 + at w 1) w (NewSegment (at w 0) (at w 1) (at w 2) (at w 3) (at w 4) (at w 5))) Malformed
+-- what a line says where it has n fields and they are in range
+abbrev pub taking : ℕ → Line → Bool → Read → Read
+taking n w ok x = taken (w .count) n ok x
 
--- by code, which is written in hexadecimal: 16 is 10
-unfoldable pub fuelCode : Line → Parsed → Parsed
-fuelCode w other =
-    pick (eqb (w .code) 0) (taking 2 w (Make (at w 0) (at w 1)))
-    (pick (eqb (w .code) 1) (taking 1 w (SetFuel (at w 0)))
-    (pick (eqb (w .code) 2) (taking 0 w GetFuel)
-    (pick (eqb (w .code) 3) (taking 1 w (Charge (at w 0)))
-    (pick (eqb (w .code) 4) (taking 2 w (SetLimiter (at w 0) (at w 1)))
-    other))))
+-- an operation of fuel and limiter
+abbrev pub onFuel : FuelOp → Read
+onFuel o = read.Operation (op.Fuel o)
 
-unfoldable pub memoryCode : Line → Parsed → Parsed
-memoryCode w other =
-    pick (eqb (w .code) 16) (taking 6 w (NewMemory (at w 0) (at w 1) (at w 2) (at w 3) (at w 4) (at w 5)))
-    (pick (eqb (w .code) 17) (taking 2 w (GrowMemory (at w 0) (at w 1)))
-    (pick (eqb (w .code) 18) (taking 1 w (MemorySize (at w 0)))
-    (pick (eqb (w .code) 19) (taking 4 w (Load (at w 0) (at w 1) (at w 2) (at w 3)))
-    (pick (eqb (w .code) 20) (taking 5 w (Store (at w 0) (at w 1) (at w 2) (at w 3) (at w 4)))
-    (pick (eqb (w .code) 48) (taking 6 w (LinkCheck (at w 0) (at w 1) (at w 2) (at w 3) (at w 4) (at w 5)))
-    other)))))
+-- an operation of the memory whose number is the first field
+abbrev pub onMemory : Line → MemoryOp → Read
+onMemory w o = read.Operation (op.Memory (at w 0) o)
 
-unfoldable pub tableCode : Line → Parsed → Parsed
-tableCode w other =
-    pick (eqb (w .code) 32) (taking 8 w (NewTable (at w 0) (at w 1) (at w 2) (at w 3) (at w 4) (at w 5) (at w 6) (at w 7)))
-    (pick (eqb (w .code) 33) (taking 4 w (GrowTable (at w 0) (at w 1) (at w 2) (at w 3)))
-    (pick (eqb (w .code) 34) (taking 1 w (TableSize (at w 0)))
-    (pick (eqb (w .code) 35) (taking 2 w (TableGet (at w 0) (at w 1)))
-    (pick (eqb (w .code) 36) (taking 4 w (TableSet (at w 0) (at w 1) (at w 2) (at w 3)))
-    (pick (eqb (w .code) 37) (taking 5 w (TableFill (at w 0) (at w 1) (at w 2) (at w 3) (at w 4)))
-    other)))))
+-- an operation of the table whose number is the first field
+abbrev pub onTable : Line → TableOp → Read
+onTable w o = read.Operation (op.Table (at w 0) o)
 
-unfoldable pub spanCode : Line → Parsed → Parsed
-spanCode w other =
-    pick (eqb (w .code) 38) (taking 5 w (TableCopy (at w 0) (at w 1) (at w 2) (at w 3) (at w 4)))
-    (pick (eqb (w .code) 39) (taking 5 w (TableInit (at w 0) (at w 1) (at w 2) (at w 3) (at w 4)))
-    (pick (eqb (w .code) 40) (taking 1 w (DropSegment (at w 0)))
-    (pick (eqb (w .code) 41) (segmentOf w)
-    other)))
+-- 10 and 30: the ranges of a memory's type behind the first field
+abbrev pub memoryIn : Line → Bool
+memoryIn w = memoryRanges (at w 1) (at w 2) (at w 4) (at w 5)
 
-unfoldable pub operationOf : Line → Parsed
-operationOf w = pick (w .good) (fuelCode w (memoryCode w (tableCode w (spanCode w Malformed)))) Malformed
+-- 10 and 30: that type
+abbrev pub memoryOf : Line → WantedMemory
+memoryOf w = wantedMemory (at w 1) (at w 2) (at w 3) (at w 4) (at w 5)
 
--- a line of text as an operation
-unfoldable pub readLine : List ℕ → Parsed
+-- 20: the ranges of a table's type behind the first field, and of the kind of the initial reference
+abbrev pub tableIn : Line → Bool
+tableIn w = both (binary (at w 6)) (tableRanges (at w 1) (at w 2) (at w 3) (at w 5))
+
+-- 20: that type
+abbrev pub tableOf : Line → WantedTable
+tableOf w = wantedTable (at w 1) (at w 2) (at w 3) (at w 4) (at w 5)
+
+-- 29: a count, then items
+abbrev pub itemsFrom : Line → Items
+itemsFrom w = record { count = at w 1; first = at w 2; second = at w 3; third = at w 4; fourth = at w 5 }
+
+-- a span: to, from, length
+abbrev pub spanOf : ℕ → ℕ → ℕ → CopySpan
+spanOf to from len = record { to = to; from = from; len = len }
+
+-- what a line of a code says
+unfoldable pub byCode : ℕ → Line → Read
+byCode k w =
+    pick (eqb k 0x00) (taking 2 w (makingRanges (at w 0) (at w 1)) (read.Making (yes (at w 0)) (at w 1)))
+    (pick (eqb k 0x01) (taking 1 w true (onFuel (fuel.SetFuel (at w 0))))
+    (pick (eqb k 0x02) (taking 0 w true (onFuel fuel.GetFuel))
+    (pick (eqb k 0x03) (taking 1 w true (onFuel (fuel.Charge (at w 0))))
+    (pick (eqb k 0x04) (taking 2 w true (onFuel (fuel.SetLimiter (record { count = at w 0; digits = at w 1 }))))
+    (pick (eqb k 0x10) (taking 6 w (memoryIn w) (read.Operation (op.NewMemory (at w 0) (memoryOf w))))
+    (pick (eqb k 0x11) (taking 2 w true (onMemory w (memory.Grow (at w 1))))
+    (pick (eqb k 0x12) (taking 1 w true (onMemory w memory.Size))
+    (pick (eqb k 0x13) (taking 4 w (leb (at w 1) 13) (onMemory w (memory.Load (loadKindOf (at w 1)) (at w 2) (at w 3))))
+    (pick (eqb k 0x14) (taking 5 w (leb (at w 1) 8) (onMemory w (memory.Store (storeKindOf (at w 1)) (at w 2) (at w 3) (at w 4))))
+    (pick (eqb k 0x20) (taking 8 w (tableIn w) (read.Operation (op.NewTable (at w 0) (tableOf w) (referenceOf (at w 6) (at w 7)))))
+    (pick (eqb k 0x21) (taking 4 w (binary (at w 2)) (onTable w (table.Grow (at w 1) (referenceOf (at w 2) (at w 3)))))
+    (pick (eqb k 0x22) (taking 1 w true (onTable w table.Size))
+    (pick (eqb k 0x23) (taking 2 w true (onTable w (table.Get (at w 1))))
+    (pick (eqb k 0x24) (taking 4 w (binary (at w 2)) (onTable w (table.Set (at w 1) (referenceOf (at w 2) (at w 3)))))
+    (pick (eqb k 0x25) (taking 5 w (binary (at w 2)) (onTable w (table.Fill (at w 1) (referenceOf (at w 2) (at w 3)) (at w 4))))
+    (pick (eqb k 0x26) (taking 5 w true (read.Operation (op.TableCopy (at w 0) (at w 2) (spanOf (at w 1) (at w 3) (at w 4)))))
+    (pick (eqb k 0x27) (taking 5 w true (read.Operation (op.TableInit (at w 0) (at w 1) (spanOf (at w 2) (at w 3) (at w 4)))))
+    (pick (eqb k 0x28) (taking 1 w true (read.Operation (op.DropSegment (at w 0))))
+    (pick (eqb k 0x29) (taking (2 + at w 1) w (segmentRanges (at w 0) (at w 1)) (read.Operation (op.NewSegment (kindOf (at w 0)) (itemsFrom w))))
+    (pick (eqb k 0x30) (taking 6 w (memoryIn w) (onMemory w (memory.LinkCheck (memoryOf w))))
+    read.Malformed))))))))))))))))))))
+
+-- what a good line says
+unfoldable pub meant : Line → Read
+meant w = byCode (w .code) w
+
+-- what a line's numbers say
+unfoldable pub operationOf : Line → Read
+operationOf w = pick (w .good) (meant w) read.Malformed
+
+-- what a line of text says
+unfoldable pub readLine : List ℕ → Read
 readLine l = operationOf (lineOf l)
-
--- the way back: an operation's code and fields
-unfoldable pub codeOf : Operation → ℕ
-codeOf (Make metering copied) = 0
-codeOf (SetFuel amount) = 1
-codeOf GetFuel = 2
-codeOf (Charge units) = 3
-codeOf (SetLimiter count digits) = 4
-codeOf (NewMemory room wide bounded minimum maximum exponent) = 16
-codeOf (GrowMemory memory pages) = 17
-codeOf (MemorySize memory) = 18
-codeOf (Load memory kind pointer offset) = 19
-codeOf (Store memory kind pointer offset bits) = 20
-codeOf (NewTable room kind wide bounded minimum maximum initial bits) = 32
-codeOf (GrowTable table cells kind bits) = 33
-codeOf (TableSize table) = 34
-codeOf (TableGet table index) = 35
-codeOf (TableSet table index kind bits) = 36
-codeOf (TableFill table start kind bits len) = 37
-codeOf (TableCopy into to source from len) = 38
-codeOf (TableInit table segment to from len) = 39
-codeOf (DropSegment segment) = 40
-codeOf (NewSegment kind count first second third fourth) = 41
-codeOf (LinkCheck memory wide bounded minimum maximum exponent) = 48
-
-unfoldable pub fieldsBack : Operation → List ℕ
-fieldsBack (Make metering copied) = metering ∷ copied ∷ []
-fieldsBack (SetFuel amount) = amount ∷ []
-fieldsBack GetFuel = []
-fieldsBack (Charge units) = units ∷ []
-fieldsBack (SetLimiter count digits) = count ∷ digits ∷ []
-fieldsBack (NewMemory room wide bounded minimum maximum exponent) = room ∷ wide ∷ bounded ∷ minimum ∷ maximum ∷ exponent ∷ []
-fieldsBack (GrowMemory memory pages) = memory ∷ pages ∷ []
-fieldsBack (MemorySize memory) = memory ∷ []
-fieldsBack (Load memory kind pointer offset) = memory ∷ kind ∷ pointer ∷ offset ∷ []
-fieldsBack (Store memory kind pointer offset bits) = memory ∷ kind ∷ pointer ∷ offset ∷ bits ∷ []
-fieldsBack (NewTable room kind wide bounded minimum maximum initial bits) = room ∷ kind ∷ wide ∷ bounded ∷ minimum ∷ maximum ∷ initial ∷ bits ∷ []
-fieldsBack (GrowTable table cells kind bits) = table ∷ cells ∷ kind ∷ bits ∷ []
-fieldsBack (TableSize table) = table ∷ []
-fieldsBack (TableGet table index) = table ∷ index ∷ []
-fieldsBack (TableSet table index kind bits) = table ∷ index ∷ kind ∷ bits ∷ []
-fieldsBack (TableFill table start kind bits len) = table ∷ start ∷ kind ∷ bits ∷ len ∷ []
-fieldsBack (TableCopy into to source from len) = into ∷ to ∷ source ∷ from ∷ len ∷ []
-fieldsBack (TableInit table segment to from len) = table ∷ segment ∷ to ∷ from ∷ len ∷ []
-fieldsBack (DropSegment segment) = segment ∷ []
-fieldsBack (NewSegment kind count first second third fourth) = kind ∷ count ∷ take count (first ∷ second ∷ third ∷ fourth ∷ [])
-fieldsBack (LinkCheck memory wide bounded minimum maximum exponent) = memory ∷ wide ∷ bounded ∷ minimum ∷ maximum ∷ exponent ∷ []
-
--- an operation as a line of text
-unfoldable pub writeLine : Operation → List ℕ
-writeLine op = lineText (codeOf op) (fieldsBack op)

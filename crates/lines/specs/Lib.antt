@@ -1,10 +1,11 @@
 pub mod Hex
 pub mod Line
+pub mod Fields
 pub mod Code
+pub mod Writing
+pub mod Sayable
 pub mod AnswerLine
 pub mod Session
 pub mod Pieces
-pub mod Digits
-pub mod Written
-pub mod Sayable
 pub mod Progress
+pub mod stages

@@ -2,20 +2,33 @@
 use Prim.Native.Nat.{ℕ, zero, suc, _+_}
 use mathlib.Core.Bool.{true, false}
 use mathlib.Core.List.{List, [], _∷_, _++_}
-use lib.Dec.{eqb}
+use lib.Dec.{eqb, ltb}
 use lib.ListN.{length, drop, getD, replicate}
 use Rattle.types.specs.Pick.{pick}
 use Rattle.types.specs.Span.{over}
+use Rattle.types.specs.Done.{Done, done}
 use Rattle.lines.specs.Hex.{hexFrom, hexText}
 use Rattle.lines.specs.declared.field.Field.{Field}
 use Rattle.lines.specs.declared.field.Field.the-variants.{Value, Bad}
 use Rattle.lines.specs.declared.line.Line.{Line}
+
+-- a space stands before each field, and LF ends a line
+abbrev pub space : ℕ
+space = 32
+
+abbrev pub lf : ℕ
+lf = 10
+
+-- over so many characters a line is malformed, whatever it holds
+abbrev pub longest : ℕ
+longest = 160
 
 -- the fields of a line, where they are fields
 pub data Got : Type 0 where
   none : Got
   some : List ℕ → Got
 
+-- a number, and the fields that follow it
 unfoldable pub then : ℕ → Got → Got
 then v none = none
 then v (some l) = some (v ∷ l)
@@ -25,6 +38,7 @@ unfoldable pub thenField : Field → Got → Got
 thenField Bad g = none
 thenField (Value v) g = then v g
 
+-- nothing follows the last field
 unfoldable pub ended : List ℕ → Got
 ended [] = some []
 ended (b ∷ l) = none
@@ -32,14 +46,14 @@ ended (b ∷ l) = none
 -- nothing, or a space, a field and what follows it
 unfoldable pub headed : List ℕ → Field → Got → Got
 headed [] f g = some []
-headed (b ∷ l) f g = pick (eqb b 32) (thenField f g) none
+headed (b ∷ l) f g = pick (eqb b space) (thenField f g) none
 
 -- at most n fields, up to the end
 unfoldable pub fieldsOf : ℕ → List ℕ → Got
 fieldsOf zero l = ended l
 fieldsOf (suc n) l = headed l (hexFrom 16 0 (drop 1 l)) (fieldsOf n (drop 17 l))
 
--- a line as numbers: whether it is a code and fields, the code, how many fields, and the fields with zeros up to 8
+-- a line as numbers: whether it is a code and fields, the code, how many fields, and the fields with zeros up to 8; this one is none
 abbrev pub noLine : Line
 noLine = record { good = false; code = 0; count = 0; list = replicate 8 0 }
 
@@ -48,20 +62,28 @@ unfoldable pub filled : ℕ → ℕ → List ℕ → Got → Line
 filled code n list none = noLine
 filled code n list (some l) = record { good = true; code = code; count = n + length l; list = over list n l }
 
+-- a code, and fields behind it
 unfoldable pub coded : Field → Got → Line
 coded Bad g = noLine
 coded (Value code) g = filled code 0 (replicate 8 0) g
 
+-- a text as a line's numbers
 unfoldable pub lineOf : List ℕ → Line
 lineOf l = coded (hexFrom 2 0 l) (fieldsOf 8 (drop 2 l))
 
+-- a field, 0 behind the last
 abbrev pub at : Line → ℕ → ℕ
 at w i = getD (w .list) i 0
 
--- the way back: a code and fields as text
+-- the way back: fields as text
 unfoldable pub fieldsText : List ℕ → List ℕ
 fieldsText [] = []
-fieldsText (v ∷ l) = 32 ∷ (hexText 16 v ++ fieldsText l)
+fieldsText (v ∷ l) = space ∷ (hexText 16 v ++ fieldsText l)
 
+-- a code and fields as text
 unfoldable pub lineText : ℕ → List ℕ → List ℕ
 lineText code fields = hexText 2 code ++ fieldsText fields
+
+-- a text at the start of a buffer and its length; 0 and nothing written where the buffer has less room
+unfoldable pub wroteOf : List ℕ → List ℕ → Done ℕ
+wroteOf l text = pick (ltb (length l) (length text)) (done 0 l) (done (length text) (over l 0 text))

@@ -6,22 +6,18 @@ use mathlib.Core.List.{List, [], _∷_, _++_}
 use lib.Dec.{ltb, leb, eqb}
 use lib.ListN.{length, take, drop}
 use Rattle.types.specs.Pick.{pick}
-use Rattle.types.specs.Answer.{refuse}
-use Rattle.lines.specs.Session.{Held, Turn, turned, turnOf, textOf, session}
+use Rattle.lines.specs.Line.{lf, longest}
+use Rattle.lines.specs.Session.{Held, malformed, turnOf, textOf, session}
 
 -- the bytes before the first LF
 unfoldable pub lfAt : List ℕ → ℕ
 lfAt [] = 0
-lfAt (b ∷ l) = pick (eqb b 10) 0 (suc (lfAt l))
-
--- what a line that is too long gives
-abbrev pub overlong : Held → Turn
-overlong h = turned (refuse 18 0) (h .machine) (h .buffers)
+lfAt (b ∷ l) = pick (eqb b lf) 0 (suc (lfAt l))
 
 -- what is left of a session, inside a line that is too long already or not
 unfoldable pub sessionFrom : Bool → ℕ → Held → List ℕ → List ℕ
 sessionFrom false r h l = session r h l
-sessionFrom true r h l = textOf (overlong h) ++ session r (overlong h .held) (drop (lfAt l + 1) l)
+sessionFrom true r h l = textOf (malformed h) ++ session r (malformed h .held) (drop (lfAt l + 1) l)
 
 -- what a run over a piece gives: bytes out, bytes used, what is held, and whether it ended inside a line that is too long
 pub record Run : Type 0 where
@@ -30,9 +26,11 @@ pub record Run : Type 0 where
   pub held : Held
   pub skip : Bool
 
+-- nothing was done
 abbrev pub still : Held → Run
 still h = record { out = []; used = 0; held = h; skip = false }
 
+-- so many bytes written and used before a run
 abbrev pub ahead : List ℕ → ℕ → Run → Run
 ahead t n x = record { out = t ++ x .out; used = n + x .used; held = x .held; skip = x .skip }
 
@@ -48,7 +46,7 @@ wholeLines (suc k) r h l =
 unfoldable pub closeOf : List ℕ → Run → Run
 closeOf l x =
     pick (ltb (lfAt (drop (x .used) l)) (length (drop (x .used) l))) x
-    (pick (leb (length (drop (x .used) l)) 160) x (record { out = x .out; used = length l; held = x .held; skip = true }))
+    (pick (leb (length (drop (x .used) l)) longest) x (record { out = x .out; used = length l; held = x .held; skip = true }))
 
 -- at most k answers of a piece
 unfoldable pub pieceOf : ℕ → Bool → ℕ → Held → List ℕ → Run
@@ -56,7 +54,7 @@ pieceOf k false r h l = closeOf l (wholeLines k r h l)
 pieceOf zero true r h l = record { out = []; used = 0; held = h; skip = true }
 pieceOf (suc k) true r h l =
     pick (ltb (lfAt l) (length l))
-    (closeOf l (ahead (textOf (overlong h)) (lfAt l + 1) (wholeLines k r (overlong h .held) (drop (lfAt l + 1) l))))
+    (closeOf l (ahead (textOf (malformed h)) (lfAt l + 1) (wholeLines k r (malformed h .held) (drop (lfAt l + 1) l))))
     (record { out = []; used = length l; held = h; skip = true })
 
 -- a host: what is held, whether a line is being passed over, what is left unused, and what was written
@@ -71,17 +69,21 @@ pub record Feed : Type 0 where
   pub room : ℕ
   pub bytes : List ℕ
 
+-- the run that a host makes when bytes come in
 abbrev pub ranOf : ℕ → Host → Feed → Run
 ranOf r h x = pieceOf (x .room) (h .skip) r (h .held) (h .tail ++ x .bytes)
 
+-- a host after bytes came in
 unfoldable pub fed : ℕ → Host → Feed → Host
 fed r h x =
     record { held = ranOf r h x .held; skip = ranOf r h x .skip; tail = drop (ranOf r h x .used) (h .tail ++ x .bytes); sent = h .sent ++ ranOf r h x .out }
 
+-- a host after all that came in
 unfoldable pub fedAll : ℕ → Host → List Feed → Host
 fedAll r h [] = h
 fedAll r h (x ∷ xs) = fedAll r (fed r h x) xs
 
+-- all bytes that came in
 unfoldable pub whole : List Feed → List ℕ
 whole [] = []
 whole (x ∷ xs) = x .bytes ++ whole xs

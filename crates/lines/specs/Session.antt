@@ -1,24 +1,22 @@
 -- Document 01, "Operation lines": a session, from the bytes that go in to the bytes that come out.
-use Prim.Native.Nat.{ℕ, _^_}
-use mathlib.Core.Bool.{Bool, true, false}
+use Prim.Native.Nat.{ℕ}
+use mathlib.Core.Bool.{Bool, false}
 use mathlib.Core.List.{List, [], _∷_, _++_}
-use lib.Dec.{ltb, eqb}
-use Rattle.types.specs.Pick.{pick, both}
+use lib.Dec.{eqb}
+use Rattle.types.specs.Pick.{pick}
 use Rattle.types.specs.Answer.{refuse, accept}
 use Rattle.types.specs.Fuel.{defaultCosts}
 use Rattle.types.specs.declared.answer.Answer.{Answer}
 use Rattle.types.specs.declared.fuel.FuelCosts.{FuelCosts}
-use Rattle.machine.specs.Machine.{Buffers, freshMachine}
-use Rattle.machine.specs.Operation.{binary, yes}
+use Rattle.machine.specs.Machine.{Buffers, buffers, freshMachine}
 use Rattle.machine.specs.Step.{Stepped, step}
 use Rattle.machine.specs.declared.records.Machine.{Machine}
 use Rattle.machine.specs.declared.operation.Operation.{Operation}
-use Rattle.lines.specs.Line.{lineOf, at}
-use Rattle.lines.specs.Code.{operationOf}
+use Rattle.lines.specs.Line.{lf}
+use Rattle.lines.specs.Code.{readLine}
 use Rattle.lines.specs.AnswerLine.{answerLine}
-use Rattle.lines.specs.declared.line.Line.{Line}
-use Rattle.lines.specs.declared.code.Parsed.{Parsed}
-use Rattle.lines.specs.declared.code.Parsed.the-variants.{Good, Malformed}
+use Rattle.lines.specs.declared.code.Read.{Read}
+use Rattle.lines.specs.declared.code.Read.the-variants as read
 
 -- a machine on its buffers, and whether the next line is the first
 pub record Held : Type 0 where
@@ -26,54 +24,64 @@ pub record Held : Type 0 where
   pub first : Bool
   pub buffers : Buffers
 
+-- a machine, and whether the next line is the first, on three buffers
+abbrev pub heldOn : Machine → Bool → List ℕ → List ℕ → List ℕ → Held
+heldOn m first bytes cells items = record { machine = m; first = first; buffers = buffers bytes cells items }
+
 -- what a line gives: its answer, and what is held after it
 pub record Turn : Type 0 where
   pub answer : Answer
   pub held : Held
 
+-- an answer, and machine and buffers after it; the next line is not the first
 abbrev pub turned : Answer → Machine → Buffers → Turn
 turned a m b = record { answer = a; held = record { machine = m; first = false; buffers = b } }
 
--- 00 on the first line, its fields in range: the machine is fresh after it, the buffers are as they were
-unfoldable pub makes : Line → Bool
-makes w =
-    both (w .good)
-    (both (eqb (w .code) 0) (both (eqb (w .count) 2) (both (binary (at w 0)) (ltb (at w 1) (2 ^ 32)))))
+-- what an operation gave
+abbrev pub turnedAs : Stepped → Turn
+turnedAs s = turned (s .answer) (s .machine) (s .buffers)
 
+-- 18, and nothing changes
+abbrev pub malformed : Held → Turn
+malformed h = turned (refuse 18 0) (h .machine) (h .buffers)
+
+-- the costs of a machine that 00 makes: B, the others as by default
 abbrev pub costsOf : ℕ → FuelCosts
 costsOf copied = record { copied = copied; translated = defaultCosts .translated; validated = defaultCosts .validated }
 
-unfoldable pub madeOf : Buffers → Line → Turn
-madeOf b w = turned (accept 0) (freshMachine (yes (at w 0)) (costsOf (at w 1))) b
+-- 00: the machine is fresh after it, the buffers are as they were
+abbrev pub remade : Buffers → Bool → ℕ → Turn
+remade b metering copied = turned (accept 0) (freshMachine metering (costsOf copied)) b
 
--- any other line is one operation on the machine, or 18
-unfoldable pub operated : ℕ → Machine → Buffers → Parsed → Turn
-operated r m b (Good op) = turned (step r m b op .answer) (step r m b op .machine) (step r m b op .buffers)
-operated r m b Malformed = turned (refuse 18 0) m b
+-- a line is one operation on the machine; the first line alone can make it anew; anything else is 18
+unfoldable pub turnBy : ℕ → Held → Read → Turn
+turnBy r h (read.Operation op) = turnedAs (step r (h .machine) (h .buffers) op)
+turnBy r h (read.Making metering copied) = pick (h .first) (remade (h .buffers) metering copied) (malformed h)
+turnBy r h read.Malformed = malformed h
 
-unfoldable pub turnBy : ℕ → Held → Line → Turn
-turnBy r h w =
-    pick (both (h .first) (makes w)) (madeOf (h .buffers) w) (operated r (h .machine) (h .buffers) (operationOf w))
-
+-- what a line of text gives
 unfoldable pub turnOf : ℕ → Held → List ℕ → Turn
-turnOf r h l = turnBy r h (lineOf l)
+turnOf r h l = turnBy r h (readLine l)
 
+-- the answer line of a turn
 unfoldable pub textOf : Turn → List ℕ
 textOf t = answerLine (t .answer) (t .held .machine .fuel)
 
--- the lines of a text: LF ends one, and the last may lack it
+-- a byte before the lines that follow it
 unfoldable pub onto : ℕ → List (List ℕ) → List (List ℕ)
 onto b [] = (b ∷ []) ∷ []
 onto b (x ∷ xs) = (b ∷ x) ∷ xs
 
+-- the lines of a text: LF ends one, and the last may lack it
 unfoldable pub linesOf : List ℕ → List (List ℕ)
 linesOf [] = []
-linesOf (b ∷ l) = pick (eqb b 10) ([] ∷ linesOf l) (onto b (linesOf l))
+linesOf (b ∷ l) = pick (eqb b lf) ([] ∷ linesOf l) (onto b (linesOf l))
 
 -- one answer a line
 unfoldable pub answersOf : ℕ → Held → List (List ℕ) → List ℕ
 answersOf r h [] = []
 answersOf r h (x ∷ xs) = textOf (turnOf r h x) ++ answersOf r (turnOf r h x .held) xs
 
+-- a session: the answers to the lines of a text
 unfoldable pub session : ℕ → Held → List ℕ → List ℕ
 session r h l = answersOf r h (linesOf l)

@@ -1,388 +1,369 @@
-// A line's numbers as an operation, by code and number of fields.
+// What a line's numbers say, by code, number of fields and their ranges.
+use super::fields;
 use super::line;
 use super::line::Line;
+use machine::operation::FuelOp;
+use machine::operation::Items;
+use machine::operation::MemoryOp;
 use machine::operation::Operation;
+use machine::operation::Script;
+use machine::operation::TableOp;
+use types::span::CopySpan;
 ghost use mathlib.Core.Path.{_≡_};
-ghost use mathlib.Core.List.{[], _∷_};
-ghost use Rattle.lines.specs.Code.{taking, segmentOf, fuelCode, memoryCode, tableCode, spanCode, operationOf, readLine, writeLine};
-ghost use Rattle.lines.specs.Written.{fieldedOf, backOf, wrote, wroteOf};
+ghost use mathlib.Core.Bool.{true};
+ghost use Prim.Native.Nat.{_+_};
+ghost use lib.Dec.{leb};
+ghost use Rattle.lines.specs.Line.{at};
+ghost use Rattle.lines.specs.Fields.{binary, yes, kindOf, referenceOf, loadKindOf, storeKindOf, makingRanges, segmentRanges};
+ghost use Rattle.lines.specs.Code.{taken, taking, onFuel, onMemory, memoryIn, memoryOf, tableIn, tableOf, meant, operationOf, readLine};
 
-pub enum Parsed {
-    Good(Operation),
+// What a line says.
+pub enum Read {
+    Operation(Operation),
+    Making { metering: bool, copied: u32 },
     Malformed,
 }
 
-// The operation, where the line has that many fields.
-fn taking(n: usize, line: Line, op: Operation) -> Parsed
-    ensures { λ r. ⌜ r ≡ taking n line op ⌝ }
+// What a line of so many fields says where it should have n and they are in range.
+fn taken(count: usize, n: usize, ok: bool, said: Read) -> Read
+    ensures { λ r. ⌜ r ≡ taken count n ok said ⌝ }
 {
-    let count = line.count;
-    if count == n {
-        return Parsed::Good(op);
+    if count != n {
+        return Read::Malformed;
     }
-    Parsed::Malformed
+    if ok {
+        return said;
+    }
+    Read::Malformed
 }
 
-// A segment has as many items as its count says, up to 4.
-fn segment_of(line: Line) -> Parsed
-    ensures { λ r. ⌜ r ≡ segmentOf line ⌝ }
+// 00: metering, and B below 2^32.
+fn making_of(count: usize, metering: u64, copied: u64) -> Read
+    ensures { λ r. ⌜ r ≡ taken count 2 (makingRanges metering copied) (Read.Making (yes metering) copied) ⌝ }
 {
-    let count = line.list[1];
-    if count <= 4 {
-        return taking(
-            2 + (count as usize),
-            line,
-            Operation::NewSegment {
-                kind: line.list[0],
-                count,
-                first: line.list[2],
-                second: line.list[3],
-                third: line.list[4],
-                fourth: line.list[5],
-            },
-        );
+    if 4294967296 <= copied {
+        return Read::Malformed;
     }
-    Parsed::Malformed
+    taken(
+        count,
+        2,
+        metering < 2,
+        Read::Making {
+            metering: metering == 1,
+            copied: copied as u32,
+        },
+    )
 }
 
-// A good line's operation: the codes are hexadecimal in text, so that 16 here is written 10.
-fn operation_by(line: Line) -> Parsed
-    ensures { λ r. ⌜ r ≡ fuelCode line (memoryCode line (tableCode line (spanCode line Parsed.Malformed))) ⌝ }
+// 01 to 04: fuel and limiter.
+fn on_fuel(count: usize, n: usize, op: FuelOp) -> Read
+    ensures { λ r. ⌜ r ≡ taken count n true (onFuel op) ⌝ }
+{
+    taken(count, n, true, Read::Operation(Operation::Fuel { op }))
+}
+
+// 11 to 14 and 30: an operation of one memory.
+fn on_memory(count: usize, n: usize, ok: bool, number: u64, op: MemoryOp) -> Read
+    ensures { λ r. ⌜ r ≡ taken count n ok (Read.Operation (Operation.Memory number op)) ⌝ }
+{
+    taken(
+        count,
+        n,
+        ok,
+        Read::Operation(Operation::Memory { number, op }),
+    )
+}
+
+// 21 to 25: an operation of one table.
+fn on_table(count: usize, n: usize, ok: bool, number: u64, op: TableOp) -> Read
+    ensures { λ r. ⌜ r ≡ taken count n ok (Read.Operation (Operation.Table number op)) ⌝ }
+{
+    taken(
+        count,
+        n,
+        ok,
+        Read::Operation(Operation::Table { number, op }),
+    )
+}
+
+// 10: a room, then a memory's type.
+fn new_memory_of(line: Line) -> Read
+    ensures { λ r. ⌜ r ≡ taking 6 line (memoryIn line) (Read.Operation (Operation.NewMemory (at line 0) (memoryOf line))) ⌝ }
+{
+    let wide = line.list[1];
+    let bounded = line.list[2];
+    let maximum = line.list[4];
+    let exponent = line.list[5];
+    let ok = fields::memory_ranges(wide, bounded, maximum, exponent);
+    let wanted = fields::wanted_memory(wide, bounded, line.list[3], maximum, exponent);
+    taken(
+        line.count,
+        6,
+        ok,
+        Read::Operation(Operation::NewMemory {
+            room: line.list[0],
+            wanted,
+        }),
+    )
+}
+
+// 13: a load kind, pointer and offset.
+fn load_of(count: usize, number: u64, kind: u64, pointer: u64, offset: u64) -> Read
+    ensures { λ r. ⌜ r ≡ taken count 4 (leb kind 13) (Read.Operation (Operation.Memory number (MemoryOp.Load (loadKindOf kind) pointer offset))) ⌝ }
+{
+    let ok = kind <= 13;
+    let kind = fields::load_kind_of(kind);
+    on_memory(
+        count,
+        4,
+        ok,
+        number,
+        MemoryOp::Load {
+            kind,
+            pointer,
+            offset,
+        },
+    )
+}
+
+// 14: a store kind, pointer, offset and bits.
+fn store_of(count: usize, number: u64, kind: u64, pointer: u64, offset: u64, bits: u64) -> Read
+    ensures { λ r. ⌜ r ≡ taken count 5 (leb kind 8) (Read.Operation (Operation.Memory number (MemoryOp.Store (storeKindOf kind) pointer offset bits))) ⌝ }
+{
+    let ok = kind <= 8;
+    let kind = fields::store_kind_of(kind);
+    on_memory(
+        count,
+        5,
+        ok,
+        number,
+        MemoryOp::Store {
+            kind,
+            pointer,
+            offset,
+            bits,
+        },
+    )
+}
+
+// 20: a room, then a table's type, then the initial reference.
+fn new_table_of(line: Line) -> Read
+    ensures { λ r. ⌜ r ≡ taking 8 line (tableIn line) (Read.Operation (Operation.NewTable (at line 0) (tableOf line) (referenceOf (at line 6) (at line 7)))) ⌝ }
+{
+    let kind = line.list[1];
+    let wide = line.list[2];
+    let bounded = line.list[3];
+    let maximum = line.list[5];
+    let initial = line.list[6];
+    let ok = fields::new_table_ranges(kind, wide, bounded, maximum, initial);
+    let wanted = fields::wanted_table(kind, wide, bounded, line.list[4], maximum);
+    let initial = fields::reference_of(initial, line.list[7]);
+    taken(
+        line.count,
+        8,
+        ok,
+        Read::Operation(Operation::NewTable {
+            room: line.list[0],
+            wanted,
+            initial,
+        }),
+    )
+}
+
+// 21: cells, then the reference that fills them.
+fn grow_table_of(count: usize, number: u64, cells: u64, kind: u64, bits: u64) -> Read
+    ensures { λ r. ⌜ r ≡ taken count 4 (binary kind) (Read.Operation (Operation.Table number (TableOp.Grow cells (referenceOf kind bits)))) ⌝ }
+{
+    let value = fields::reference_of(kind, bits);
+    on_table(count, 4, kind < 2, number, TableOp::Grow { cells, value })
+}
+
+// 24: an index and a reference.
+fn set_of(count: usize, number: u64, index: u64, kind: u64, bits: u64) -> Read
+    ensures { λ r. ⌜ r ≡ taken count 4 (binary kind) (Read.Operation (Operation.Table number (TableOp.Set index (referenceOf kind bits)))) ⌝ }
+{
+    let value = fields::reference_of(kind, bits);
+    on_table(count, 4, kind < 2, number, TableOp::Set { index, value })
+}
+
+// 25: a start, a reference and a length.
+fn fill_of(count: usize, number: u64, start: u64, kind: u64, bits: u64, len: u64) -> Read
+    ensures { λ r. ⌜ r ≡ taken count 5 (binary kind) (Read.Operation (Operation.Table number (TableOp.Fill start (referenceOf kind bits) len))) ⌝ }
+{
+    let value = fields::reference_of(kind, bits);
+    on_table(
+        count,
+        5,
+        kind < 2,
+        number,
+        TableOp::Fill { start, value, len },
+    )
+}
+
+// 26: two tables and a span.
+fn copy_of(count: usize, into: u64, source: u64, span: CopySpan) -> Read
+    ensures { λ r. ⌜ r ≡ taken count 5 true (Read.Operation (Operation.TableCopy into source span)) ⌝ }
+{
+    taken(
+        count,
+        5,
+        true,
+        Read::Operation(Operation::TableCopy { into, source, span }),
+    )
+}
+
+// 27: a table, a segment and a span.
+fn init_of(count: usize, table: u64, segment: u64, span: CopySpan) -> Read
+    ensures { λ r. ⌜ r ≡ taken count 5 true (Read.Operation (Operation.TableInit table segment span)) ⌝ }
+{
+    taken(
+        count,
+        5,
+        true,
+        Read::Operation(Operation::TableInit {
+            table,
+            segment,
+            span,
+        }),
+    )
+}
+
+// 28: a segment.
+fn drop_of(count: usize, segment: u64) -> Read
+    ensures { λ r. ⌜ r ≡ taken count 1 true (Read.Operation (Operation.DropSegment segment)) ⌝ }
+{
+    taken(
+        count,
+        1,
+        true,
+        Read::Operation(Operation::DropSegment { segment }),
+    )
+}
+
+// 29: a kind, a count up to 4, then that many items.
+fn segment_of(count: usize, kind: u64, items: Items) -> Read
+    ensures { λ r. ⌜ r ≡ taken count (2 + items .count) (segmentRanges kind (items .count)) (Read.Operation (Operation.NewSegment (kindOf kind) items)) ⌝ }
+{
+    let n = items.count;
+    if 4 < n {
+        return Read::Malformed;
+    }
+    let element = fields::kind_of(kind);
+    taken(
+        count,
+        2 + (n as usize),
+        kind < 2,
+        Read::Operation(Operation::NewSegment { element, items }),
+    )
+}
+
+// 30: a memory, then a memory's type.
+fn link_check_of(line: Line) -> Read
+    ensures { λ r. ⌜ r ≡ taking 6 line (memoryIn line) (onMemory line (MemoryOp.LinkCheck (memoryOf line))) ⌝ }
+{
+    let wide = line.list[1];
+    let bounded = line.list[2];
+    let maximum = line.list[4];
+    let exponent = line.list[5];
+    let ok = fields::memory_ranges(wide, bounded, maximum, exponent);
+    let wanted = fields::wanted_memory(wide, bounded, line.list[3], maximum, exponent);
+    on_memory(
+        line.count,
+        6,
+        ok,
+        line.list[0],
+        MemoryOp::LinkCheck { wanted },
+    )
+}
+
+// What a good line says, by its code.
+fn operation_by(line: Line) -> Read
+    ensures { λ r. ⌜ r ≡ meant line ⌝ }
 {
     let code = line.code;
+    let n = line.count;
     let a = line.list[0];
     let b = line.list[1];
     let c = line.list[2];
     let d = line.list[3];
     let e = line.list[4];
     let f = line.list[5];
-    let g = line.list[6];
-    let h = line.list[7];
     match code {
-        0 => taking(
+        0x00 => making_of(n, a, b),
+        0x01 => on_fuel(n, 1, FuelOp::SetFuel { amount: a }),
+        0x02 => on_fuel(n, 0, FuelOp::GetFuel),
+        0x03 => on_fuel(n, 1, FuelOp::Charge { units: a }),
+        0x04 => on_fuel(
+            n,
             2,
-            line,
-            Operation::Make {
-                metering: a,
-                copied: b,
+            FuelOp::SetLimiter {
+                script: Script {
+                    count: a,
+                    digits: b,
+                },
             },
         ),
-        1 => taking(1, line, Operation::SetFuel { amount: a }),
-        2 => taking(0, line, Operation::GetFuel),
-        3 => taking(1, line, Operation::Charge { units: a }),
-        4 => taking(
-            2,
-            line,
-            Operation::SetLimiter {
-                count: a,
-                digits: b,
-            },
-        ),
-        16 => taking(
-            6,
-            line,
-            Operation::NewMemory {
-                room: a,
-                wide: b,
-                bounded: c,
-                minimum: d,
-                maximum: e,
-                exponent: f,
-            },
-        ),
-        17 => taking(
-            2,
-            line,
-            Operation::GrowMemory {
-                memory: a,
-                pages: b,
-            },
-        ),
-        18 => taking(1, line, Operation::MemorySize { memory: a }),
-        19 => taking(
-            4,
-            line,
-            Operation::Load {
-                memory: a,
-                kind: b,
-                pointer: c,
-                offset: d,
-            },
-        ),
-        20 => taking(
-            5,
-            line,
-            Operation::Store {
-                memory: a,
-                kind: b,
-                pointer: c,
-                offset: d,
-                bits: e,
-            },
-        ),
-        48 => taking(
-            6,
-            line,
-            Operation::LinkCheck {
-                memory: a,
-                wide: b,
-                bounded: c,
-                minimum: d,
-                maximum: e,
-                exponent: f,
-            },
-        ),
-        32 => taking(
-            8,
-            line,
-            Operation::NewTable {
-                room: a,
-                kind: b,
-                wide: c,
-                bounded: d,
-                minimum: e,
-                maximum: f,
-                initial: g,
-                bits: h,
-            },
-        ),
-        33 => taking(
-            4,
-            line,
-            Operation::GrowTable {
-                table: a,
-                cells: b,
-                kind: c,
-                bits: d,
-            },
-        ),
-        34 => taking(1, line, Operation::TableSize { table: a }),
-        35 => taking(2, line, Operation::TableGet { table: a, index: b }),
-        36 => taking(
-            4,
-            line,
-            Operation::TableSet {
-                table: a,
-                index: b,
-                kind: c,
-                bits: d,
-            },
-        ),
-        37 => taking(
-            5,
-            line,
-            Operation::TableFill {
-                table: a,
-                start: b,
-                kind: c,
-                bits: d,
-                len: e,
-            },
-        ),
-        38 => taking(
-            5,
-            line,
-            Operation::TableCopy {
-                into: a,
+        0x10 => new_memory_of(line),
+        0x11 => on_memory(n, 2, true, a, MemoryOp::Grow { pages: b }),
+        0x12 => on_memory(n, 1, true, a, MemoryOp::Size),
+        0x13 => load_of(n, a, b, c, d),
+        0x14 => store_of(n, a, b, c, d, e),
+        0x20 => new_table_of(line),
+        0x21 => grow_table_of(n, a, b, c, d),
+        0x22 => on_table(n, 1, true, a, TableOp::Size),
+        0x23 => on_table(n, 2, true, a, TableOp::Get { index: b }),
+        0x24 => set_of(n, a, b, c, d),
+        0x25 => fill_of(n, a, b, c, d, e),
+        0x26 => copy_of(
+            n,
+            a,
+            c,
+            CopySpan {
                 to: b,
-                source: c,
                 from: d,
                 len: e,
             },
         ),
-        39 => taking(
-            5,
-            line,
-            Operation::TableInit {
-                table: a,
-                segment: b,
+        0x27 => init_of(
+            n,
+            a,
+            b,
+            CopySpan {
                 to: c,
                 from: d,
                 len: e,
             },
         ),
-        40 => taking(1, line, Operation::DropSegment { segment: a }),
-        41 => segment_of(line),
-        _ => Parsed::Malformed,
+        0x28 => drop_of(n, a),
+        0x29 => segment_of(
+            n,
+            a,
+            Items {
+                count: b,
+                first: c,
+                second: d,
+                third: e,
+                fourth: f,
+            },
+        ),
+        0x30 => link_check_of(line),
+        _ => Read::Malformed,
     }
 }
 
-// A line's numbers as an operation.
-pub fn operation_of(line: Line) -> Parsed
+// What a line's numbers say: the one place where 18 is decided of codes and fields.
+pub fn operation_of(line: Line) -> Read
     ensures { λ r. ⌜ r ≡ operationOf line ⌝ }
 {
     if line.good {
         return operation_by(line);
     }
-    Parsed::Malformed
+    Read::Malformed
 }
 
-// A line of text as an operation.
-pub fn read_line(s: &[u8]) -> Parsed
+// What a line of text says.
+pub fn read_line(s: &[u8]) -> Read
     ensures { λ r. ⌜ r ≡ readLine (now (s .entry)) ⌝ }
 {
     operation_of(line::read(s))
-}
-
-// A line of so many fields; those past them are given as 0.
-fn fielded(
-    code: u64,
-    count: usize,
-    a: u64,
-    b: u64,
-    c: u64,
-    d: u64,
-    e: u64,
-    f: u64,
-    g: u64,
-    h: u64,
-) -> Line
-    ensures { λ r. ⌜ r ≡ fieldedOf code count (a ∷ b ∷ c ∷ d ∷ e ∷ f ∷ g ∷ h ∷ []) ⌝ }
-{
-    Line {
-        good: true,
-        code,
-        count,
-        list: [a, b, c, d, e, f, g, h],
-    }
-}
-
-// A segment has as many items as its count says, up to 4.
-fn segment_back(kind: u64, count: u64, first: u64, second: u64, third: u64, fourth: u64) -> Line
-    ensures { λ r. ⌜ r ≡ backOf (Operation.NewSegment kind count first second third fourth) ⌝ }
-{
-    match count {
-        0 => fielded(41, 2, kind, count, 0, 0, 0, 0, 0, 0),
-        1 => fielded(41, 3, kind, count, first, 0, 0, 0, 0, 0),
-        2 => fielded(41, 4, kind, count, first, second, 0, 0, 0, 0),
-        3 => fielded(41, 5, kind, count, first, second, third, 0, 0, 0),
-        _ => fielded(41, 6, kind, count, first, second, third, fourth, 0, 0),
-    }
-}
-
-// An operation's code and fields.
-fn fields_back(op: Operation) -> Line
-    ensures { λ r. ⌜ r ≡ backOf op ⌝ }
-{
-    match op {
-        Operation::Make { metering, copied } => fielded(0, 2, metering, copied, 0, 0, 0, 0, 0, 0),
-        Operation::SetFuel { amount } => fielded(1, 1, amount, 0, 0, 0, 0, 0, 0, 0),
-        Operation::GetFuel => fielded(2, 0, 0, 0, 0, 0, 0, 0, 0, 0),
-        Operation::Charge { units } => fielded(3, 1, units, 0, 0, 0, 0, 0, 0, 0),
-        Operation::SetLimiter { count, digits } => fielded(4, 2, count, digits, 0, 0, 0, 0, 0, 0),
-        Operation::NewMemory {
-            room,
-            wide,
-            bounded,
-            minimum,
-            maximum,
-            exponent,
-        } => fielded(16, 6, room, wide, bounded, minimum, maximum, exponent, 0, 0),
-        Operation::GrowMemory { memory, pages } => fielded(17, 2, memory, pages, 0, 0, 0, 0, 0, 0),
-        Operation::MemorySize { memory } => fielded(18, 1, memory, 0, 0, 0, 0, 0, 0, 0),
-        Operation::Load {
-            memory,
-            kind,
-            pointer,
-            offset,
-        } => fielded(19, 4, memory, kind, pointer, offset, 0, 0, 0, 0),
-        Operation::Store {
-            memory,
-            kind,
-            pointer,
-            offset,
-            bits,
-        } => fielded(20, 5, memory, kind, pointer, offset, bits, 0, 0, 0),
-        Operation::NewTable {
-            room,
-            kind,
-            wide,
-            bounded,
-            minimum,
-            maximum,
-            initial,
-            bits,
-        } => fielded(
-            32,
-            8,
-            room,
-            kind,
-            wide,
-            bounded,
-            minimum,
-            maximum,
-            initial,
-            bits,
-        ),
-        Operation::GrowTable {
-            table,
-            cells,
-            kind,
-            bits,
-        } => fielded(33, 4, table, cells, kind, bits, 0, 0, 0, 0),
-        Operation::TableSize { table } => fielded(34, 1, table, 0, 0, 0, 0, 0, 0, 0),
-        Operation::TableGet { table, index } => fielded(35, 2, table, index, 0, 0, 0, 0, 0, 0),
-        Operation::TableSet {
-            table,
-            index,
-            kind,
-            bits,
-        } => fielded(36, 4, table, index, kind, bits, 0, 0, 0, 0),
-        Operation::TableFill {
-            table,
-            start,
-            kind,
-            bits,
-            len,
-        } => fielded(37, 5, table, start, kind, bits, len, 0, 0, 0),
-        Operation::TableCopy {
-            into,
-            to,
-            source,
-            from,
-            len,
-        } => fielded(38, 5, into, to, source, from, len, 0, 0, 0),
-        Operation::TableInit {
-            table,
-            segment,
-            to,
-            from,
-            len,
-        } => fielded(39, 5, table, segment, to, from, len, 0, 0, 0),
-        Operation::DropSegment { segment } => fielded(40, 1, segment, 0, 0, 0, 0, 0, 0, 0),
-        Operation::NewSegment {
-            kind,
-            count,
-            first,
-            second,
-            third,
-            fourth,
-        } => segment_back(kind, count, first, second, third, fourth),
-        Operation::LinkCheck {
-            memory,
-            wide,
-            bounded,
-            minimum,
-            maximum,
-            exponent,
-        } => fielded(
-            48,
-            6,
-            memory,
-            wide,
-            bounded,
-            minimum,
-            maximum,
-            exponent,
-            0,
-            0,
-        ),
-    }
-}
-
-// An operation as a line of text, at the start of a buffer, and its length; 0 where the buffer has less room. 138 bytes are always enough.
-pub fn write_line(op: Operation, out: &mut [u8]) -> usize
-    ensures { λ r. ⌜ wrote r (now (out .exit)) ≡ wroteOf (now (out .entry)) (writeLine op) ⌝ }
-{
-    line::put_line(out, fields_back(op))
 }

@@ -3,7 +3,7 @@ ghost use Prim.Native.Nat.{_+_, _≤_, _<_};
 ghost use mathlib.Core.Path.{_≡_};
 ghost use lib.ListN.{length, drop};
 ghost use Rattle.types.specs.Span.{over};
-ghost use Rattle.lines.specs.Digits.{digitTable};
+ghost use Rattle.lines.specs.stages.Digits.{digitTable};
 ghost use Rattle.lines.specs.Hex.{digitOf, charOf, hexFrom, hexText};
 
 // A number, or text that is none.

@@ -1,29 +1,31 @@
 // A session: lines of input to lines of answers, a piece at a time.
 use super::answer_line;
+use super::answer_line::ANSWER;
 use super::code;
-use super::code::Parsed;
+use super::code::Read;
 use super::line;
-use super::line::Line;
+use machine::operate::Operated;
+use machine::records::Machine;
 use types::answer::Answer;
 use types::answer::Refusal;
 use types::answer::Value;
 use types::fuel::FuelCosts;
-use lent::operate::operate_kept;
-use machine::operate::Operated;
-use machine::records::Machine;
-use machine::operation::Operation;
-ghost use Prim.Native.Nat.{_+_, _/_, _^_, _≤_, _<_};
+ghost use Prim.Native.Nat.{_+_, _/_, _≤_};
 ghost use mathlib.Core.Path.{_≡_};
 ghost use mathlib.Core.Bool.{true, false};
 ghost use lib.ListN.{length, drop};
+ghost use Rattle.types.specs.Answer.{refuse};
 ghost use Rattle.types.specs.Raw.{rawBytes};
 ghost use Rattle.machine.specs.Machine.{freshMachine};
-ghost use Rattle.machine.specs.Operation.{yes};
-ghost use Rattle.lines.specs.Digits.{digitTable};
-ghost use Rattle.lines.specs.Line.{at};
-ghost use Rattle.lines.specs.Session.{makes, costsOf, turnBy};
+ghost use Rattle.lines.specs.AnswerLine.{answerBytes};
+ghost use Rattle.lines.specs.Session.{heldOn, costsOf, turnBy};
 ghost use Rattle.lines.specs.Pieces.{lfAt, pieceOf};
-ghost use Rattle.lines.specs.Progress.{heldOn, heldBy, turnedBy, operationIn, progressed, progressOf, WholeRan, closedOf};
+ghost use Rattle.lines.specs.Progress.{heldBy, progressed, progressOf};
+ghost use Rattle.lines.specs.stages.Digits.{digitTable};
+ghost use Rattle.lines.specs.stages.Runs.{turnedBy, WholeRan, closedOf};
+
+// A line of more bytes is malformed, whatever it holds.
+const LONGEST: usize = 160;
 
 // A machine, whether the next line is the first, and whether the input is inside a line that is too long already.
 pub struct Session {
@@ -53,32 +55,20 @@ impl Session {
     }
 }
 
-// Whether a line is 00, with its fields in range.
-fn makes(line: Line) -> bool
-    ensures { λ r. ⌜ r ≡ makes line ⌝ }
+// 18.
+fn refused() -> Answer
+    ensures { λ r. ⌜ r ≡ refuse 18 0 ⌝ }
 {
-    if !line.good {
-        return false;
-    }
-    if line.code != 0 {
-        return false;
-    }
-    if line.count != 2 {
-        return false;
-    }
-    if 2 <= line.list[0] {
-        return false;
-    }
-    line.list[1] < 4294967296
+    Answer::Refusal(Refusal {
+        number: 18,
+        amount: 0,
+    })
 }
 
 // The machine that 00 makes.
-fn made(line: Line) -> Machine
-    requires { ⌜ at line 1 < 2 ^ 32 ⌝ }
-    ensures { λ r. ⌜ r ≡ freshMachine (yes (at line 0)) (costsOf (at line 1)) ⌝ }
+fn made(metering: bool, copied: u32) -> Machine
+    ensures { λ r. ⌜ r ≡ freshMachine metering (costsOf copied) ⌝ }
 {
-    let metering = line.list[0] == 1;
-    let copied = line.list[1] as u32;
     Machine::new(
         metering,
         FuelCosts {
@@ -89,40 +79,31 @@ fn made(line: Line) -> Machine
     )
 }
 
-// The operation of a line. A malformed one is as 00 after the first line: 18, and nothing changes.
-fn operation_in(line: Line) -> Operation
-    ensures { λ r. ⌜ r ≡ operationIn line ⌝ }
-{
-    let parsed = code::operation_of(line);
-    match parsed {
-        Parsed::Good(op) => op,
-        Parsed::Malformed => Operation::Make {
-            metering: 0,
-            copied: 0,
-        },
-    }
-}
-
-// What the first line's numbers give: a machine made anew, one operation, or 18.
+// What the first line gives: one operation, a machine made anew, or 18.
 fn turn(
     machine: Machine,
     bytes: &mut [u8],
     cells: &mut [u64],
     items: &mut [u64],
-    line: Line,
+    said: Read,
 ) -> Operated
     ensures { λ r. ⌜ turnedBy r (now (bytes .exit)) (now (cells .exit)) (now (items .exit))
-        ≡ turnBy rawBytes (heldOn machine true (now (bytes .entry)) (now (cells .entry)) (now (items .entry))) line ⌝ }
+        ≡ turnBy rawBytes (heldOn machine true (now (bytes .entry)) (now (cells .entry)) (now (items .entry))) said ⌝ }
 {
-    if makes(line) {
-        let fresh = made(line);
-        return Operated {
-            answer: Answer::Value(Value::Number(0)),
-            machine: fresh,
-        };
+    match said {
+        Read::Operation(op) => machine.operate(bytes, cells, items, op),
+        Read::Making { metering, copied } => {
+            let fresh = made(metering, copied);
+            Operated {
+                answer: Answer::Value(Value::Number(0)),
+                machine: fresh,
+            }
+        }
+        Read::Malformed => {
+            let answer = refused();
+            Operated { answer, machine }
+        }
     }
-    let op = operation_in(line);
-    operate_kept(machine, bytes, cells, items, op)
 }
 
 // The first line's end from a place on, or the length.
@@ -132,7 +113,7 @@ fn find_lf(s: &[u8], from: usize) -> usize
 {
     let mut i = from;
     while i < s.len() {
-        if s[i] == 10 {
+        if s[i] == line::LF {
             return i;
         }
         i += 1;
@@ -169,29 +150,36 @@ fn more_lines(
 ) -> Progress
     requires { ⌜ (now t ≡ digitTable) × (from ≤ length (now input)) × (put ≤ length (now out)) ⌝ }
     ensures { λ r. ⌜ WholeRan (progressed r (now (bytes .exit)) (now (cells .exit)) (now (items .exit)) (now (out .exit)))
-        from put rawBytes (heldOn start false (now (bytes .entry)) (now (cells .entry)) (now (items .entry))) (now (out .entry)) (now (input .entry)) ⌝ }
+        from put (heldOn start false (now (bytes .entry)) (now (cells .entry)) (now (items .entry))) (now (out .entry)) (now (input .entry)) ⌝ }
 {
-    // what the last line gave: every line changes it in one way, so that the machine is moved as a whole
+    // what the last line gave: an operation changes all of it at once, so that the machine is moved as a whole
     let mut last = Operated {
         answer: Answer::Value(Value::Number(0)),
         machine: start,
     };
     let mut used = from;
     let mut wrote = put;
-    let mut room = (out.len() - put) / 37;
+    let mut room = (out.len() - put) / ANSWER;
     while room > 0 {
         let e = find_lf(input, used);
         if input.len() <= e {
             return stopped(last.machine, false, used, wrote);
         }
-        let line = line::read_by_table(t, &input[used..e]);
-        let op = operation_in(line);
-        last = operate_kept(last.machine, bytes, cells, items, op);
-        let answer = last.answer;
-        let fuel = last.machine.fuel;
-        answer_line::put_answer(out, wrote, answer, fuel);
+        let said = code::operation_of(line::read_by_table(t, &input[used..e]));
+        match said {
+            Read::Operation(op) => {
+                last = last.machine.operate(bytes, cells, items, op);
+                let answer = last.answer;
+                let fuel = last.machine.fuel;
+                answer_line::put_answer(out, wrote, answer, fuel);
+            }
+            _ => {
+                let fuel = last.machine.fuel;
+                answer_line::put_answer(out, wrote, refused(), fuel);
+            }
+        }
         used = e + 1;
-        wrote += 37;
+        wrote += ANSWER;
         room -= 1;
     }
     stopped(last.machine, false, used, wrote)
@@ -211,22 +199,32 @@ fn first_line(
 ) -> Progress
     requires { ⌜ (now t ≡ digitTable) × (from ≤ length (now input)) × (put ≤ length (now out)) ⌝ }
     ensures { λ r. ⌜ WholeRan (progressed r (now (bytes .exit)) (now (cells .exit)) (now (items .exit)) (now (out .exit)))
-        from put rawBytes (heldOn start true (now (bytes .entry)) (now (cells .entry)) (now (items .entry))) (now (out .entry)) (now (input .entry)) ⌝ }
+        from put (heldOn start true (now (bytes .entry)) (now (cells .entry)) (now (items .entry))) (now (out .entry)) (now (input .entry)) ⌝ }
 {
-    if out.len() - put < 37 {
+    if out.len() - put < ANSWER {
         return stopped(start, true, from, put);
     }
     let e = find_lf(input, from);
     if input.len() <= e {
         return stopped(start, true, from, put);
     }
-    let line = line::read_by_table(t, &input[from..e]);
-    let last = turn(start, bytes, cells, items, line);
+    let said = code::operation_of(line::read_by_table(t, &input[from..e]));
+    let last = turn(start, bytes, cells, items, said);
     let answer = last.answer;
     let machine = last.machine;
     let fuel = machine.fuel;
     answer_line::put_answer(out, put, answer, fuel);
-    more_lines(t, machine, bytes, cells, items, input, out, e + 1, put + 37)
+    more_lines(
+        t,
+        machine,
+        bytes,
+        cells,
+        items,
+        input,
+        out,
+        e + 1,
+        put + ANSWER,
+    )
 }
 
 // The whole lines of a piece from a place on, while there is room for their answers.
@@ -244,7 +242,7 @@ fn whole_lines(
 ) -> Progress
     requires { ⌜ (now t ≡ digitTable) × (from ≤ length (now input)) × (put ≤ length (now out)) ⌝ }
     ensures { λ r. ⌜ WholeRan (progressed r (now (bytes .exit)) (now (cells .exit)) (now (items .exit)) (now (out .exit)))
-        from put rawBytes (heldOn start begun (now (bytes .entry)) (now (cells .entry)) (now (items .entry))) (now (out .entry)) (now (input .entry)) ⌝ }
+        from put (heldOn start begun (now (bytes .entry)) (now (cells .entry)) (now (items .entry))) (now (out .entry)) (now (input .entry)) ⌝ }
 {
     if begun {
         return first_line(t, start, bytes, cells, items, input, out, from, put);
@@ -262,7 +260,7 @@ fn close(input: &[u8], p: Progress) -> Progress
     if e < input.len() {
         return p;
     }
-    if input.len() - used <= 160 {
+    if input.len() - used <= LONGEST {
         return p;
     }
     let mut session = p.session;
@@ -287,7 +285,7 @@ fn go_on(
     requires { ⌜ now t ≡ digitTable ⌝ }
     ensures { λ r. ⌜ progressed r (now (bytes .exit)) (now (cells .exit)) (now (items .exit)) (now (out .exit))
         ≡ progressOf (now (out .entry))
-        (pieceOf (length (now (out .entry)) / 37) false rawBytes
+        (pieceOf (length (now (out .entry)) / answerBytes) false rawBytes
         (heldBy session (now (bytes .entry)) (now (cells .entry)) (now (items .entry))) (now (input .entry))) ⌝ }
 {
     let machine = session.machine;
@@ -319,13 +317,13 @@ fn skip_on(
     requires { ⌜ now t ≡ digitTable ⌝ }
     ensures { λ r. ⌜ progressed r (now (bytes .exit)) (now (cells .exit)) (now (items .exit)) (now (out .exit))
         ≡ progressOf (now (out .entry))
-        (pieceOf (length (now (out .entry)) / 37) true rawBytes
+        (pieceOf (length (now (out .entry)) / answerBytes) true rawBytes
         (heldBy session (now (bytes .entry)) (now (cells .entry)) (now (items .entry))) (now (input .entry))) ⌝ }
 {
     let machine = session.machine;
     let mut left = session;
     left.skip = true;
-    if out.len() < 37 {
+    if out.len() < ANSWER {
         return Progress {
             session: left,
             used: 0,
@@ -340,10 +338,7 @@ fn skip_on(
             wrote: 0,
         };
     }
-    let answer = Answer::Refusal(Refusal {
-        number: 18,
-        amount: 0,
-    });
+    let answer = refused();
     let fuel = machine.fuel;
     answer_line::put_answer(out, 0, answer, fuel);
     let p = whole_lines(
@@ -356,7 +351,7 @@ fn skip_on(
         input,
         out,
         e + 1,
-        37,
+        ANSWER,
     );
     close(input, p)
 }
@@ -372,11 +367,10 @@ pub fn piece(
 ) -> Progress
     ensures { λ r. ⌜ progressed r (now (bytes .exit)) (now (cells .exit)) (now (items .exit)) (now (out .exit))
         ≡ progressOf (now (out .entry))
-        (pieceOf (length (now (out .entry)) / 37) (session .skip) rawBytes
+        (pieceOf (length (now (out .entry)) / answerBytes) (session .skip) rawBytes
         (heldBy session (now (bytes .entry)) (now (cells .entry)) (now (items .entry))) (now (input .entry))) ⌝ }
 {
-    let t =
-        b"\x10\x10\x10\x10\x10\x10\x10\x10\x10\x10\x10\x10\x10\x10\x10\x10\x10\x10\x10\x10\x10\x10\x10\x10\x10\x10\x10\x10\x10\x10\x10\x10\x10\x10\x10\x10\x10\x10\x10\x10\x10\x10\x10\x10\x10\x10\x10\x10\x00\x01\x02\x03\x04\x05\x06\x07\x08\x09\x10\x10\x10\x10\x10\x10\x10\x10\x10\x10\x10\x10\x10\x10\x10\x10\x10\x10\x10\x10\x10\x10\x10\x10\x10\x10\x10\x10\x10\x10\x10\x10\x10\x10\x10\x10\x10\x10\x10\x0a\x0b\x0c\x0d\x0e\x0f\x10\x10\x10\x10\x10\x10\x10\x10\x10\x10\x10\x10\x10\x10\x10\x10\x10\x10\x10\x10\x10\x10\x10\x10\x10\x10\x10\x10\x10\x10\x10\x10\x10\x10\x10\x10\x10\x10\x10\x10\x10\x10\x10\x10\x10\x10\x10\x10\x10\x10\x10\x10\x10\x10\x10\x10\x10\x10\x10\x10\x10\x10\x10\x10\x10\x10\x10\x10\x10\x10\x10\x10\x10\x10\x10\x10\x10\x10\x10\x10\x10\x10\x10\x10\x10\x10\x10\x10\x10\x10\x10\x10\x10\x10\x10\x10\x10\x10\x10\x10\x10\x10\x10\x10\x10\x10\x10\x10\x10\x10\x10\x10\x10\x10\x10\x10\x10\x10\x10\x10\x10\x10\x10\x10\x10\x10\x10\x10\x10\x10\x10\x10\x10\x10\x10\x10\x10\x10\x10\x10\x10\x10\x10\x10\x10\x10\x10\x10\x10\x10\x10\x10\x10";
+    let t = &line::DIGITS;
     if session.skip {
         return skip_on(t, session, bytes, cells, items, input, out);
     }

@@ -5,10 +5,10 @@ use mathlib.Core.Bool.{Bool, true, false}
 use mathlib.Core.List.{List, [], _∷_}
 use native.Mathlib.Omega.{arith}
 use native.Mathlib.Numerals.{add-one}
-use lib.Dec.{eqb, leb}
+use lib.Dec.{eqb}
 use lib.ListN.{length, take, getD, set, length-set}
 use borrow.Author.Tests.{le-leb, leb-true, eq-eqb, eqb-true, eqb-false, ne-eqb}
-use Rattle.types.specs.Pick.{pick, both}
+use Rattle.types.specs.Pick.{pick}
 use Rattle.types.proofs.Picks.{pick-true, pick-false, both-true, both-1, both-2, either}
 use Rattle.machine.specs.Sound.{follow, soundList}
 

@@ -4,11 +4,11 @@ use mathlib.Core.Path.{_≡_, refl, sym, ap, _∙_}
 use mathlib.Core.Bool.{Bool, true, false}
 use mathlib.Core.List.{List, [], _∷_}
 use native.Mathlib.Omega.{arith}
-use lib.Dec.{eqb, leb}
-use lib.ListN.{length, take, drop, getD, set, List·getD-eq-default}
+use lib.Dec.{eqb}
+use lib.ListN.{length, take, drop, getD, List·getD-eq-default}
 use borrow.Author.Tests.{le-leb, lt-leb, eq-eqb, ne-eqb}
 use Rattle.types.specs.Pick.{both}
-use Rattle.types.proofs.Picks.{both-true, both-left, both-right, both-then, both-1, both-2}
+use Rattle.types.proofs.Picks.{both-left, both-right, both-then}
 use Rattle.machine.specs.Sound.{follow, soundList}
 
 -- past its places a list has nothing

@@ -1,8 +1,7 @@
 -- Laws of a sound machine: its parts, its instances, and that the next room starts inside its buffer. Assumes nothing.
 use Prim.Native.Nat.{ℕ, _≤_, _<_}
 use mathlib.Core.Path.{_≡_}
-use mathlib.Core.Bool.{Bool, true}
-use Rattle.types.specs.Pick.{both}
+use mathlib.Core.Bool.{true}
 use Rattle.types.proofs.Picks.{both-true, both-1, both-2}
 use Rattle.memory.specs.Memory.{soundMemory}
 use Rattle.memory.specs.declared.memory.Memory.{Memory}

@@ -1,8 +1,8 @@
 -- What an operation does to records in use and to the cells of their rooms, over any kind of record; each operation touches its target alone. Assumes nothing.
-use Prim.Native.Nat.{ℕ, zero, suc, _+_, _-_, _≤_, _<_}
+use Prim.Native.Nat.{ℕ, _+_, _-_, _≤_, _<_}
 use mathlib.Core.Path.{_≡_, refl, sym, ap, subst, _∙_}
 use mathlib.Core.Bool.{Bool, true, false}
-use mathlib.Core.List.{List, [], _∷_}
+use mathlib.Core.List.{List}
 use mathlib.Core.Logic.{_⊎_, inl, inr}
 use native.Mathlib.Omega.{arith}
 use lib.Dec.{eqb, ltb}
@@ -11,16 +11,24 @@ use lib.Seq.{take-take, drop-drop, getD-set-same, getD-set-other}
 use borrow.Author.Tests.{lt-ltb, eqb-true, eqb-false, ltb-true, ltb-false}
 use Rattle.types.specs.Pick.{pick}
 use Rattle.types.specs.Span.{cut}
-use Rattle.types.specs.declared.fuel.FuelStep.{FuelStep}
-use Rattle.types.specs.declared.fuel.FuelStep.the-variants as fuel-step
-use Rattle.types.specs.declared.limits.Limits.{Limits}
+use Rattle.types.specs.Done.{Done}
+use Rattle.types.specs.declared.fuel.Fuel.{Fuel}
+use Rattle.types.specs.declared.limiter.Limiter.{Limiter}
+use Rattle.types.specs.declared.raw.RefType.{RefType}
+use Rattle.types.specs.declared.raw.TypedRawRef.{TypedRawRef}
+use Rattle.memory.specs.declared.grow.GrownMemory.{GrownMemory}
+use Rattle.memory.specs.declared.new.CreatedMemory.{CreatedMemory}
+use Rattle.table.specs.declared.grow.GrownTable.{GrownTable}
+use Rattle.table.specs.declared.new.CreatedTable.{CreatedTable}
 use Rattle.types.specs.declared.memory_ty.MemoryType.{MemoryType}
+use Rattle.types.specs.declared.memory_ty.WantedMemory.{WantedMemory}
+use Rattle.types.specs.declared.span.CopySpan.{CopySpan}
+use Rattle.types.specs.declared.table_ty.WantedTable.{WantedTable}
 use Rattle.types.proofs.Picks.{pick-true, both-1, either}
 use Rattle.types.proofs.Spans.{length-over, over-low, over-after, cut-of}
 use Rattle.memory.specs.Memory as of-memory
 use Rattle.memory.specs.Memory.{soundMemory}
 use Rattle.memory.specs.declared.memory.Memory.{Memory}
-use Rattle.memory.specs.New as new-memory-of
 use Rattle.memory.specs.New.{newMemory}
 use Rattle.memory.specs.Grow.{growMemory}
 use Rattle.memory.specs.declared.new.MadeMemory.{MadeMemory}
@@ -29,10 +37,9 @@ use Rattle.memory.proofs.Sounds.{sound-is}
 use Rattle.memory.proofs.Frames as memory-frames
 use Rattle.table.specs.Table as of-table
 use Rattle.table.specs.Table.{soundTable}
-use Rattle.table.specs.New as new-table-of
 use Rattle.table.specs.New.{newTable}
 use Rattle.table.specs.Grow.{growTable}
-use Rattle.table.specs.Element.{MadeWith, dropped, newSegment, soundSegment}
+use Rattle.table.specs.Element.{dropped, newSegment, soundSegment}
 use Rattle.table.specs.declared.new.MadeTable.{MadeTable}
 use Rattle.table.specs.declared.new.MadeTable.the-variants as made-table
 use Rattle.table.specs.declared.element.MadeSegment.{MadeSegment}
@@ -44,14 +51,22 @@ use Rattle.table.proofs.Frames as table-frames
 use Rattle.machine.specs.Machine.{Buffers, buffers, noMemory, noTable, noSegment, memoryAt, tableAt, segmentAt, nextByte, nextCell, nextItem}
 use Rattle.machine.specs.Sound.{soundList, soundMemories, soundTables, soundSegments, soundOver}
 use Rattle.machine.specs.Frame.{InMemory, InTable, InSegment, NewItems, targetOf}
-use Rattle.machine.specs.Outcome.{withMemories, withTables, withSegments, changed, settled}
-use Rattle.machine.specs.Operation.{wellFormed, yes, limitsOf, exponentOf, kindOf, referenceOf, storeKindOf, itemsOf}
-use Rattle.machine.specs.Step.{Done, Performed, onNone, onBytes, onCells, onItems, setting, charging, madeMemory, newMemoryOn, growMemoryOn, storeOn, madeTable, newTableOn, growTableOn, setOn, fillOn, copyKnown, copyOn, initOn, dropOn, madeSegment, newSegmentOn, perform, decide, step}
+use Rattle.machine.specs.Outcome.{withMemories, withTables, withSegments, changed, standing, oneMemoryMore, oneTableMore, oneSegmentMore, settled}
+use Rattle.machine.specs.Operation.{wellFormed, itemsOf}
+use Rattle.machine.specs.Fueling.{onFuel}
+use Rattle.machine.specs.Memories.{performMemory, onMemory, madeMemory, newMemoryOn}
+use Rattle.machine.specs.Tables.{performTable, onTable, madeTable, newTableOn, copyKnown, copyOn}
+use Rattle.machine.specs.Segments.{initOn, dropOn, madeSegment, newSegmentOn}
+use Rattle.machine.specs.Step.{Performed, onNone, onBytes, onCells, onItems, perform, decide, step}
 use Rattle.machine.specs.declared.records.Machine.{Machine}
 use Rattle.machine.specs.declared.outcome.Outcome.{Outcome}
 use Rattle.machine.specs.declared.outcome.Change.the-variants as change
 use Rattle.machine.specs.declared.operation.Operation.{Operation}
-use Rattle.machine.specs.declared.operation.Operation.the-variants.{Make, SetFuel, GetFuel, Charge, SetLimiter, NewMemory, GrowMemory, MemorySize, Load, Store, NewTable, GrowTable, TableSize, TableGet, TableSet, TableFill, TableCopy, TableInit, DropSegment, NewSegment, LinkCheck}
+use Rattle.machine.specs.declared.operation.Operation.the-variants as op
+use Rattle.machine.specs.declared.operation.MemoryOp.{MemoryOp}
+use Rattle.machine.specs.declared.operation.MemoryOp.the-variants as memory
+use Rattle.machine.specs.declared.operation.TableOp.{TableOp}
+use Rattle.machine.specs.declared.operation.TableOp.the-variants as table
 use Rattle.machine.proofs.Rooms.{Parts, parts, memory-sound, table-sound, segment-sound}
 use Rattle.machine.proofs.ListLaws as lists
 
@@ -213,6 +228,67 @@ like-same r old s =
     let of : MemoryType → ℕ → ℕ → Memory = λ t a z. record { ty = t; start = a; room = z; size = r .size } in
     ap (λ (t : MemoryType). of t (r .start) (r .room)) (s .ty) ∙ ap (λ (a : ℕ). of (old .ty) a (r .room)) (s .start) ∙ ap (of (old .ty) (old .start)) (s .room)
 
+-- what an operation on one record leaves: cells of its room alone may differ, and of the record only its size
+pub record MemoryRoom (r : Memory) (bs : List ℕ) (d : Done GrownMemory) : Type 0 where
+  pub kept : Kept (r .start) (r .start + r .room) bs (d .cells)
+  pub sound : soundMemory (d .out .memory) (length bs) ≡ true
+  pub like : LikeMemory r (d .out .memory)
+
+pub record TableRoom (t : Table) (cs : List ℕ) (d : Done GrownTable) : Type 0 where
+  pub kept : Kept (t .start) (t .start + t .room) cs (d .cells)
+  pub sound : soundTable (d .out .table) (length cs) ≡ true
+  pub like : LikeTable t (d .out .table)
+
+same-cells : (x e : ℕ) (cs : List ℕ) → Kept x e cs cs
+same-cells x e cs = record { long = refl; before = refl; after = refl }
+
+pub memory-room : (r : Memory) (bs : List ℕ) (f : Fuel) (l : Limiter) (o : MemoryOp) → soundMemory r (length bs) ≡ true → MemoryRoom r bs (performMemory r bs f l o)
+unfolding performMemory
+memory-room r bs f l (memory.Grow pages) s =
+    record {
+      kept = within-kept _ _ _ _ (memory-frames.grow-within r bs pages f l) (sound-is r (length bs) s .inside);
+      sound = sym (ap (soundMemory (growMemory r bs pages f l .out .memory)) (memory-frames.grow-length r bs pages f l)) ∙ memory-frames.grow-sound r bs pages f l s;
+      like = like-same _ _ (memory-frames.grow-same r bs pages f l);
+    }
+memory-room r bs f l memory.Size s = record { kept = same-cells _ _ bs; sound = s; like = refl }
+memory-room r bs f l (memory.Load kind pointer offset) s = record { kept = same-cells _ _ bs; sound = s; like = refl }
+memory-room r bs f l (memory.Store kind pointer offset bits) s =
+    record {
+      kept = within-kept _ _ _ _ (memory-frames.store-within kind r bs pointer offset bits) (sound-is r (length bs) s .inside);
+      sound = s;
+      like = refl;
+    }
+memory-room r bs f l (memory.LinkCheck wanted) s = record { kept = same-cells _ _ bs; sound = s; like = refl }
+
+pub table-room : (r : ℕ) (t : Table) (cs : List ℕ) (f : Fuel) (l : Limiter) (o : TableOp) → soundTable t (length cs) ≡ true → TableRoom t cs (performTable r t cs f l o)
+unfolding performTable
+table-room r t cs f l (table.Grow cells value) s =
+    let g = table-frames.grow-frame r t cs cells value f l in
+    record {
+      kept = g .kept;
+      sound = sym (ap (soundTable (growTable r t cs cells value f l .out .table)) (g .kept .long)) ∙ g .sound s;
+      like = g .same;
+    }
+table-room r t cs f l table.Size s = record { kept = same-cells _ _ cs; sound = s; like = refl }
+table-room r t cs f l (table.Get index) s = record { kept = same-cells _ _ cs; sound = s; like = refl }
+table-room r t cs f l (table.Set index value) s = record { kept = table-frames.set-frame t cs index value .kept; sound = s; like = refl }
+table-room r t cs f l (table.Fill start value len) s =
+    record { kept = table-frames.fill-frame r t cs (record { start = start; len = len }) f value .kept; sound = s; like = refl }
+
+-- the same machine with other records of one kind, so many of them in use
+abbrev memoriesTo : Machine → List Memory → ℕ → Machine
+memoriesTo m rs n = standing (withMemories m rs) (record { memories = n; tables = m .counts .tables; segments = m .counts .segments }) (m .fuel) (m .limiter)
+
+abbrev tablesTo : Machine → List Table → ℕ → Machine
+tablesTo m rs n = standing (withTables m rs) (record { memories = m .counts .memories; tables = n; segments = m .counts .segments }) (m .fuel) (m .limiter)
+
+abbrev segmentsTo : Machine → List ElementSegment → ℕ → Machine
+segmentsTo m rs n = standing (withSegments m rs) (record { memories = m .counts .memories; tables = m .counts .tables; segments = n }) (m .fuel) (m .limiter)
+
+-- records and numbers after an outcome, with fuel and limiter as before
+abbrev recorded : Machine → Outcome → Machine
+recorded m o = standing (changed (o .change) m) (o .counts) (m .fuel) (m .limiter)
+
 module _ (m : Machine) (b : Buffers) (op : Operation) (e : soundOver m b ≡ true) where
   -- what the operation may leave, and what is sound before it
   abbrev To : Machine → Buffers → Type 0
@@ -252,20 +328,20 @@ module _ (m : Machine) (b : Buffers) (op : Operation) (e : soundOver m b ≡ tru
   still b′ q = subst (To m) (sym q) stays
 
   -- memories and bytes alone change
-  on-bytes : (rs : List Memory) (n : ℕ) (bs : List ℕ) → Memories m (length (b .bytes)) (λ (i : ℕ). targetOf m op ≡ InMemory i) (withMemories m rs n)
-      → Bytes m (λ (i : ℕ). targetOf m op ≡ InMemory i) (b .bytes) bs → To (withMemories m rs n) (buffers bs (b .cells) (b .items))
+  on-bytes : (rs : List Memory) (n : ℕ) (bs : List ℕ) → Memories m (length (b .bytes)) (λ (i : ℕ). targetOf m op ≡ InMemory i) (memoriesTo m rs n)
+      → Bytes m (λ (i : ℕ). targetOf m op ≡ InMemory i) (b .bytes) bs → To (memoriesTo m rs n) (buffers bs (b .cells) (b .items))
   on-bytes rs n bs l c =
       record { memories = l; bytes = c; tables = tables-stay; cells = cells-stay _ _ _ _ _ _ _; segments = segments-stay; items = cells-stay _ _ _ _ _ _ _; kept = λ h. refl }
 
   -- tables and cells alone change
-  on-cells : (rs : List Table) (n : ℕ) (cs : List ℕ) → Tables m (length (b .cells)) (λ (i : ℕ). targetOf m op ≡ InTable i) (withTables m rs n)
-      → Cells m (λ (i : ℕ). targetOf m op ≡ InTable i) (b .cells) cs → To (withTables m rs n) (buffers (b .bytes) cs (b .items))
+  on-cells : (rs : List Table) (n : ℕ) (cs : List ℕ) → Tables m (length (b .cells)) (λ (i : ℕ). targetOf m op ≡ InTable i) (tablesTo m rs n)
+      → Cells m (λ (i : ℕ). targetOf m op ≡ InTable i) (b .cells) cs → To (tablesTo m rs n) (buffers (b .bytes) cs (b .items))
   on-cells rs n cs l c =
       record { memories = memories-stay; bytes = cells-stay _ _ _ _ _ _ _; tables = l; cells = c; segments = segments-stay; items = cells-stay _ _ _ _ _ _ _; kept = λ h. refl }
 
   -- segments and items alone change
-  on-items : (rs : List ElementSegment) (n : ℕ) (is : List ℕ) → Segments m (length (b .items)) (λ (i : ℕ). targetOf m op ≡ InSegment i) (withSegments m rs n)
-      → Items m (λ (i : ℕ). ⊥) (b .items) is → ((targetOf m op ≡ NewItems → ⊥) → is ≡ b .items) → To (withSegments m rs n) (buffers (b .bytes) (b .cells) is)
+  on-items : (rs : List ElementSegment) (n : ℕ) (is : List ℕ) → Segments m (length (b .items)) (λ (i : ℕ). targetOf m op ≡ InSegment i) (segmentsTo m rs n)
+      → Items m (λ (i : ℕ). ⊥) (b .items) is → ((targetOf m op ≡ NewItems → ⊥) → is ≡ b .items) → To (segmentsTo m rs n) (buffers (b .bytes) (b .cells) is)
   on-items rs n is l c k =
       record { memories = memories-stay; bytes = cells-stay _ _ _ _ _ _ _; tables = tables-stay; cells = cells-stay _ _ _ _ _ _ _; segments = l; items = c; kept = k }
 
@@ -275,16 +351,12 @@ module _ (m : Machine) (b : Buffers) (op : Operation) (e : soundOver m b ≡ tru
     unfolding soundMemories
     bytes-change = cells-change _ _ _ _ _ _ _ (sounds .memories) i (b .bytes) bs p h w
 
-    -- bytes of one memory
-    memory-written : To m (buffers bs (b .cells) (b .items))
-    memory-written = on-bytes (m .memories) (m .counts .memories) bs memories-stay bytes-change
-
-    -- and its size
+    -- bytes and size of one memory
     memory-changed : (r : Memory) → soundMemory r (length (b .bytes)) ≡ true → LikeMemory (memoryAt m i) r
-        → To (changed (change.Memory i r) m) (buffers bs (b .cells) (b .items))
+        → To (standing (changed (change.Memory i r) m) (m .counts) (m .fuel) (m .limiter)) (buffers bs (b .cells) (b .items))
     unfolding soundMemories changed
     memory-changed r s l =
-        subst (λ (m′ : Machine). To m′ (buffers bs (b .cells) (b .items)))
+        subst (λ (m′ : Machine). To (standing m′ (m .counts) (m .fuel) (m .limiter)) (buffers bs (b .cells) (b .items)))
         (sym (pick-true _ _ _ (lt-ltb i 8 (omega (arith, h, lists.few _ _ _ noMemory _ _ (sounds .memories))))))
         (on-bytes _ _ bs
         (list-changes _ _ _ _ _ _ _ (sounds .memories) _ (λ r. refl) i r p h s (ap (λ (x : Memory). x .start) l) (ap (λ (x : Memory). x .room) l) l)
@@ -293,10 +365,10 @@ module _ (m : Machine) (b : Buffers) (op : Operation) (e : soundOver m b ≡ tru
   -- one more memory
   memory-added : (r : Memory) (hi : ℕ) (bs : List ℕ) → m .counts .memories < 8 → soundMemory r (length (b .bytes)) ≡ true → r .start ≡ nextByte m
       → Kept (nextByte m) hi (b .bytes) bs
-      → To (changed (change.AddMemory r) m) (buffers bs (b .cells) (b .items))
+      → To (standing (changed (change.Memory (m .counts .memories) r) m) (oneMemoryMore (m .counts)) (m .fuel) (m .limiter)) (buffers bs (b .cells) (b .items))
   unfolding soundMemories changed nextByte
   memory-added r hi bs h s q w =
-      subst (λ (m′ : Machine). To m′ (buffers bs (b .cells) (b .items))) (sym (pick-true _ _ _ (lt-ltb (m .counts .memories) 8 h)))
+      subst (λ (m′ : Machine). To (standing m′ (oneMemoryMore (m .counts)) (m .fuel) (m .limiter)) (buffers bs (b .cells) (b .items))) (sym (pick-true _ _ _ (lt-ltb (m .counts .memories) 8 h)))
       (on-bytes _ _ bs
       (list-adds _ _ _ _ _ _ _ (sounds .memories) _ (λ r. refl) r h s q)
       (cells-add _ _ _ _ _ _ _ (sounds .memories) hi (b .bytes) bs w))
@@ -313,10 +385,10 @@ module _ (m : Machine) (b : Buffers) (op : Operation) (e : soundOver m b ≡ tru
 
     -- and its size
     table-changed : (r : Table) → soundTable r (length (b .cells)) ≡ true → LikeTable (tableAt m i) r
-        → To (changed (change.Table i r) m) (buffers (b .bytes) cs (b .items))
+        → To (standing (changed (change.Table i r) m) (m .counts) (m .fuel) (m .limiter)) (buffers (b .bytes) cs (b .items))
     unfolding soundTables changed
     table-changed r s l =
-        subst (λ (m′ : Machine). To m′ (buffers (b .bytes) cs (b .items)))
+        subst (λ (m′ : Machine). To (standing m′ (m .counts) (m .fuel) (m .limiter)) (buffers (b .bytes) cs (b .items)))
         (sym (pick-true _ _ _ (lt-ltb i 8 (omega (arith, h, lists.few _ _ _ noTable _ _ (sounds .tables))))))
         (on-cells _ _ cs
         (list-changes _ _ _ _ _ _ _ (sounds .tables) _ (λ r. refl) i r p h s (ap (λ (x : Table). x .start) l) (ap (λ (x : Table). x .room) l) l)
@@ -325,19 +397,19 @@ module _ (m : Machine) (b : Buffers) (op : Operation) (e : soundOver m b ≡ tru
   -- one more table
   table-added : (r : Table) (hi : ℕ) (cs : List ℕ) → m .counts .tables < 8 → soundTable r (length (b .cells)) ≡ true → r .start ≡ nextCell m
       → Kept (nextCell m) hi (b .cells) cs
-      → To (changed (change.AddTable r) m) (buffers (b .bytes) cs (b .items))
+      → To (standing (changed (change.Table (m .counts .tables) r) m) (oneTableMore (m .counts)) (m .fuel) (m .limiter)) (buffers (b .bytes) cs (b .items))
   unfolding soundTables changed nextCell
   table-added r hi cs h s q w =
-      subst (λ (m′ : Machine). To m′ (buffers (b .bytes) cs (b .items))) (sym (pick-true _ _ _ (lt-ltb (m .counts .tables) 8 h)))
+      subst (λ (m′ : Machine). To (standing m′ (oneTableMore (m .counts)) (m .fuel) (m .limiter)) (buffers (b .bytes) cs (b .items))) (sym (pick-true _ _ _ (lt-ltb (m .counts .tables) 8 h)))
       (on-cells _ _ cs
       (list-adds _ _ _ _ _ _ _ (sounds .tables) _ (λ r. refl) r h s q)
       (cells-add _ _ _ _ _ _ _ (sounds .tables) hi (b .cells) cs w))
 
   -- one segment is dropped
-  segment-dropped : (i : ℕ) → i < m .counts .segments → targetOf m op ≡ InSegment i → To (changed (change.Segment i (dropped (segmentAt m i))) m) b
+  segment-dropped : (i : ℕ) → i < m .counts .segments → targetOf m op ≡ InSegment i → To (standing (changed (change.Segment i (dropped (segmentAt m i))) m) (m .counts) (m .fuel) (m .limiter)) b
   unfolding soundSegments changed
   segment-dropped i h p =
-      subst (λ (m′ : Machine). To m′ b)
+      subst (λ (m′ : Machine). To (standing m′ (m .counts) (m .fuel) (m .limiter)) b)
       (sym (pick-true _ _ _ (lt-ltb i 8 (omega (arith, h, lists.few _ _ _ noSegment _ _ (sounds .segments))))))
       (on-items _ _ (b .items)
       (list-changes _ _ _ _ _ _ _ (sounds .segments) _ (λ r. inl refl) i (dropped (segmentAt m i)) p h
@@ -347,17 +419,17 @@ module _ (m : Machine) (b : Buffers) (op : Operation) (e : soundOver m b ≡ tru
   -- one more segment
   segment-added : (r : ElementSegment) (hi : ℕ) (is : List ℕ) → m .counts .segments < 8 → soundSegment r (length (b .items)) ≡ true → r .start ≡ nextItem m
       → Kept (nextItem m) hi (b .items) is
-      → targetOf m op ≡ NewItems → To (changed (change.AddSegment r) m) (buffers (b .bytes) (b .cells) is)
+      → targetOf m op ≡ NewItems → To (standing (changed (change.Segment (m .counts .segments) r) m) (oneSegmentMore (m .counts)) (m .fuel) (m .limiter)) (buffers (b .bytes) (b .cells) is)
   unfolding soundSegments changed nextItem
   segment-added r hi is h s q w t =
-      subst (λ (m′ : Machine). To m′ (buffers (b .bytes) (b .cells) is)) (sym (pick-true _ _ _ (lt-ltb (m .counts .segments) 8 h)))
+      subst (λ (m′ : Machine). To (standing m′ (oneSegmentMore (m .counts)) (m .fuel) (m .limiter)) (buffers (b .bytes) (b .cells) is)) (sym (pick-true _ _ _ (lt-ltb (m .counts .segments) 8 h)))
       (on-items _ _ is
       (list-adds _ _ _ _ _ _ _ (sounds .segments) _ (λ r. inl refl) r h s q)
       (cells-add _ _ _ _ _ _ _ (sounds .segments) hi (b .items) is w) (λ k. absurd (k t)))
 
   -- what is left where an operation was performed
   abbrev Leaves : Performed → Type 0
-  Leaves p = To (changed (p .out .change) m) (p .buffers)
+  Leaves p = To (recorded m (p .out)) (p .buffers)
 
   -- an instance in use is sound
   abbrev memory-at : (i : ℕ) → i < m .counts .memories → soundMemory (memoryAt m i) (length (b .bytes)) ≡ true
@@ -367,131 +439,87 @@ module _ (m : Machine) (b : Buffers) (op : Operation) (e : soundOver m b ≡ tru
   table-at = table-sound m (length (b .bytes)) (length (b .cells)) (length (b .items)) e
 
   -- 10: a memory is made
-  new-memory : (room wide bounded minimum maximum exponent : ℕ) → Leaves (onBytes (newMemoryOn m (b .bytes) room wide bounded minimum maximum exponent) b)
+  new-memory : (room : ℕ) (w : WantedMemory) → Leaves (onBytes (newMemoryOn m (b .bytes) room w) b)
   unfolding newMemoryOn madeMemory changed
-  new-memory room wide bounded minimum maximum exponent =
-      tested (λ (d : Done). Leaves (onBytes d b)) _ _ _ (λ t. made (ltb-true (m .counts .memories) 8 (both-1 _ _ t)) _ refl) stays
+  new-memory room w =
+      tested (λ (d : Done Outcome). Leaves (onBytes d b)) _ _ _ (λ t. made (ltb-true (m .counts .memories) 8 (both-1 _ _ t)) _ refl) stays
     where
-      w : Bool
-      w = yes wide
-
-      k : Limits
-      k = limitsOf bounded minimum maximum
-
-      x : ℕ
-      x = exponentOf exponent
-
-      c : new-memory-of.Created
-      c = newMemory w k x (nextByte m) room (b .bytes) (m .limiter)
+      c : Done CreatedMemory
+      c = newMemory w (nextByte m) room (b .bytes) (m .limiter)
 
       made : m .counts .memories < 8 → (y : MadeMemory) → c .out .made ≡ y
-          → To (changed (madeMemory m y (c .out .limiter) .change) m) (buffers (c .cells) (b .cells) (b .items))
+          → To (recorded m (madeMemory m y (c .out .limiter))) (buffers (c .cells) (b .cells) (b .items))
       made h (made-memory.Refused r) q =
           still _ (ap (λ (bs : List ℕ). buffers bs (b .cells) (b .items))
-          (memory-frames.new-kept w k x (nextByte m) room (b .bytes) (m .limiter) r q .0))
+          (memory-frames.new-kept w (nextByte m) room (b .bytes) (m .limiter) r q .0))
       made h (made-memory.Made r) q =
-          let v = memory-frames.new-done w k x (nextByte m) room (b .bytes) (m .limiter) r q in
+          let v = memory-frames.new-done w (nextByte m) room (b .bytes) (m .limiter) r q in
           let d : made-memory.Made (v .memory) ≡ made-memory.Made r = sym (v .made) ∙ q in
           let z : v .memory ≡ r = cc in
           memory-added r _ _ h
-          (sym (ap (soundMemory r) (memory-frames.new-length w k x (nextByte m) room (b .bytes) (m .limiter)))
-          ∙ memory-frames.new-sound w k x (nextByte m) room (b .bytes) (m .limiter) r q)
+          (sym (ap (soundMemory r) (memory-frames.new-length w (nextByte m) room (b .bytes) (m .limiter)))
+          ∙ memory-frames.new-sound w (nextByte m) room (b .bytes) (m .limiter) r q)
           (ap (λ (y : Memory). y .start) (sym z) ∙ v .start-is)
-          (within-kept _ _ _ _ (memory-frames.new-within w k x (nextByte m) room (b .bytes) (m .limiter)) (omega (arith, v .sound .inside, v .start-is, v .room-is)))
+          (within-kept _ _ _ _ (memory-frames.new-within w (nextByte m) room (b .bytes) (m .limiter)) (omega (arith, v .sound .inside, v .start-is, v .room-is)))
 
-  -- 11: a memory grows
-  grow-memory : (i n : ℕ) → targetOf m op ≡ InMemory i → Leaves (onBytes (growMemoryOn m (b .bytes) i n) b)
-  unfolding growMemoryOn changed
-  grow-memory i n p =
-      tested (λ (d : Done). Leaves (onBytes d b)) _ _ _
+  -- 11 to 14, 30: an operation on one memory
+  on-memory : (i : ℕ) (o : MemoryOp) → targetOf m op ≡ InMemory i → Leaves (onBytes (onMemory m (b .bytes) i o) b)
+  unfolding onMemory changed
+  on-memory i o p =
+      tested (λ (d : Done Outcome). Leaves (onBytes d b)) _ _ _
       (λ t.
       let h : i < m .counts .memories = ltb-true i (m .counts .memories) t in
-      let r = memoryAt m i in
-      let s = memory-at i h in
-      memory-changed i h p _
-      (within-kept _ _ _ _ (memory-frames.grow-within r (b .bytes) n (m .fuel) (m .limiter)) (sound-is r (length (b .bytes)) s .inside))
-      _
-      (sym (ap (soundMemory (growMemory r (b .bytes) n (m .fuel) (m .limiter) .out .memory)) (memory-frames.grow-length r (b .bytes) n (m .fuel) (m .limiter)))
-      ∙ memory-frames.grow-sound r (b .bytes) n (m .fuel) (m .limiter) s)
-      (like-same _ _ (memory-frames.grow-same r (b .bytes) n (m .fuel) (m .limiter))))
-      stays
-
-  -- 14: a memory is written
-  store-memory : (i kind pointer offset bits : ℕ) → targetOf m op ≡ InMemory i → Leaves (onBytes (storeOn m (b .bytes) i kind pointer offset bits) b)
-  unfolding storeOn changed
-  store-memory i kind pointer offset bits p =
-      tested (λ (d : Done). Leaves (onBytes d b)) _ _ _
-      (λ t.
-      let h : i < m .counts .memories = ltb-true i (m .counts .memories) t in
-      memory-written i h p _
-      (within-kept _ _ _ _ (memory-frames.store-within (storeKindOf kind) (memoryAt m i) (b .bytes) pointer offset bits)
-      (sound-is (memoryAt m i) (length (b .bytes)) (memory-at i h) .inside)))
+      let q = memory-room (memoryAt m i) (b .bytes) (m .fuel) (m .limiter) o (memory-at i h) in
+      memory-changed i h p _ (q .kept) _ (q .sound) (q .like))
       stays
 
   -- 20: a table is made
-  new-table : (room kind wide bounded minimum maximum initial bits : ℕ) → Leaves (onCells (newTableOn m (b .cells) room kind wide bounded minimum maximum initial bits) b)
+  new-table : (room : ℕ) (w : WantedTable) (v : TypedRawRef) → Leaves (onCells (newTableOn m (b .cells) room w v) b)
   unfolding newTableOn madeTable changed
-  new-table room kind wide bounded minimum maximum initial bits =
-      tested (λ (d : Done). Leaves (onCells d b)) _ _ _ (λ t. made (ltb-true (m .counts .tables) 8 (both-1 _ _ t)) _ refl) stays
+  new-table room w v =
+      tested (λ (d : Done Outcome). Leaves (onCells d b)) _ _ _ (λ t. made (ltb-true (m .counts .tables) 8 (both-1 _ _ t)) _ refl) stays
     where
-      c : new-table-of.Created
-      c = newTable (kindOf kind) (yes wide) (limitsOf bounded minimum maximum) (referenceOf initial bits) (nextCell m) room (b .cells) (m .limiter)
+      c : Done CreatedTable
+      c = newTable w v (nextCell m) room (b .cells) (m .limiter)
 
       f : table-frames.NewFrame (nextCell m) room (b .cells) c
-      f = table-frames.new-frame (kindOf kind) (yes wide) (limitsOf bounded minimum maximum) (referenceOf initial bits) (nextCell m) room (b .cells) (m .limiter)
+      f = table-frames.new-frame w v (nextCell m) room (b .cells) (m .limiter)
 
       made : m .counts .tables < 8 → (y : MadeTable) → c .out .made ≡ y
-          → To (changed (madeTable m y (c .out .limiter) .change) m) (buffers (b .bytes) (c .cells) (b .items))
+          → To (recorded m (madeTable m y (c .out .limiter))) (buffers (b .bytes) (c .cells) (b .items))
       made h (made-table.Refused r) q = still _ (ap (λ (cs : List ℕ). buffers (b .bytes) cs (b .items)) (f .refused r q))
       made h (made-table.Made r) q = table-added r _ _ h (sym (ap (soundTable r) (f .kept .long)) ∙ f .sound r q) (f .placed r q .0) (f .kept)
 
-  -- 21: a table grows
-  grow-table : (r i n kind bits : ℕ) → targetOf m op ≡ InTable i → Leaves (onCells (growTableOn r m (b .cells) i n kind bits) b)
-  unfolding growTableOn changed
-  grow-table r i n kind bits p =
-      tested (λ (d : Done). Leaves (onCells d b)) _ _ _
+  -- 21 to 25: an operation on one table
+  on-table : (r i : ℕ) (o : TableOp) → targetOf m op ≡ InTable i → Leaves (onCells (onTable r m (b .cells) i o) b)
+  unfolding onTable changed
+  on-table r i o p =
+      tested (λ (d : Done Outcome). Leaves (onCells d b)) _ _ _
       (λ t.
       let h : i < m .counts .tables = ltb-true i (m .counts .tables) t in
-      let f = table-frames.grow-frame r (tableAt m i) (b .cells) n (referenceOf kind bits) (m .fuel) (m .limiter) in
-      table-changed i h p _ (f .kept) _
-      (sym (ap (soundTable (growTable r (tableAt m i) (b .cells) n (referenceOf kind bits) (m .fuel) (m .limiter) .out .table)) (f .kept .long)) ∙ f .sound (table-at i h)) (f .same))
-      stays
-
-  -- 24: a cell is set
-  set-table : (i index kind bits : ℕ) → targetOf m op ≡ InTable i → Leaves (onCells (setOn m (b .cells) i index kind bits) b)
-  unfolding setOn changed
-  set-table i index kind bits p =
-      tested (λ (d : Done). Leaves (onCells d b)) _ _ _
-      (λ t. table-written i (ltb-true i (m .counts .tables) t) p _ (table-frames.set-frame (tableAt m i) (b .cells) index (referenceOf kind bits) .kept))
-      stays
-
-  -- 25: cells are filled
-  fill-table : (r i start kind bits len : ℕ) → targetOf m op ≡ InTable i → Leaves (onCells (fillOn r m (b .cells) i start kind bits len) b)
-  unfolding fillOn changed
-  fill-table r i start kind bits len p =
-      tested (λ (d : Done). Leaves (onCells d b)) _ _ _
-      (λ t. table-written i (ltb-true i (m .counts .tables) t) p _ (table-frames.fill-frame r (tableAt m i) (b .cells) start len (m .fuel) (referenceOf kind bits) .kept))
+      let q = table-room r (tableAt m i) (b .cells) (m .fuel) (m .limiter) o (table-at i h) in
+      table-changed i h p _ (q .kept) _ (q .sound) (q .like))
       stays
 
   -- 26: cells are copied, between two tables or within one
-  copy-table : (r into to source from len : ℕ) → targetOf m op ≡ InTable into → Leaves (onCells (copyOn r m (b .cells) into to source from len) b)
+  copy-table : (r into source : ℕ) (s : CopySpan) → targetOf m op ≡ InTable into → Leaves (onCells (copyOn r m (b .cells) into source s) b)
   unfolding copyOn copyKnown changed
-  copy-table r into to source from len p =
-      tested (λ (d : Done). Leaves (onCells d b)) _ _ _
+  copy-table r into source s p =
+      tested (λ (d : Done Outcome). Leaves (onCells d b)) _ _ _
       (λ t.
       let h : into < m .counts .tables = ltb-true into (m .counts .tables) (both-1 _ _ t) in
-      tested (λ (d : Done). Leaves (onCells d b)) _ _ _
-      (λ y. table-written into h p _ (table-frames.within-frame r (tableAt m into) (b .cells) to from len (m .fuel) .kept))
-      (table-written into h p _ (table-frames.copy-frame r (tableAt m into) (tableAt m source) (b .cells) to from len (m .fuel) .kept)))
+      tested (λ (d : Done Outcome). Leaves (onCells d b)) _ _ _
+      (λ y. table-written into h p _ (table-frames.within-frame r (tableAt m into) (b .cells) s (m .fuel) .kept))
+      (table-written into h p _ (table-frames.copy-frame r (tableAt m into) (tableAt m source) (b .cells) s (m .fuel) .kept)))
       stays
 
   -- 27: cells are set from a segment's items
-  init-table : (r i segment to from len : ℕ) → targetOf m op ≡ InTable i → Leaves (onCells (initOn r m (b .cells) (b .items) i segment to from len) b)
+  init-table : (r i segment : ℕ) (s : CopySpan) → targetOf m op ≡ InTable i → Leaves (onCells (initOn r m (b .cells) (b .items) i segment s) b)
   unfolding initOn changed
-  init-table r i segment to from len p =
-      tested (λ (d : Done). Leaves (onCells d b)) _ _ _
+  init-table r i segment s p =
+      tested (λ (d : Done Outcome). Leaves (onCells d b)) _ _ _
       (λ t. table-written i (ltb-true i (m .counts .tables) (both-1 _ _ t)) p _
-      (table-frames.init-frame r (tableAt m i) (segmentAt m segment) (b .cells) (b .items) to from len (m .fuel) .kept))
+      (table-frames.init-frame r (tableAt m i) (segmentAt m segment) (b .cells) (b .items) s (m .fuel) .kept))
       stays
 
   -- 28: a segment is dropped
@@ -500,57 +528,34 @@ module _ (m : Machine) (b : Buffers) (op : Operation) (e : soundOver m b ≡ tru
   drop-segment i p = tested (λ (o : Outcome). Leaves (onNone o b)) _ _ _ (λ t. segment-dropped i (ltb-true i (m .counts .segments) t) p) stays
 
   -- 29: a segment is made
-  new-segment : (kind : ℕ) (given : List ℕ) → targetOf m op ≡ NewItems → Leaves (onItems (newSegmentOn m (b .items) kind given) b)
+  new-segment : (element : RefType) (given : List ℕ) → targetOf m op ≡ NewItems → Leaves (onItems (newSegmentOn m (b .items) element given) b)
   unfolding newSegmentOn madeSegment changed
-  new-segment kind given p =
-      tested (λ (d : Done). Leaves (onItems d b)) _ _ _ (λ t. made (ltb-true (m .counts .segments) 8 (both-1 _ _ t)) _ refl) stays
+  new-segment element given p =
+      tested (λ (d : Done Outcome). Leaves (onItems d b)) _ _ _ (λ t. made (ltb-true (m .counts .segments) 8 (both-1 _ _ t)) _ refl) stays
     where
-      c : MadeWith
-      c = newSegment (kindOf kind) (nextItem m) (b .items) given
+      c : Done MadeSegment
+      c = newSegment element (nextItem m) (b .items) given
 
       f : table-frames.SegmentFrame (nextItem m) (length given) (b .items) c
-      f = table-frames.segment-frame (kindOf kind) (nextItem m) (b .items) given
+      f = table-frames.segment-frame element (nextItem m) (b .items) given
 
-      made : m .counts .segments < 8 → (y : MadeSegment) → c .made ≡ y → To (changed (madeSegment m y .change) m) (buffers (b .bytes) (b .cells) (c .items))
+      made : m .counts .segments < 8 → (y : MadeSegment) → c .out ≡ y → To (recorded m (madeSegment m y)) (buffers (b .bytes) (b .cells) (c .cells))
       made h (made-segment.Refused r) q = still _ (ap (buffers (b .bytes) (b .cells)) (f .refused r q))
       made h (made-segment.Made r) q = segment-added r _ _ h (sym (ap (soundSegment r) (f .kept .long)) ∙ f .sound r q) (f .placed r q .0) (f .kept) p
 
-  -- 01, 03: no record changes
-  set-fuel : (s : FuelStep) → Leaves (onNone (setting m s) b)
-  unfolding setting changed
-  set-fuel (fuel-step.Refused r) = stays
-  set-fuel (fuel-step.Done f) = stays
-
-  charge : (s : FuelStep) → Leaves (onNone (charging m s) b)
-  unfolding charging changed
-  charge (fuel-step.Refused r) = stays
-  charge (fuel-step.Done f) = stays
-
 -- every operation touches its target alone
 perform-touched : (r : ℕ) (m : Machine) (b : Buffers) (op : Operation) → soundOver m b ≡ true
-    → Touched m b op (changed (perform r m b op .out .change) m) (perform r m b op .buffers)
-unfolding perform targetOf changed
-perform-touched r m b (Make metering copied) e = stays m b _ e
-perform-touched r m b (SetFuel amount) e = set-fuel m b _ e _
-perform-touched r m b GetFuel e = stays m b _ e
-perform-touched r m b (Charge units) e = charge m b _ e _
-perform-touched r m b (SetLimiter count digits) e = stays m b _ e
-perform-touched r m b (NewMemory room wide bounded minimum maximum exponent) e = new-memory m b _ e room wide bounded minimum maximum exponent
-perform-touched r m b (GrowMemory memory pages) e = grow-memory m b _ e memory pages refl
-perform-touched r m b (MemorySize memory) e = stays m b _ e
-perform-touched r m b (Load memory kind pointer offset) e = stays m b _ e
-perform-touched r m b (Store memory kind pointer offset bits) e = store-memory m b _ e memory kind pointer offset bits refl
-perform-touched r m b (NewTable room kind wide bounded minimum maximum initial bits) e = new-table m b _ e room kind wide bounded minimum maximum initial bits
-perform-touched r m b (GrowTable table cells kind bits) e = grow-table m b _ e r table cells kind bits refl
-perform-touched r m b (TableSize table) e = stays m b _ e
-perform-touched r m b (TableGet table index) e = stays m b _ e
-perform-touched r m b (TableSet table index kind bits) e = set-table m b _ e table index kind bits refl
-perform-touched r m b (TableFill table start kind bits len) e = fill-table m b _ e r table start kind bits len refl
-perform-touched r m b (TableCopy into to source from len) e = copy-table m b _ e r into to source from len refl
-perform-touched r m b (TableInit table segment to from len) e = init-table m b _ e r table segment to from len refl
-perform-touched r m b (DropSegment segment) e = drop-segment m b _ e segment refl
-perform-touched r m b (NewSegment kind count first second third fourth) e = new-segment m b _ e kind (itemsOf count first second third fourth) refl
-perform-touched r m b (LinkCheck memory wide bounded minimum maximum exponent) e = stays m b _ e
+    → Touched m b op (recorded m (perform r m b op .out)) (perform r m b op .buffers)
+unfolding perform onFuel targetOf changed
+perform-touched r m b (op.Fuel o) e = stays m b _ e
+perform-touched r m b (op.NewMemory room wanted) e = new-memory m b _ e room wanted
+perform-touched r m b (op.Memory number o) e = on-memory m b _ e number o refl
+perform-touched r m b (op.NewTable room wanted initial) e = new-table m b _ e room wanted initial
+perform-touched r m b (op.Table number o) e = on-table m b _ e r number o refl
+perform-touched r m b (op.TableCopy into source span) e = copy-table m b _ e r into source span refl
+perform-touched r m b (op.TableInit table segment span) e = init-table m b _ e r table segment span refl
+perform-touched r m b (op.DropSegment segment) e = drop-segment m b _ e segment refl
+perform-touched r m b (op.NewSegment element items) e = new-segment m b _ e element (itemsOf items) refl
 
 -- a step on a sound machine touches its operation's target alone
 pub step-touched : (r : ℕ) (m : Machine) (b : Buffers) (op : Operation) → soundOver m b ≡ true → Touched m b op (step r m b op .machine) (step r m b op .buffers)

@@ -3,20 +3,17 @@ use mathlib.Core.Path.{sym, _∙_, ap}
 use Rattle.types.proofs.One.{One, OneWith}
 use Rattle.machine.proofs.fields.hand_script.Reads as hand-script-reads
 use Rattle.machine.proofs.fields.hand_script.Kinds as hand-script-kinds
-use Rattle.machine.proofs.fields.limits_of.Reads as limits-of-reads
-use Rattle.machine.proofs.fields.limits_of.Kinds as limits-of-kinds
-use Rattle.machine.proofs.fields.kind_of.Reads as kind-of-reads
-use Rattle.machine.proofs.fields.kind_of.Kinds as kind-of-kinds
-use Rattle.machine.proofs.fields.reference_of.Reads as reference-of-reads
-use Rattle.machine.proofs.fields.reference_of.Kinds as reference-of-kinds
-use Rattle.machine.proofs.fields.exponent_of.Reads as exponent-of-reads
-use Rattle.machine.proofs.fields.exponent_of.Kinds as exponent-of-kinds
-use Rattle.machine.proofs.fields.load_kind_of.Reads as load-kind-of-reads
-use Rattle.machine.proofs.fields.load_kind_of.Kinds as load-kind-of-kinds
-use Rattle.machine.proofs.fields.store_kind_of.Reads as store-kind-of-reads
-use Rattle.machine.proofs.fields.store_kind_of.Kinds as store-kind-of-kinds
 use Rattle.machine.proofs.operation.Operation.is_well_formed.Reads as is-well-formed-reads
 use Rattle.machine.proofs.operation.Operation.is_well_formed.Kinds as is-well-formed-kinds
+use Rattle.machine.proofs.fueling.perform.Reads as fuel-reads
+use Rattle.machine.proofs.fueling.perform.Kinds as fuel-kinds
+use Rattle.machine.proofs.memories.perform.Reads as memory-reads
+use Rattle.machine.proofs.memories.perform.Kinds as memory-kinds
+use Rattle.machine.proofs.tables.perform.Reads as table-reads
+use Rattle.machine.proofs.tables.perform.Kinds as table-kinds
+use Rattle.types.specs.Done.{Done}
+use Rattle.memory.specs.declared.grow.GrownMemory.{GrownMemory}
+use Rattle.table.specs.declared.grow.GrownTable.{GrownTable}
 use mathlib.Core.List.{List}
 use Prim.Native.Nat.{ℕ}
 use denote.Ref.{now}
@@ -42,24 +39,6 @@ use Rattle.machine.proofs.records.Machine.decide.Kinds as decide-kinds
 
 pub fields-hand-script-one : One 0 hand-script-kinds.ps hand-script-kinds.r hand-script-reads.Pre hand-script-reads.Post
 fields-hand-script-one κs a x x′ s s′ z p q = p ∙ sym q
-
-pub fields-limits-of-one : One 0 limits-of-kinds.ps limits-of-kinds.r limits-of-reads.Pre limits-of-reads.Post
-fields-limits-of-one κs a x x′ s s′ z p q = p ∙ sym q
-
-pub fields-kind-of-one : One 0 kind-of-kinds.ps kind-of-kinds.r kind-of-reads.Pre kind-of-reads.Post
-fields-kind-of-one κs a x x′ s s′ z p q = p ∙ sym q
-
-pub fields-reference-of-one : One 0 reference-of-kinds.ps reference-of-kinds.r reference-of-reads.Pre reference-of-reads.Post
-fields-reference-of-one κs a x x′ s s′ z p q = p ∙ sym q
-
-pub fields-exponent-of-one : One 0 exponent-of-kinds.ps exponent-of-kinds.r exponent-of-reads.Pre exponent-of-reads.Post
-fields-exponent-of-one κs a x x′ s s′ z p q = p ∙ sym q
-
-pub fields-load-kind-of-one : One 0 load-kind-of-kinds.ps load-kind-of-kinds.r load-kind-of-reads.Pre load-kind-of-reads.Post
-fields-load-kind-of-one κs a x x′ s s′ z p q = p ∙ sym q
-
-pub fields-store-kind-of-one : One 0 store-kind-of-kinds.ps store-kind-of-kinds.r store-kind-of-reads.Pre store-kind-of-reads.Post
-fields-store-kind-of-one κs a x x′ s s′ z p q = p ∙ sym q
 
 pub operation-is-well-formed-one : One 0 is-well-formed-kinds.ps is-well-formed-kinds.r is-well-formed-reads.Pre is-well-formed-reads.Post
 operation-is-well-formed-one κs a x x′ s s′ z p q = p ∙ sym q
@@ -92,3 +71,13 @@ machine-segment-at-one κs a x x′ s s′ z p q = p ∙ sym q
 -- one outcome, and one content of each of the three buffers
 pub machine-decide-one : OneWith 3 decide-kinds.ps decide-kinds.r decide-reads.Pre decide-reads.Post Buffers (λ κs s. buffers (now (s .1 .0)) (now (s .1 .1 .0)) (now (s .1 .1 .1 .0)))
 machine-decide-one κs a x x′ s s′ z p q = (ap (λ (o : Performed). o .out) (p ∙ sym q), ap (λ (o : Performed). o .buffers) (p ∙ sym q))
+
+-- the rooms: one result, and one content of the buffer
+pub fuel-perform-one : One 0 fuel-kinds.ps fuel-kinds.r fuel-reads.Pre fuel-reads.Post
+fuel-perform-one κs a x x′ s s′ z p q = p ∙ sym q
+
+pub memory-perform-one : OneWith 1 memory-kinds.ps memory-kinds.r memory-reads.Pre memory-reads.Post (List ℕ) (λ κs s. now (s .1 .0))
+memory-perform-one κs a x x′ s s′ z p q = (ap (λ (d : Done GrownMemory). d .out) (p ∙ sym q), ap (λ (d : Done GrownMemory). d .cells) (p ∙ sym q))
+
+pub table-perform-one : OneWith 1 table-kinds.ps table-kinds.r table-reads.Pre table-reads.Post (List ℕ) (λ κs s. now (s .1 .0))
+table-perform-one κs a x x′ s s′ z p q = (ap (λ (d : Done GrownTable). d .out) (p ∙ sym q), ap (λ (d : Done GrownTable). d .cells) (p ∙ sym q))

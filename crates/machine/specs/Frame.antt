@@ -1,6 +1,5 @@
 -- Document 01, "The machine": an operation changes cells and size of one instance at most (in a table copy, the destination).
 use Prim.Native.Nat.{ℕ, _<_}
-use mathlib.Core.List.{List}
 use mathlib.Core.Path.{_≡_}
 use mathlib.Core.Logic.{_⊎_}
 use Rattle.types.specs.Span.{cut}
@@ -11,7 +10,7 @@ use Rattle.machine.specs.Machine.{Buffers, memoryAt, tableAt, segmentAt}
 use Rattle.machine.specs.Step.{Stepped}
 use Rattle.machine.specs.declared.records.Machine.{Machine}
 use Rattle.machine.specs.declared.operation.Operation.{Operation}
-use Rattle.machine.specs.declared.operation.Operation.the-variants.{Make, SetFuel, GetFuel, Charge, SetLimiter, NewMemory, GrowMemory, MemorySize, Load, Store, NewTable, GrowTable, TableSize, TableGet, TableSet, TableFill, TableCopy, TableInit, DropSegment, NewSegment, LinkCheck}
+use Rattle.machine.specs.declared.operation.Operation.the-variants as op
 
 -- the instance that an operation may change: the one it names or makes
 pub data Target : Type 0 where
@@ -22,27 +21,15 @@ pub data Target : Type 0 where
   NewItems : Target
 
 unfoldable pub targetOf : Machine → Operation → Target
-targetOf m (Make metering copied) = None
-targetOf m (SetFuel amount) = None
-targetOf m GetFuel = None
-targetOf m (Charge units) = None
-targetOf m (SetLimiter count digits) = None
-targetOf m (NewMemory room wide bounded minimum maximum exponent) = InMemory (m .counts .memories)
-targetOf m (GrowMemory memory pages) = InMemory memory
-targetOf m (MemorySize memory) = None
-targetOf m (Load memory kind pointer offset) = None
-targetOf m (Store memory kind pointer offset bits) = InMemory memory
-targetOf m (NewTable room kind wide bounded minimum maximum initial bits) = InTable (m .counts .tables)
-targetOf m (GrowTable table cells kind bits) = InTable table
-targetOf m (TableSize table) = None
-targetOf m (TableGet table index) = None
-targetOf m (TableSet table index kind bits) = InTable table
-targetOf m (TableFill table start kind bits len) = InTable table
-targetOf m (TableCopy into to source from len) = InTable into
-targetOf m (TableInit table segment to from len) = InTable table
-targetOf m (DropSegment segment) = InSegment segment
-targetOf m (NewSegment kind count first second third fourth) = NewItems
-targetOf m (LinkCheck memory wide bounded minimum maximum exponent) = None
+targetOf m (op.Fuel o) = None
+targetOf m (op.NewMemory room wanted) = InMemory (m .counts .memories)
+targetOf m (op.Memory number o) = InMemory number
+targetOf m (op.NewTable room wanted initial) = InTable (m .counts .tables)
+targetOf m (op.Table number o) = InTable number
+targetOf m (op.TableCopy into source span) = InTable into
+targetOf m (op.TableInit table segment span) = InTable table
+targetOf m (op.DropSegment segment) = InSegment segment
+targetOf m (op.NewSegment element items) = NewItems
 
 -- every instance but the target has its record and the cells of its room as before; items change only where a segment is made
 pub record OthersStay (m : Machine) (b : Buffers) (op : Operation) (s : Stepped) : Type 0 where

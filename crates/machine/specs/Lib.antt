@@ -1,6 +1,10 @@
-pub mod Operation
 pub mod Machine
 pub mod Sound
+pub mod Operation
 pub mod Outcome
+pub mod Fueling
+pub mod Memories
+pub mod Tables
+pub mod Segments
 pub mod Step
 pub mod Frame

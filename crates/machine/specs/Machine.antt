@@ -3,7 +3,7 @@ use Prim.Native.Nat.{ℕ, _+_, _-_}
 use mathlib.Core.Bool.{Bool, false}
 use mathlib.Core.List.{List}
 use lib.Dec.{eqb}
-use lib.ListN.{length, getD, replicate}
+use lib.ListN.{getD, replicate}
 use Rattle.types.specs.Pick.{pick}
 use Rattle.types.specs.Fuel.{newFuel}
 use Rattle.types.specs.Limiter.{noLimiter}
@@ -16,7 +16,6 @@ use Rattle.memory.specs.declared.memory.Memory.{Memory}
 use Rattle.table.specs.declared.table.Table.{Table}
 use Rattle.table.specs.declared.element.ElementSegment.{ElementSegment}
 use Rattle.machine.specs.declared.records.Machine.{Machine}
-use Rattle.machine.specs.declared.records.Counts.{Counts}
 
 -- what stands where no instance does
 abbrev pub noLimits : Limits

@@ -4,6 +4,8 @@ use mathlib.Core.List.{List}
 use lib.Dec.{ltb}
 use lib.ListN.{set}
 use Rattle.types.specs.Pick.{pick}
+use Rattle.types.specs.Done.{Done, done}
+use Rattle.types.specs.Answer.{refuse}
 use Rattle.types.specs.declared.answer.Answer.{Answer}
 use Rattle.types.specs.declared.fuel.Fuel.{Fuel}
 use Rattle.types.specs.declared.limiter.Limiter.{Limiter}
@@ -16,61 +18,57 @@ use Rattle.machine.specs.declared.outcome.Outcome.{Outcome}
 use Rattle.machine.specs.declared.outcome.Change.{Change}
 use Rattle.machine.specs.declared.outcome.Change.the-variants as change
 
--- an answer that leaves records, fuel and limiter
+-- an answer that changes no record, with the fuel and the limiter after it
+abbrev pub leaves : Machine → Answer → Fuel → Limiter → Outcome
+leaves m a f l = record { answer = a; change = change.Nothing; counts = m .counts; fuel = f; limiter = l }
+
+-- an answer that leaves fuel and limiter too
 abbrev pub keeps : Machine → Answer → Outcome
-keeps m a = record { answer = a; change = change.Nothing; fuel = m .fuel; limiter = m .limiter }
+keeps m a = leaves m a (m .fuel) (m .limiter)
 
-abbrev pub withMemories : Machine → List Memory → ℕ → Machine
-withMemories m rs n =
-    record {
-      memories = rs;
-      tables = m .tables;
-      segments = m .segments;
-      counts = record { memories = n; tables = m .counts .tables; segments = m .counts .segments };
-      fuel = m .fuel;
-      limiter = m .limiter;
-    }
+-- a refusal that leaves all as it is, its buffer too
+abbrev pub refused : Machine → ℕ → List ℕ → Done Outcome
+refused m number cs = done (keeps m (refuse number 0)) cs
 
-abbrev pub withTables : Machine → List Table → ℕ → Machine
-withTables m rs n =
-    record {
-      memories = m .memories;
-      tables = rs;
-      segments = m .segments;
-      counts = record { memories = m .counts .memories; tables = n; segments = m .counts .segments };
-      fuel = m .fuel;
-      limiter = m .limiter;
-    }
+-- the same machine with other memories, tables or segments
+abbrev pub withMemories : Machine → List Memory → Machine
+withMemories m rs =
+    record { memories = rs; tables = m .tables; segments = m .segments; counts = m .counts; fuel = m .fuel; limiter = m .limiter }
 
-abbrev pub withSegments : Machine → List ElementSegment → ℕ → Machine
-withSegments m rs n =
-    record {
-      memories = m .memories;
-      tables = m .tables;
-      segments = rs;
-      counts = record { memories = m .counts .memories; tables = m .counts .tables; segments = n };
-      fuel = m .fuel;
-      limiter = m .limiter;
-    }
+abbrev pub withTables : Machine → List Table → Machine
+withTables m rs =
+    record { memories = m .memories; tables = rs; segments = m .segments; counts = m .counts; fuel = m .fuel; limiter = m .limiter }
 
--- the record at a place, or one more record; past the eighth place there is none
+abbrev pub withSegments : Machine → List ElementSegment → Machine
+withSegments m rs =
+    record { memories = m .memories; tables = m .tables; segments = rs; counts = m .counts; fuel = m .fuel; limiter = m .limiter }
+
+-- the record at a place is another; past the eighth place there is none
 unfoldable pub changed : Change → Machine → Machine
 changed change.Nothing m = m
-changed (change.Memory i r) m = pick (ltb i 8) (withMemories m (set (m .memories) i r) (m .counts .memories)) m
-changed (change.AddMemory r) m =
-    pick (ltb (m .counts .memories) 8) (withMemories m (set (m .memories) (m .counts .memories) r) (m .counts .memories + 1)) m
-changed (change.Table i r) m = pick (ltb i 8) (withTables m (set (m .tables) i r) (m .counts .tables)) m
-changed (change.AddTable r) m =
-    pick (ltb (m .counts .tables) 8) (withTables m (set (m .tables) (m .counts .tables) r) (m .counts .tables + 1)) m
-changed (change.Segment i r) m = pick (ltb i 8) (withSegments m (set (m .segments) i r) (m .counts .segments)) m
-changed (change.AddSegment r) m =
-    pick (ltb (m .counts .segments) 8) (withSegments m (set (m .segments) (m .counts .segments) r) (m .counts .segments + 1)) m
+changed (change.Memory i r) m = pick (ltb i 8) (withMemories m (set (m .memories) i r)) m
+changed (change.Table i r) m = pick (ltb i 8) (withTables m (set (m .tables) i r)) m
+changed (change.Segment i r) m = pick (ltb i 8) (withSegments m (set (m .segments) i r)) m
 
--- the same records with other fuel and limiter
+-- the same records with other numbers, fuel and limiter
+abbrev pub standing : Machine → Counts → Fuel → Limiter → Machine
+standing m k f l =
+    record { memories = m .memories; tables = m .tables; segments = m .segments; counts = k; fuel = f; limiter = l }
+
+-- the same records and numbers with other fuel and limiter
 abbrev pub metered : Machine → Fuel → Limiter → Machine
-metered m f l =
-    record { memories = m .memories; tables = m .tables; segments = m .segments; counts = m .counts; fuel = f; limiter = l }
+metered m f l = standing m (m .counts) f l
+
+-- one instance more
+abbrev pub oneMemoryMore : Counts → Counts
+oneMemoryMore k = record { memories = k .memories + 1; tables = k .tables; segments = k .segments }
+
+abbrev pub oneTableMore : Counts → Counts
+oneTableMore k = record { memories = k .memories; tables = k .tables + 1; segments = k .segments }
+
+abbrev pub oneSegmentMore : Counts → Counts
+oneSegmentMore k = record { memories = k .memories; tables = k .tables; segments = k .segments + 1 }
 
 -- the machine after an operation
 unfoldable pub settled : Machine → Outcome → Machine
-settled m o = metered (changed (o .change) m) (o .fuel) (o .limiter)
+settled m o = standing (changed (o .change) m) (o .counts) (o .fuel) (o .limiter)

@@ -1,100 +1,90 @@
 // Operations on fuel and limiter: 01 to 04.
-use super::outcome::Change;
+use super::fields;
+use super::operation::FuelOp;
 use super::outcome::Outcome;
 use super::records::Machine;
 use types::answer::Answer;
 use types::answer::Value;
+use types::fuel::Fuel;
 use types::fuel::FuelStep;
 use types::limiter::HandedOver;
-use super::fields;
+use types::limiter::Limiter;
 ghost use mathlib.Core.Path.{_≡_};
-ghost use Rattle.types.specs.Fuel.{setFuel, getFuel, consume};
-ghost use Rattle.types.specs.Limiter.{handOver};
-ghost use Rattle.machine.specs.Operation.{scriptOf};
-ghost use Rattle.machine.specs.Outcome.{keeps};
-ghost use Rattle.machine.specs.Step.{setting, charging, handing};
+ghost use Rattle.machine.specs.Fueling.{fueled, setBy, chargedBy, handedBy, performFuel, fueledOut, onFuel};
+
+// An answer, fuel and limiter after it.
+pub struct Fueled {
+    pub answer: Answer,
+    pub fuel: Fuel,
+    pub limiter: Limiter,
+}
+
+fn meters(answer: Answer, fuel: Fuel, limiter: Limiter) -> Fueled
+    ensures { λ r. ⌜ r ≡ fueled answer fuel limiter ⌝ }
+{
+    Fueled {
+        answer,
+        fuel,
+        limiter,
+    }
+}
+
+// By what setting the fuel says.
+fn set_by(step: FuelStep, fuel: Fuel, limiter: Limiter) -> Fueled
+    ensures { λ r. ⌜ r ≡ setBy step fuel limiter ⌝ }
+{
+    match step {
+        FuelStep::Refused(refusal) => meters(Answer::Refusal(refusal), fuel, limiter),
+        FuelStep::Done(left) => meters(Answer::Value(Value::Number(0)), left, limiter),
+    }
+}
+
+// By what the charge says; it answers the fuel left.
+fn charged_by(step: FuelStep, fuel: Fuel, limiter: Limiter) -> Fueled
+    ensures { λ r. ⌜ r ≡ chargedBy step fuel limiter ⌝ }
+{
+    match step {
+        FuelStep::Refused(refusal) => meters(Answer::Refusal(refusal), fuel, limiter),
+        FuelStep::Done(left) => meters(Answer::Value(Value::Number(left.remaining)), left, limiter),
+    }
+}
+
+fn handed_by(handed: HandedOver, fuel: Fuel) -> Fueled
+    ensures { λ r. ⌜ r ≡ handedBy handed fuel ⌝ }
+{
+    let answer = handed.answer;
+    let limiter = handed.limiter;
+    meters(answer, fuel, limiter)
+}
+
+// One operation on fuel and limiter.
+pub fn perform(fuel: Fuel, limiter: Limiter, op: FuelOp) -> Fueled
+    ensures { λ r. ⌜ r ≡ performFuel fuel limiter op ⌝ }
+{
+    match op {
+        FuelOp::SetFuel { amount } => set_by(fuel.set_fuel(amount), fuel, limiter),
+        FuelOp::GetFuel => meters(fuel.get_fuel(), fuel, limiter),
+        FuelOp::Charge { units } => charged_by(fuel.consume_fuel(units), fuel, limiter),
+        FuelOp::SetLimiter { script } => handed_by(fields::hand_script(limiter, script), fuel),
+    }
+}
 
 impl Machine {
-    // By what setting the fuel says.
-    fn setting(self, step: FuelStep) -> Outcome
-        ensures { λ r. ⌜ r ≡ setting self step ⌝ }
+    fn fueled(self, done: Fueled) -> Outcome
+        ensures { λ r. ⌜ r ≡ fueledOut self done ⌝ }
     {
-        match step {
-            FuelStep::Refused(refusal) => self.keeps(Answer::Refusal(refusal)),
-            FuelStep::Done(fuel) => {
-                let limiter = self.limiter;
-                Outcome {
-                    answer: Answer::Value(Value::Number(0)),
-                    change: Change::Nothing,
-                    fuel,
-                    limiter,
-                }
-            }
-        }
+        let answer = done.answer;
+        let fuel = done.fuel;
+        let limiter = done.limiter;
+        self.leaves(answer, fuel, limiter)
     }
 
-    pub(crate) fn set_fuel(self, amount: u64) -> Outcome
-        ensures { λ r. ⌜ r ≡ setting self (setFuel (self .fuel) amount) ⌝ }
+    // 01 to 04.
+    pub(crate) fn on_fuel(self, op: FuelOp) -> Outcome
+        ensures { λ r. ⌜ r ≡ onFuel self op ⌝ }
     {
         let fuel = self.fuel;
-        let step = fuel.set_fuel(amount);
-        self.setting(step)
-    }
-
-    pub(crate) fn get_fuel(self) -> Outcome
-        ensures { λ r. ⌜ r ≡ keeps self (getFuel (self .fuel)) ⌝ }
-    {
-        let fuel = self.fuel;
-        let answer = fuel.get_fuel();
-        self.keeps(answer)
-    }
-
-    // By what the charge says; it answers the fuel left.
-    fn charging(self, step: FuelStep) -> Outcome
-        ensures { λ r. ⌜ r ≡ charging self step ⌝ }
-    {
-        match step {
-            FuelStep::Refused(refusal) => self.keeps(Answer::Refusal(refusal)),
-            FuelStep::Done(fuel) => {
-                let limiter = self.limiter;
-                Outcome {
-                    answer: Answer::Value(Value::Number(fuel.remaining)),
-                    change: Change::Nothing,
-                    fuel,
-                    limiter,
-                }
-            }
-        }
-    }
-
-    pub(crate) fn charge(self, units: u64) -> Outcome
-        ensures { λ r. ⌜ r ≡ charging self (consume (self .fuel) units) ⌝ }
-    {
-        let fuel = self.fuel;
-        let step = fuel.consume_fuel(units);
-        self.charging(step)
-    }
-
-    fn handing(self, handed: HandedOver) -> Outcome
-        ensures { λ r. ⌜ r ≡ handing self handed ⌝ }
-    {
-        let answer = handed.answer;
-        let limiter = handed.limiter;
-        let fuel = self.fuel;
-        Outcome {
-            answer,
-            change: Change::Nothing,
-            fuel,
-            limiter,
-        }
-    }
-
-    // The script's first digits become the limiter's answers.
-    pub(crate) fn set_limiter(self, count: u64, digits: u64) -> Outcome
-        ensures { λ r. ⌜ r ≡ handing self (handOver (self .limiter) (scriptOf count digits)) ⌝ }
-    {
         let limiter = self.limiter;
-        let handed = fields::hand_script(limiter, count, digits);
-        self.handing(handed)
+        self.fueled(perform(fuel, limiter, op))
     }
 }

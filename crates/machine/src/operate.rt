@@ -1,8 +1,8 @@
 // One operation on a machine: 18, 19, then 16 or 17, then the operation's own checks.
+use super::operation::Operation;
 use super::outcome::Outcome;
 use super::records::Machine;
 use types::answer::Answer;
-use super::operation::Operation;
 ghost use mathlib.Core.Path.{_≡_};
 ghost use mathlib.Core.Bool.{true};
 ghost use lib.ListN.{length};
@@ -30,106 +30,31 @@ impl Machine {
         ensures { λ r. ⌜ performed r (now (bytes .exit)) (now (cells .exit)) (now (items .exit)) ≡ perform rawBytes self (buffers (now (bytes .entry)) (now (cells .entry)) (now (items .entry))) op ⌝ }
     {
         match op {
-            Operation::Make { .. } => self.refuses(18),
-            Operation::SetFuel { amount } => self.set_fuel(amount),
-            Operation::GetFuel => self.get_fuel(),
-            Operation::Charge { units } => self.charge(units),
-            Operation::SetLimiter { count, digits } => self.set_limiter(count, digits),
-            Operation::NewMemory {
-                room,
-                wide,
-                bounded,
-                minimum,
-                maximum,
-                exponent,
-            } => self.new_memory(bytes, room, wide, bounded, minimum, maximum, exponent),
-            Operation::GrowMemory { memory, pages } => self.grow_memory(bytes, memory, pages),
-            Operation::MemorySize { memory } => self.keeps(self.memory_size(memory)),
-            Operation::Load {
-                memory,
-                kind,
-                pointer,
-                offset,
-            } => self.keeps(self.load(bytes, memory, kind, pointer, offset)),
-            Operation::Store {
-                memory,
-                kind,
-                pointer,
-                offset,
-                bits,
-            } => self.store(bytes, memory, kind, pointer, offset, bits),
+            Operation::Fuel { op: what } => self.on_fuel(what),
+            Operation::NewMemory { room, wanted } => self.new_memory(bytes, room, wanted),
+            Operation::Memory { number, op: what } => self.on_memory(bytes, number, what),
             Operation::NewTable {
                 room,
-                kind,
-                wide,
-                bounded,
-                minimum,
-                maximum,
+                wanted,
                 initial,
-                bits,
-            } => self.new_table(
+            } => self.new_table(cells, room, wanted, initial),
+            Operation::Table { number, op: what } => self.on_table(cells, number, what),
+            Operation::TableCopy { into, source, span } => self.table_copy(
                 cells,
-                room,
-                kind,
-                wide,
-                bounded,
-                minimum,
-                maximum,
-                initial,
-                bits,
-            ),
-            Operation::GrowTable {
-                table,
-                cells: n,
-                kind,
-                bits,
-            } => self.grow_table(cells, table, n, kind, bits),
-            Operation::TableSize { table } => self.keeps(self.table_size(table)),
-            Operation::TableGet { table, index } => self.keeps(self.table_get(cells, table, index)),
-            Operation::TableSet {
-                table,
-                index,
-                kind,
-                bits,
-            } => self.table_set(cells, table, index, kind, bits),
-            Operation::TableFill {
-                table,
-                start,
-                kind,
-                bits,
-                len,
-            } => self.table_fill(cells, table, start, kind, bits, len),
-            Operation::TableCopy {
                 into,
-                to,
                 source,
-                from,
-                len,
-            } => self.table_copy(cells, into, to, source, from, len),
+                span,
+            ),
             Operation::TableInit {
                 table,
                 segment,
-                to,
-                from,
-                len,
-            } => self.table_init(cells, items, table, segment, to, from, len),
+                span,
+            } => self.table_init(cells, items, table, segment, span),
             Operation::DropSegment { segment } => self.drop_segment(segment),
             Operation::NewSegment {
-                kind,
-                count,
-                first,
-                second,
-                third,
-                fourth,
-            } => self.new_segment(items, kind, count, [first, second, third, fourth]),
-            Operation::LinkCheck {
-                memory,
-                wide,
-                bounded,
-                minimum,
-                maximum,
-                exponent,
-            } => self.keeps(self.link_check(memory, wide, bounded, minimum, maximum, exponent)),
+                element,
+                items: given,
+            } => self.new_segment(items, element, given),
         }
     }
 

@@ -1,119 +1,129 @@
-// The operations, one case for each code of the operation lines, with fields as numbers.
+// The operations: of fuel and limiter, of one memory, of one table, of two tables or a table and a segment, of segments, and the three creations.
 use super::fields;
+use memory::access::LoadKind;
+use memory::access::StoreKind;
+use types::memory_ty::WantedMemory;
+use types::raw::RefType;
+use types::raw::TypedRawRef;
+use types::span::CopySpan;
+use types::table_ty::WantedTable;
 ghost use mathlib.Core.Path.{_≡_};
-ghost use Rattle.machine.specs.Operation.{wellFormed};
+ghost use Rattle.machine.specs.Operation.{fuelWellFormed, memoryWellFormed, wellFormed};
 
-pub enum Operation {
-    // 00, which is part of making a machine
-    Make {
-        metering: u64,
-        copied: u64,
-    },
+// The limiter's answers: so many, as leading digits.
+pub struct Script {
+    pub count: u64,
+    pub digits: u64,
+}
+
+// The items of a segment: so many of these four.
+pub struct Items {
+    pub count: u64,
+    pub first: u64,
+    pub second: u64,
+    pub third: u64,
+    pub fourth: u64,
+}
+
+pub enum FuelOp {
     // 01
-    SetFuel {
-        amount: u64,
-    },
+    SetFuel { amount: u64 },
     // 02
     GetFuel,
     // 03
-    Charge {
-        units: u64,
-    },
+    Charge { units: u64 },
     // 04
-    SetLimiter {
-        count: u64,
-        digits: u64,
-    },
-    // 10
-    NewMemory {
-        room: u64,
-        wide: u64,
-        bounded: u64,
-        minimum: u64,
-        maximum: u64,
-        exponent: u64,
-    },
+    SetLimiter { script: Script },
+}
+
+pub enum MemoryOp {
     // 11
-    GrowMemory {
-        memory: u64,
+    Grow {
         pages: u64,
     },
     // 12
-    MemorySize {
-        memory: u64,
-    },
+    Size,
     // 13
     Load {
-        memory: u64,
-        kind: u64,
+        kind: LoadKind,
         pointer: u64,
         offset: u64,
     },
     // 14
     Store {
-        memory: u64,
-        kind: u64,
+        kind: StoreKind,
         pointer: u64,
         offset: u64,
         bits: u64,
     },
-    // 20
-    NewTable {
-        room: u64,
-        kind: u64,
-        wide: u64,
-        bounded: u64,
-        minimum: u64,
-        maximum: u64,
-        initial: u64,
-        bits: u64,
+    // 30
+    LinkCheck {
+        wanted: WantedMemory,
     },
+}
+
+pub enum TableOp {
     // 21
-    GrowTable {
-        table: u64,
+    Grow {
         cells: u64,
-        kind: u64,
-        bits: u64,
+        value: TypedRawRef,
     },
     // 22
-    TableSize {
-        table: u64,
-    },
+    Size,
     // 23
-    TableGet {
-        table: u64,
+    Get {
         index: u64,
     },
     // 24
-    TableSet {
-        table: u64,
+    Set {
         index: u64,
-        kind: u64,
-        bits: u64,
+        value: TypedRawRef,
     },
     // 25
-    TableFill {
-        table: u64,
+    Fill {
         start: u64,
-        kind: u64,
-        bits: u64,
+        value: TypedRawRef,
         len: u64,
+    },
+}
+
+pub enum Operation {
+    // 01 to 04
+    Fuel {
+        op: FuelOp,
+    },
+    // 10
+    NewMemory {
+        room: u64,
+        wanted: WantedMemory,
+    },
+    // 11 to 14, 30
+    Memory {
+        number: u64,
+        op: MemoryOp,
+    },
+    // 20
+    NewTable {
+        room: u64,
+        wanted: WantedTable,
+        initial: TypedRawRef,
+    },
+    // 21 to 25
+    Table {
+        number: u64,
+        op: TableOp,
     },
     // 26
     TableCopy {
         into: u64,
-        to: u64,
         source: u64,
-        from: u64,
-        len: u64,
+        span: CopySpan,
     },
     // 27
     TableInit {
         table: u64,
         segment: u64,
-        to: u64,
-        from: u64,
-        len: u64,
+        span: CopySpan,
     },
     // 28
     DropSegment {
@@ -121,78 +131,49 @@ pub enum Operation {
     },
     // 29
     NewSegment {
-        kind: u64,
-        count: u64,
-        first: u64,
-        second: u64,
-        third: u64,
-        fourth: u64,
-    },
-    // 30
-    LinkCheck {
-        memory: u64,
-        wide: u64,
-        bounded: u64,
-        minimum: u64,
-        maximum: u64,
-        exponent: u64,
+        element: RefType,
+        items: Items,
     },
 }
 
+fn fuel_well_formed(op: FuelOp) -> bool
+    ensures { λ r. ⌜ r ≡ fuelWellFormed op ⌝ }
+{
+    match op {
+        FuelOp::SetFuel { .. } => true,
+        FuelOp::GetFuel => true,
+        FuelOp::Charge { .. } => true,
+        FuelOp::SetLimiter { script } => fields::script_fields(script),
+    }
+}
+
+fn memory_well_formed(op: MemoryOp) -> bool
+    ensures { λ r. ⌜ r ≡ memoryWellFormed op ⌝ }
+{
+    match op {
+        MemoryOp::Grow { .. } => true,
+        MemoryOp::Size => true,
+        MemoryOp::Load { .. } => true,
+        MemoryOp::Store { kind, bits, .. } => fields::store_fields(kind, bits),
+        MemoryOp::LinkCheck { .. } => true,
+    }
+}
+
 impl Operation {
-    // Whether every field is in its range.
+    // Whether the operation says nothing wrong that its types let it say.
     pub fn is_well_formed(self) -> bool
         ensures { λ r. ⌜ r ≡ wellFormed self ⌝ }
     {
         match self {
-            Operation::Make { .. } => false,
-            Operation::SetFuel { .. } => true,
-            Operation::GetFuel => true,
-            Operation::Charge { .. } => true,
-            Operation::SetLimiter { count, digits } => fields::script_fields(count, digits),
-            Operation::NewMemory {
-                room: _,
-                wide,
-                bounded,
-                minimum: _,
-                maximum,
-                exponent,
-            } => fields::memory_fields(wide, bounded, maximum, exponent),
-            Operation::GrowMemory { .. } => true,
-            Operation::MemorySize { .. } => true,
-            Operation::Load { kind, .. } => kind <= 13,
-            Operation::Store { kind, bits, .. } => fields::store_fields(kind, bits),
-            Operation::NewTable {
-                kind,
-                wide,
-                bounded,
-                maximum,
-                initial,
-                ..
-            } => fields::table_fields(kind, wide, bounded, maximum, initial),
-            Operation::GrowTable { kind, .. } => fields::binary(kind),
-            Operation::TableSize { .. } => true,
-            Operation::TableGet { .. } => true,
-            Operation::TableSet { kind, .. } => fields::binary(kind),
-            Operation::TableFill { kind, .. } => fields::binary(kind),
+            Operation::Fuel { op } => fuel_well_formed(op),
+            Operation::NewMemory { .. } => true,
+            Operation::Memory { number: _, op } => memory_well_formed(op),
+            Operation::NewTable { .. } => true,
+            Operation::Table { .. } => true,
             Operation::TableCopy { .. } => true,
-            Operation::TableInit { from, len, .. } => fields::init_fields(from, len),
+            Operation::TableInit { span, .. } => fields::init_fields(span),
             Operation::DropSegment { .. } => true,
-            Operation::NewSegment {
-                kind,
-                count,
-                first,
-                second,
-                third,
-                fourth,
-            } => fields::segment_fields(kind, count, first, second, third, fourth),
-            Operation::LinkCheck {
-                wide,
-                bounded,
-                maximum,
-                exponent,
-                ..
-            } => fields::memory_fields(wide, bounded, maximum, exponent),
+            Operation::NewSegment { element: _, items } => fields::item_fields(items),
         }
     }
 }

@@ -1,11 +1,11 @@
 // The machine's records by number, and where the next room starts.
-use types::fuel::Fuel;
-use types::fuel::FuelCosts;
-use types::limiter::Limiter;
 use memory::memory::Memory;
 use table::element::ElementSegment;
 use table::table::Table;
+use types::fuel::Fuel;
+use types::fuel::FuelCosts;
 use types::index_ty::IndexType;
+use types::limiter::Limiter;
 use types::limits::Limits;
 use types::memory_ty::MemoryType;
 use types::memory_ty::PageSize;

@@ -9,13 +9,14 @@ use lib.ListN.{length}
 use borrow.Author.Tests.{lt-ltb, le-ltb}
 use borrow.Rule.Slice.PartMut.{putMid, midOf, mid-len}
 use Rattle.types.specs.Pick.{pick}
+use Rattle.types.specs.Done.{done}
 use Rattle.types.specs.Span.{inside, over}
 use Rattle.types.proofs.Picks.{pick-true, pick-false}
 use Rattle.types.proofs.Spans.{within-is}
 use Rattle.types.proofs.Moves.{put-part}
 use Rattle.memory.specs.LittleEndian.{leBytes}
-use Rattle.memory.specs.Access.{widthBytes, addressOf, storeWidth, done, storeFound}
-use Rattle.memory.specs.Facts.{Found}
+use Rattle.memory.specs.Access.{widthBytes, addressOf, storeWidth, storeFound}
+use Rattle.memory.specs.stages.Facts.{Found}
 use Rattle.types.specs.Answer.{accept}
 use Rattle.memory.specs.declared.access.Width.{Width}
 use Rattle.memory.specs.declared.access.StoreKind.{StoreKind}

@@ -10,7 +10,7 @@ use lib.ListN.{length, take, set, getD}
 use lib.Seq.{drop-cons, take-suc-set, take-all}
 use Rattle.types.specs.Span.{cut}
 use Rattle.memory.specs.LittleEndian.{leBytes, leValue}
-use Rattle.memory.specs.Facts.{Reach, Read}
+use Rattle.memory.specs.stages.Facts.{Reach, Read}
 
 pub length-bytes : (n v : ℕ) → length (leBytes n v) ≡ n
 unfolding leBytes

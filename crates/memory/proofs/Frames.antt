@@ -1,7 +1,7 @@
 -- Laws for the layer above: what is stored is loaded; a refusal changes nothing; an acceptance changes its span alone; soundness is kept. Assumes nothing.
 use Prim.Native.Nat.{ℕ, zero, suc, _+_, _-_, _*_, _/_, _%_, _^_, _≤_, _<_}
 use mathlib.Core.Path.{_≡_, refl, sym, ap, subst, _∙_}
-use mathlib.Core.Bool.{Bool, true, false}
+use mathlib.Core.Bool.{true, false}
 use mathlib.Core.List.{List, [], _∷_}
 use mathlib.Core.Logic.{_⊎_, inl, inr, ⊎-elim}
 use native.Mathlib.Omega.{arith}
@@ -12,14 +12,15 @@ use lib.Dec.{eqb, leb}
 use lib.ListN.{length, take, drop, getD, replicate, length-replicate}
 use borrow.Author.Tests.{leb-true, eqb-true}
 use Rattle.types.specs.Pick.{pick, both}
+use Rattle.types.specs.Done.{Done, done}
 use Rattle.types.specs.Span.{inside, cut, over}
 use Rattle.types.specs.Answer.{numberOf, refusal, refuse, accept}
 use Rattle.types.specs.Limits.{admitsOf, validMaximum, validLimits}
 use Rattle.types.specs.MemoryType.{pageBytes, pageBound, validMemory, buildMemory, minimumBytes}
+use Rattle.types.specs.declared.answer.Answer.{Answer}
 use Rattle.types.specs.declared.answer.Answer.the-variants as answer
 use Rattle.types.specs.declared.answer.Refusal.{Refusal}
 use Rattle.types.specs.declared.fuel.Fuel.{Fuel}
-use Rattle.types.specs.declared.limits.Limits.{Limits}
 use Rattle.types.specs.declared.limiter.Limiter.{Limiter}
 use Rattle.types.specs.declared.limiter.Permit.{Permit}
 use Rattle.types.specs.declared.limiter.Permit.the-variants.{Granted, Denied}
@@ -28,6 +29,7 @@ use Rattle.types.specs.declared.memory_ty.BuiltMemory.{BuiltMemory}
 use Rattle.types.specs.declared.memory_ty.BuiltMemory.the-variants as built
 use Rattle.types.specs.declared.memory_ty.ByteSize.{ByteSize}
 use Rattle.types.specs.declared.memory_ty.ByteSize.the-variants.{Bytes, Overflow}
+use Rattle.types.specs.declared.memory_ty.WantedMemory.{WantedMemory}
 use Rattle.types.proofs.Picks.{pick-true, pick-false, both-1, both-2, either}
 use Rattle.types.proofs.Spans.{within-is, over-nil, over-span, over-after, cut-before, length-over}
 use Rattle.types.proofs.Moves.{length-cut}
@@ -35,20 +37,22 @@ use Rattle.types.proofs.Sizes.{page-pos}
 use Rattle.types.proofs.Grants.{Fair, creation-fair, growth-fair}
 use Rattle.types.proofs.Built.{built-valid, built-refused, minimum-is}
 use Rattle.memory.specs.LittleEndian.{leBytes, leValue}
-use Rattle.memory.specs.Access.{widthBytes, addressOf, loadWidth, extend, loadedOf, loadFound, loadAt, storeWidth, Stored, done, storeFound, storeAt}
+use Rattle.memory.specs.Access.{widthBytes, addressOf, loadWidth, extend, loadedOf, loadFound, loadAt, storeWidth, storeFound, storeAt}
 use Rattle.memory.specs.Memory.{pagesOf, resized, soundMemory, loadMemory, storeMemory}
 use Rattle.memory.specs.Host.{readUsed, readMemory, writeUsed, writeMemory}
 use Rattle.memory.specs.New as new
-use Rattle.memory.specs.NewStages as new-stages
+use Rattle.memory.specs.stages.New as new-stages
 use Rattle.memory.specs.Grow as grow
 use Rattle.memory.specs.Grow.{grownSize}
-use Rattle.memory.specs.GrowStages as grow-stages
+use Rattle.memory.specs.stages.Grow as grow-stages
 use Rattle.memory.specs.declared.access.LoadKind.{LoadKind}
 use Rattle.memory.specs.declared.access.StoreKind.{StoreKind}
 use Rattle.memory.specs.declared.access.Address.{Address}
 use Rattle.memory.specs.declared.access.Address.the-variants.{At, Outside}
 use Rattle.memory.specs.declared.memory.Memory.{Memory}
 use Rattle.memory.specs.declared.new.MadeMemory.the-variants.{Made, Refused}
+use Rattle.memory.specs.declared.new.CreatedMemory.{CreatedMemory}
+use Rattle.memory.specs.declared.grow.GrownMemory.{GrownMemory}
 use Rattle.memory.proofs.Bytes.{length-bytes}
 use Rattle.memory.proofs.Accesses.{address-is}
 use Rattle.memory.proofs.Sounds.{Sound, sound-is, is-sound}
@@ -116,15 +120,15 @@ module _ (bs : List ℕ) (lo hi : ℕ) (cs : List ℕ) (w : Within bs lo hi cs) 
       ∙ ap (take k) (over-after bs (w .at) (w .vs) b (omega (arith, w .high)) (omega (arith, w .high)))
 
 -- a refused store, read or write
-pub record Kept (bs : List ℕ) (s : Stored) : Type 0 where
-  pub number : 0 < numberOf (s .answer)
+pub record Kept (bs : List ℕ) (s : Done Answer) : Type 0 where
+  pub number : 0 < numberOf (s .out)
   pub cells : s .cells ≡ bs
 
 -- a store of v at the address a within the size bytes from base on
-pub record Stores (k : StoreKind) (bs : List ℕ) (base size ptr offset v : ℕ) (s : Stored) : Type 0 where
+pub record Stores (k : StoreKind) (bs : List ℕ) (base size ptr offset v : ℕ) (s : Done Answer) : Type 0 where
   pub address : addressOf size ptr offset (widthBytes (storeWidth k)) ≡ At (ptr + offset)
   pub fits : ptr + offset + widthBytes (storeWidth k) ≤ size
-  pub answer : s .answer ≡ accept 0
+  pub answer : s .out ≡ accept 0
   pub cells : s .cells ≡ over bs (base + (ptr + offset)) (leBytes (widthBytes (storeWidth k)) v)
 
 module _ (k : StoreKind) (bs : List ℕ) (base size ptr offset v : ℕ) where
@@ -151,7 +155,7 @@ module _ (k : StoreKind) (bs : List ℕ) (base size ptr offset v : ℕ) where
   store-at-view = by-address (addressOf size ptr offset n) refl
 
   -- a load of as many bytes answers the stored value
-  pub store-at-load : (j : LoadKind) → widthBytes (loadWidth j) ≡ widthBytes (storeWidth k) → base + size ≤ length bs → numberOf (storeAt k bs base size ptr offset v .answer) ≡ 0
+  pub store-at-load : (j : LoadKind) → widthBytes (loadWidth j) ≡ widthBytes (storeWidth k) → base + size ≤ length bs → numberOf (storeAt k bs base size ptr offset v .out) ≡ 0
       → loadAt j (storeAt k bs base size ptr offset v .cells) base size ptr offset ≡ answer.Value (extend j (v % 2 ^ (8 * widthBytes (storeWidth k))))
   unfolding loadAt loadFound loadedOf
   store-at-load j e h z = ⊎-elim (λ w. absurd (omega (arith, w .number))) go store-at-view
@@ -167,7 +171,7 @@ module _ (k : StoreKind) (bs : List ℕ) (base size ptr offset v : ℕ) where
           ∙ ap (λ (x : ℕ). answer.Value (extend j x)) (load-store bs (base + (ptr + offset)) n v (omega (arith, w .fits)))
 
 -- a store to a memory
-pub record StoresTo (k : StoreKind) (m : Memory) (bs : List ℕ) (ptr offset v : ℕ) (s : Stored) : Type 0 where
+pub record StoresTo (k : StoreKind) (m : Memory) (bs : List ℕ) (ptr offset v : ℕ) (s : Done Answer) : Type 0 where
   pub sound : Sound m (length bs)
   pub stores : Stores k bs (m .start) (m .size) ptr offset v s
 
@@ -190,12 +194,12 @@ module _ (k : StoreKind) (m : Memory) (bs : List ℕ) (ptr offset v : ℕ) where
       (λ e. inl (store-unsound e))
 
   -- a refused store changes no byte
-  pub store-kept : (numberOf (storeMemory k m bs ptr offset v .answer) ≡ 0 → ⊥) → storeMemory k m bs ptr offset v .cells ≡ bs
+  pub store-kept : (numberOf (storeMemory k m bs ptr offset v .out) ≡ 0 → ⊥) → storeMemory k m bs ptr offset v .cells ≡ bs
   unfolding numberOf
   store-kept h = ⊎-elim (λ w. w .cells) (λ w. absurd (h (ap numberOf (w .stores .answer)))) store-view
 
   -- an accepted one changes the bytes of its width alone
-  pub store-done : numberOf (storeMemory k m bs ptr offset v .answer) ≡ 0 → StoresTo k m bs ptr offset v (storeMemory k m bs ptr offset v)
+  pub store-done : numberOf (storeMemory k m bs ptr offset v .out) ≡ 0 → StoresTo k m bs ptr offset v (storeMemory k m bs ptr offset v)
   store-done h = ⊎-elim (λ w. absurd (omega (arith, w .number))) (λ w. w) store-view
 
   pub store-within : Within bs (m .start) (m .start + m .room) (storeMemory k m bs ptr offset v .cells)
@@ -218,7 +222,7 @@ module _ (k : StoreKind) (m : Memory) (bs : List ℕ) (ptr offset v : ℕ) where
       (λ w. within-length bs _ _ _ store-within (w .sound .inside))
       store-view
 
-  pub store-load : (j : LoadKind) → widthBytes (loadWidth j) ≡ widthBytes (storeWidth k) → numberOf (storeMemory k m bs ptr offset v .answer) ≡ 0
+  pub store-load : (j : LoadKind) → widthBytes (loadWidth j) ≡ widthBytes (storeWidth k) → numberOf (storeMemory k m bs ptr offset v .out) ≡ 0
       → loadMemory j m (storeMemory k m bs ptr offset v .cells) ptr offset ≡ answer.Value (extend j (v % 2 ^ (8 * widthBytes (storeWidth k))))
   unfolding loadMemory
   store-load j e z =
@@ -226,19 +230,19 @@ module _ (k : StoreKind) (m : Memory) (bs : List ℕ) (ptr offset v : ℕ) where
       let s = is-sound m (length bs) (w .sound) in
       let q = by-sound s in
       pick-true _ _ _ (ap (soundMemory m) store-length ∙ s)
-      ∙ ap (λ (x : Stored). loadAt j (x .cells) (m .start) (m .size) ptr offset) q
-      ∙ store-at-load k bs (m .start) (m .size) ptr offset v j e (omega (arith, w .sound .inside, w .sound .held)) (ap (λ (x : Stored). numberOf (x .answer)) (sym q) ∙ z)
+      ∙ ap (λ (x : Done Answer). loadAt j (x .cells) (m .start) (m .size) ptr offset) q
+      ∙ store-at-load k bs (m .start) (m .size) ptr offset v j e (omega (arith, w .sound .inside, w .sound .held)) (ap (λ (x : Done Answer). numberOf (x .out)) (sym q) ∙ z)
 
 -- host reads and writes: refused, or the bytes from an offset on
-pub record Copies (m : Memory) (bs : List ℕ) (offset len : ℕ) (cs : List ℕ) (s : Stored) : Type 0 where
+pub record Copies (m : Memory) (bs : List ℕ) (offset len : ℕ) (cs : List ℕ) (s : Done Answer) : Type 0 where
   pub sound : Sound m (length bs)
   pub fits : offset + len ≤ m .size
-  pub answer : s .answer ≡ accept 0
+  pub answer : s .out ≡ accept 0
   pub cells : s .cells ≡ cs
 
 -- what both share: tests, then the accepted cells
 copy-view : (m : Memory) (bs : List ℕ) (offset len : ℕ) (old cs : List ℕ)
-    → (s : Stored) → s ≡ pick (soundMemory m (length bs)) (pick (inside offset len (m .size)) (done (accept 0) cs) (done (refuse 9 0) old)) (done (refuse 19 0) old)
+    → (s : Done Answer) → s ≡ pick (soundMemory m (length bs)) (pick (inside offset len (m .size)) (done (accept 0) cs) (done (refuse 9 0) old)) (done (refuse 19 0) old)
     → Kept old s ⊎ Copies m bs offset len cs s
 unfolding numberOf
 copy-view m bs offset len old cs s q =
@@ -260,11 +264,11 @@ module _ (m : Memory) (bs : List ℕ) (offset : ℕ) (buf : List ℕ) where
   write-view = copy-view m bs offset (length buf) bs _ _ refl
 
   -- a refused read leaves the caller's buffer, an accepted one has the bytes
-  pub read-kept : (numberOf (readMemory m bs offset buf .answer) ≡ 0 → ⊥) → readMemory m bs offset buf .cells ≡ buf
+  pub read-kept : (numberOf (readMemory m bs offset buf .out) ≡ 0 → ⊥) → readMemory m bs offset buf .cells ≡ buf
   unfolding numberOf
   read-kept h = ⊎-elim (λ w. w .cells) (λ w. absurd (h (ap numberOf (w .answer)))) read-view
 
-  pub read-done : numberOf (readMemory m bs offset buf .answer) ≡ 0 → Copies m bs offset (length buf) (cut bs (m .start + offset) (length buf)) (readMemory m bs offset buf)
+  pub read-done : numberOf (readMemory m bs offset buf .out) ≡ 0 → Copies m bs offset (length buf) (cut bs (m .start + offset) (length buf)) (readMemory m bs offset buf)
   read-done h = ⊎-elim (λ w. absurd (omega (arith, w .number))) (λ w. w) read-view
 
   pub read-length : length (readMemory m bs offset buf .cells) ≡ length buf
@@ -275,11 +279,11 @@ module _ (m : Memory) (bs : List ℕ) (offset : ℕ) (buf : List ℕ) where
       read-view
 
   -- a refused write changes no byte, an accepted one its span alone
-  pub write-kept : (numberOf (writeMemory m bs offset buf .answer) ≡ 0 → ⊥) → writeMemory m bs offset buf .cells ≡ bs
+  pub write-kept : (numberOf (writeMemory m bs offset buf .out) ≡ 0 → ⊥) → writeMemory m bs offset buf .cells ≡ bs
   unfolding numberOf
   write-kept h = ⊎-elim (λ w. w .cells) (λ w. absurd (h (ap numberOf (w .answer)))) write-view
 
-  pub write-done : numberOf (writeMemory m bs offset buf .answer) ≡ 0 → Copies m bs offset (length buf) (over bs (m .start + offset) buf) (writeMemory m bs offset buf)
+  pub write-done : numberOf (writeMemory m bs offset buf .out) ≡ 0 → Copies m bs offset (length buf) (over bs (m .start + offset) buf) (writeMemory m bs offset buf)
   write-done h = ⊎-elim (λ w. absurd (omega (arith, w .number))) (λ w. w) write-view
 
   pub write-within : Within bs (m .start) (m .start + m .room) (writeMemory m bs offset buf .cells)
@@ -294,13 +298,13 @@ module _ (m : Memory) (bs : List ℕ) (offset : ℕ) (buf : List ℕ) where
       ⊎-elim (λ w. ap length (w .cells)) (λ w. within-length bs _ _ _ write-within (w .sound .inside)) write-view
 
 -- a refused growth: no byte and no size changes
-pub record Stays (m : Memory) (bs : List ℕ) (g : grow.Grown) : Type 0 where
+pub record Stays (m : Memory) (bs : List ℕ) (g : Done GrownMemory) : Type 0 where
   pub number : 0 < numberOf (g .out .answer)
   pub memory : g .out .memory ≡ m
   pub cells : g .cells ≡ bs
 
 -- an accepted growth: the new bytes are 0, and all else is as it was
-pub record Grows (m : Memory) (bs : List ℕ) (n : ℕ) (g : grow.Grown) : Type 0 where
+pub record Grows (m : Memory) (bs : List ℕ) (n : ℕ) (g : Done GrownMemory) : Type 0 where
   pub sound : Sound m (length bs)
   pub more : m .size ≤ grownSize m n
   pub held : grownSize m n ≤ m .room
@@ -311,7 +315,7 @@ pub record Grows (m : Memory) (bs : List ℕ) (n : ℕ) (g : grow.Grown) : Type 
   pub cells : g .cells ≡ over bs (m .start + m .size) (replicate (grownSize m n - m .size) 0)
 
 -- what a size is once it was granted
-record Enlarges (m : Memory) (bs : List ℕ) (size : ℕ) (g : grow.Grown) : Type 0 where
+record Enlarges (m : Memory) (bs : List ℕ) (size : ℕ) (g : Done GrownMemory) : Type 0 where
   held : size ≤ m .room
   answer : g .out .answer ≡ accept (pagesOf m)
   memory : g .out .memory ≡ resized m size
@@ -333,7 +337,7 @@ pub record Same (a b : Memory) : Type 0 where
 module _ (m : Memory) (bs : List ℕ) (n : ℕ) (f : Fuel) (l : Limiter) where
   module _ (s : Sound m (length bs)) where
     -- by 0 pages
-    none-grows : n ≡ 0 → Grows m bs n (grow.done (grow.answered (accept (pagesOf m)) m f l) bs)
+    none-grows : n ≡ 0 → Grows m bs n (done (grow.answered (accept (pagesOf m)) m f l) bs)
     unfolding pagesOf
     none-grows e =
         let b = pageBytes (m .ty .page) in
@@ -355,7 +359,7 @@ module _ (m : Memory) (bs : List ℕ) (n : ℕ) (f : Fuel) (l : Limiter) where
     unfolding grow-stages.growTo grow-stages.grantOf
     to-view size = enlarged-view _ _ _ m bs size (growth-fair l f true _ (leb size (m .room)))
 
-    grows : (size : ℕ) (g : grow.Grown) → grow.mayHave (m .ty) (pagesOf m + n) ≡ true → grownSize m n ≡ size → Enlarges m bs size g → Grows m bs n g
+    grows : (size : ℕ) (g : Done GrownMemory) → grow.mayHave (m .ty) (pagesOf m + n) ≡ true → grownSize m n ≡ size → Enlarges m bs size g → Grows m bs n g
     unfolding grow.mayHave
     grows size g may q w =
         record {
@@ -381,13 +385,13 @@ module _ (m : Memory) (bs : List ℕ) (n : ℕ) (f : Fuel) (l : Limiter) where
     sound-view =
         either (eqb n 0)
         (λ e. inr (subst (Grows m bs n) (sym (pick-true _ _ _ e)) (none-grows (eqb-true _ _ e))))
-        (λ e. subst (λ (g : grow.Grown). Stays m bs g ⊎ Grows m bs n g) (sym (pick-false _ _ _ e)) (by-reach (grow-stages.reachOf m n) refl))
+        (λ e. subst (λ (g : Done GrownMemory). Stays m bs g ⊎ Grows m bs n g) (sym (pick-false _ _ _ e)) (by-reach (grow-stages.reachOf m n) refl))
 
   pub grow-view : Stays m bs (grow.growMemory m bs n f l) ⊎ Grows m bs n (grow.growMemory m bs n f l)
   unfolding numberOf
   grow-view =
       either (soundMemory m (length bs))
-      (λ e. subst (λ (g : grow.Grown). Stays m bs g ⊎ Grows m bs n g) (grow-goes m bs n f l e refl) (sound-view (sound-is m (length bs) e)))
+      (λ e. subst (λ (g : Done GrownMemory). Stays m bs g ⊎ Grows m bs n g) (grow-goes m bs n f l e refl) (sound-view (sound-is m (length bs) e)))
       (λ e. inl (subst (Stays m bs) (grow-stops m bs n f l e refl) (record { number = omega arith; memory = refl; cells = refl })))
 
   -- a refused growth changes no byte and no size
@@ -450,14 +454,14 @@ module _ (m : Memory) (bs : List ℕ) (n : ℕ) (f : Fuel) (l : Limiter) where
       grow-view
 
 -- a refused creation: no byte changes
-pub record NotMade (bs : List ℕ) (c : new.Created) : Type 0 where
+pub record NotMade (bs : List ℕ) (c : Done CreatedMemory) : Type 0 where
   pub refusal : Refusal
   pub made : c .out .made ≡ Refused refusal
   pub number : 0 < refusal .number
   pub cells : c .cells ≡ bs
 
 -- a memory that was made: of a valid type, in its room, with the minimum's bytes, which are 0
-pub record Makes (kind : BuiltMemory) (bs : List ℕ) (start room : ℕ) (c : new.Created) : Type 0 where
+pub record Makes (kind : BuiltMemory) (bs : List ℕ) (start room : ℕ) (c : Done CreatedMemory) : Type 0 where
   pub memory : Memory
   pub made : c .out .made ≡ Made memory
   pub type : kind ≡ built.Built (memory .ty)
@@ -468,7 +472,7 @@ pub record Makes (kind : BuiltMemory) (bs : List ℕ) (start room : ℕ) (c : ne
   pub cells : c .cells ≡ over bs start (replicate (memory .size) 0)
 
 module _ (kind : BuiltMemory) (bs : List ℕ) (start room : ℕ) (h : start + room ≤ length bs) where
-  abbrev View : new.Created → Type 0
+  abbrev View : Done CreatedMemory → Type 0
   View c = NotMade bs c ⊎ Makes kind bs start room c
 
   module _ (t : MemoryType) (v : validMemory t ≡ true) (d : kind ≡ built.Built t) where
@@ -492,7 +496,7 @@ module _ (kind : BuiltMemory) (bs : List ℕ) (start room : ℕ) (h : start + ro
               (λ q. pick-false _ _ _ q);
         }
 
-    made-by : (p : Permit) (l : Limiter) (size : ℕ) → minimumBytes t ≡ Bytes size → Fair p (leb size room) → View (new-stages.madeBy p l t start room size bs)
+    made-by : (p : Permit) (l : Limiter) (size : ℕ) → minimumBytes t ≡ Bytes size → Fair p (leb size room) → View (new-stages.madeBy p l (new.memoryOf t start room size) bs)
     unfolding new-stages.madeBy
     made-by (Denied r) l size e g = inl (record { refusal = r; made = refl; number = g .1 r refl; cells = refl })
     made-by Granted l size e g =
@@ -519,19 +523,19 @@ module _ (kind : BuiltMemory) (bs : List ℕ) (start room : ℕ) (h : start + ro
   by-type (built.Refused r) l e p q = inl (record { refusal = r; made = refl; number = q r refl; cells = refl })
   by-type (built.Built t) l e p q = by-size t (p t refl) e (minimumBytes t) l refl
 
-module _ (wide : Bool) (limits : Limits) (exponent start room : ℕ) (bs : List ℕ) (l : Limiter) where
-  pub new-view : NotMade bs (new.newMemory wide limits exponent start room bs l) ⊎ Makes (buildMemory wide limits exponent) bs start room (new.newMemory wide limits exponent start room bs l)
+module _ (want : WantedMemory) (start room : ℕ) (bs : List ℕ) (l : Limiter) where
+  pub new-view : NotMade bs (new.newMemory want start room bs l) ⊎ Makes (buildMemory (want .wide) (want .limits) (want .exponent)) bs start room (new.newMemory want start room bs l)
   new-view =
-      let kind = buildMemory wide limits exponent in
+      let kind = buildMemory (want .wide) (want .limits) (want .exponent) in
       either (leb (start + room) (length bs))
-      (λ e. subst (λ (c : new.Created). NotMade bs c ⊎ Makes kind bs start room c) (new-goes wide limits exponent start room bs l e refl)
-      (by-type kind bs start room (leb-true _ _ e) kind l refl (built-valid wide limits exponent)
-      (λ r q. let k : r .number ≡ 1 = ap (λ (x : Refusal). x .number) (built-refused wide limits exponent r q) in omega arith)))
-      (λ e. inl (subst (NotMade bs) (new-stops wide limits exponent start room bs l e refl) (record { refusal = refusal 19 0; made = refl; number = omega arith; cells = refl })))
+      (λ e. subst (λ (c : Done CreatedMemory). NotMade bs c ⊎ Makes kind bs start room c) (new-goes want start room bs l e refl)
+      (by-type kind bs start room (leb-true _ _ e) kind l refl (built-valid (want .wide) (want .limits) (want .exponent))
+      (λ r q. let k : r .number ≡ 1 = ap (λ (x : Refusal). x .number) (built-refused (want .wide) (want .limits) (want .exponent) r q) in omega arith)))
+      (λ e. inl (subst (NotMade bs) (new-stops want start room bs l e refl) (record { refusal = refusal 19 0; made = refl; number = omega arith; cells = refl })))
 
   -- a refused creation changes no byte, and its number is not 0
-  pub new-kept : (r : Refusal) → new.newMemory wide limits exponent start room bs l .out .made ≡ Refused r
-      → (new.newMemory wide limits exponent start room bs l .cells ≡ bs) × (0 < r .number)
+  pub new-kept : (r : Refusal) → new.newMemory want start room bs l .out .made ≡ Refused r
+      → (new.newMemory want start room bs l .cells ≡ bs) × (0 < r .number)
   new-kept r e =
       ⊎-elim
       (λ w. let d : Refused (w .refusal) ≡ Refused r = sym (w .made) ∙ e in let k : w .refusal ≡ r = cc in (w .cells, subst (λ (x : Refusal). 0 < x .number) k (w .number)))
@@ -539,15 +543,15 @@ module _ (wide : Bool) (limits : Limits) (exponent start room : ℕ) (bs : List 
       new-view
 
   -- a memory that was made
-  pub new-done : (m : Memory) → new.newMemory wide limits exponent start room bs l .out .made ≡ Made m
-      → Makes (buildMemory wide limits exponent) bs start room (new.newMemory wide limits exponent start room bs l)
+  pub new-done : (m : Memory) → new.newMemory want start room bs l .out .made ≡ Made m
+      → Makes (buildMemory (want .wide) (want .limits) (want .exponent)) bs start room (new.newMemory want start room bs l)
   new-done m e =
       ⊎-elim
       (λ w. let d : Refused (w .refusal) ≡ Made m = sym (w .made) ∙ e in let z : _≡_ {A = ℕ} 0 1 = cc in absurd (omega arith))
       (λ w. w)
       new-view
 
-  pub new-within : Within bs start (start + room) (new.newMemory wide limits exponent start room bs l .cells)
+  pub new-within : Within bs start (start + room) (new.newMemory want start room bs l .cells)
   new-within =
       ⊎-elim
       (λ w. within-none bs _ _ _ (omega arith) (w .cells))
@@ -560,7 +564,7 @@ module _ (wide : Bool) (limits : Limits) (exponent start room : ℕ) (bs : List 
       })
       new-view
 
-  pub new-length : length (new.newMemory wide limits exponent start room bs l .cells) ≡ length bs
+  pub new-length : length (new.newMemory want start room bs l .cells) ≡ length bs
   new-length =
       ⊎-elim
       (λ w. ap length (w .cells))
@@ -568,8 +572,8 @@ module _ (wide : Bool) (limits : Limits) (exponent start room : ℕ) (bs : List 
       new-view
 
   -- a memory that was made is sound over the buffer
-  pub new-sound : (m : Memory) → new.newMemory wide limits exponent start room bs l .out .made ≡ Made m
-      → soundMemory m (length (new.newMemory wide limits exponent start room bs l .cells)) ≡ true
+  pub new-sound : (m : Memory) → new.newMemory want start room bs l .out .made ≡ Made m
+      → soundMemory m (length (new.newMemory want start room bs l .cells)) ≡ true
   new-sound m e =
       let w = new-done m e in
       let d : Made (w .memory) ≡ Made m = sym (w .made) ∙ e in

@@ -9,7 +9,7 @@ use borrow.Author.Tests.{lt-ltb, le-ltb, leb-true, leb-false}
 use Rattle.types.specs.Pick.{pick, both}
 use Rattle.types.specs.Limits.{admitsOf}
 use Rattle.types.specs.MemoryType.{pageBytes, pageBound, byteSize}
-use Rattle.types.specs.Grant.{grantCreation}
+use Rattle.types.specs.stages.Grant.{grantCreation}
 use Rattle.types.specs.declared.fuel.Fuel.{Fuel}
 use Rattle.types.specs.declared.limiter.Limiter.{Limiter}
 use Rattle.types.specs.declared.limiter.Asked.{Asked}
@@ -24,8 +24,8 @@ use Rattle.types.proofs.Sizes.{page-pos}
 use Rattle.types.proofs.Grants.{creation-fair, granted-growth}
 use Rattle.memory.specs.Memory.{pagesOf, soundMemory}
 use Rattle.memory.specs.Grow.{mayHave}
-use Rattle.memory.specs.GrowStages.{reachPages, reachOf, grantOf}
-use Rattle.memory.specs.Facts.{Held, Roomy}
+use Rattle.memory.specs.stages.Grow.{reachPages, reachOf, grantOf}
+use Rattle.memory.specs.stages.Facts.{Held, Roomy}
 use Rattle.memory.specs.declared.memory.Memory.{Memory}
 use Rattle.memory.proofs.Sounds.{Sound, sound-is}
 

@@ -10,7 +10,7 @@ use lib.IntN.{ℤ, pos, negsuc, _-ℤ_, subℕ}
 use mir.Syntax.{Width, w8, w16, w32, w64, w128}
 use mir.Val.{SFits, toZ, ofZ, hbits, sel}
 use mir.Facts.{toZ-pos, toZ-neg, toZ-ofZ}
-use Rattle.memory.specs.Facts.{signedOf, SignsBy}
+use Rattle.memory.specs.stages.Facts.{signedOf, SignsBy}
 
 -- the number of a width's bits
 pub signed-is : (w : Width) (x : ℕ) → signedOf (2 ^ hbits w) x ≡ toZ w x

@@ -2,10 +2,11 @@
 use mathlib.Core.Path.{_≡_, ap, sym, _∙_}
 use mathlib.Core.Bool.{Bool, true, false}
 use mathlib.Core.List.{List}
-use Prim.Native.Nat.{ℕ, _+_, _-_, _*_, _^_}
+use Prim.Native.Nat.{ℕ, _+_, _-_, _^_}
 use lib.Dec.{eqb, leb, ltb}
 use lib.ListN.{length, replicate}
 use Rattle.types.specs.Pick.{pick, both, unless}
+use Rattle.types.specs.Done.{Done, done}
 use Rattle.types.specs.Span.{over}
 use Rattle.types.specs.Answer.{refusal, refuse, accept}
 use Rattle.types.specs.Fuel.{short, paid}
@@ -14,21 +15,23 @@ use Rattle.types.specs.declared.fuel.Fuel.{Fuel}
 use Rattle.types.specs.declared.limiter.Limiter.{Limiter}
 use Rattle.types.proofs.Picks.{pick-ap, pick-true, pick-false}
 use Rattle.types.proofs.Chains.{growth-chain, creation-chain}
-use Rattle.types.specs.MemoryType.{pageBytes, pageOf, memoryType, validExponent, validMemory, buildMemory, byteSize, minimumBytes}
-use Rattle.types.specs.declared.limits.Limits.{Limits}
+use Rattle.types.specs.MemoryType.{validExponent, validMemory, buildMemory, byteSize, minimumBytes}
 use Rattle.types.specs.declared.memory_ty.BuiltMemory.the-variants as built
 use Rattle.types.specs.declared.memory_ty.ByteSize.the-variants.{Bytes, Overflow}
+use Rattle.types.specs.declared.memory_ty.WantedMemory.{WantedMemory}
 use Rattle.memory.specs.Memory.{pagesOf, resized, soundMemory}
-use Rattle.memory.specs.Grow.{Grown, done, answered, mayHave, grownSize, growthPrice, growMemory}
-use Rattle.memory.specs.GrowStages.{reachPages, reachOf, enlargedBy, grantOf, growTo, byReach, growSound}
+use Rattle.memory.specs.Grow.{answered, mayHave, grownSize, growthPrice, growMemory}
+use Rattle.memory.specs.stages.Grow.{reachPages, reachOf, enlargedBy, grantOf, growTo, byReach, growSound}
 use Rattle.memory.specs.New as new
-use Rattle.memory.specs.NewStages.{madeBy, madeOf, bySize, byType}
+use Rattle.memory.specs.stages.New.{madeBy, madeOf, bySize, byType}
 use Rattle.memory.specs.declared.memory.Memory.{Memory}
 use Rattle.memory.specs.declared.new.MadeMemory.the-variants.{Made}
+use Rattle.memory.specs.declared.new.CreatedMemory.{CreatedMemory}
+use Rattle.memory.specs.declared.grow.GrownMemory.{GrownMemory}
 
 module _ (m : Memory) (bs : List ℕ) (n : ℕ) (f : Fuel) (l : Limiter) where
   -- a growth within the bounds, from the limiter's question on
-  abbrev granted : Grown
+  abbrev granted : Done GrownMemory
   granted =
       pick (eqb (saysOf l) 1) (done (answered (refuse 6 0) m f (moved l)) bs)
       (pick (eqb (saysOf l) 2) (done (answered (refuse 4 0) m f (moved l)) bs)
@@ -46,66 +49,66 @@ module _ (m : Memory) (bs : List ℕ) (n : ℕ) (f : Fuel) (l : Limiter) where
   unfolding reachPages byReach
   reach-chain =
       pick-ap (λ to. byReach to m bs f l) (mayHave (m .ty) (pagesOf m + n)) (Bytes (grownSize m n)) Overflow
-      ∙ ap (λ (g : Grown). pick (mayHave (m .ty) (pagesOf m + n)) g (done (answered (refuse 6 0) m f l) bs)) to-chain
+      ∙ ap (λ (g : Done GrownMemory). pick (mayHave (m .ty) (pagesOf m + n)) g (done (answered (refuse 6 0) m f l) bs)) to-chain
 
   pub grow-staged : growMemory m bs n f l ≡ pick (soundMemory m (length bs)) (growSound m bs n f l) (done (answered (refuse 19 0) m f l) bs)
   unfolding growMemory growSound
   grow-staged =
-      ap (λ (g : Grown). pick (soundMemory m (length bs)) (pick (eqb n 0) (done (answered (accept (pagesOf m)) m f l) bs) g) (done (answered (refuse 19 0) m f l) bs))
+      ap (λ (g : Done GrownMemory). pick (soundMemory m (length bs)) (pick (eqb n 0) (done (answered (accept (pagesOf m)) m f l) bs) g) (done (answered (refuse 19 0) m f l) bs))
       (sym reach-chain)
 
   -- by whether the record is sound, as the code tests it
-  pub grow-goes : {g : Grown} → soundMemory m (length bs) ≡ true → g ≡ growSound m bs n f l → g ≡ growMemory m bs n f l
+  pub grow-goes : {g : Done GrownMemory} → soundMemory m (length bs) ≡ true → g ≡ growSound m bs n f l → g ≡ growMemory m bs n f l
   grow-goes e q = q ∙ sym (grow-staged ∙ pick-true _ _ _ e)
 
-  pub grow-stops : {g : Grown} → soundMemory m (length bs) ≡ false → g ≡ done (answered (refuse 19 0) m f l) bs → g ≡ growMemory m bs n f l
+  pub grow-stops : {g : Done GrownMemory} → soundMemory m (length bs) ≡ false → g ≡ done (answered (refuse 19 0) m f l) bs → g ≡ growMemory m bs n f l
   grow-stops e q = q ∙ sym (grow-staged ∙ pick-false _ _ _ e)
 
-module _ (wide : Bool) (limits : Limits) (exponent start room : ℕ) (bs : List ℕ) (l : Limiter) where
+module _ (w : WantedMemory) (start room : ℕ) (bs : List ℕ) (l : Limiter) where
   abbrev least : ℕ
-  least = new.leastBytes limits exponent
+  least = new.leastBytes w
 
   -- a creation of a valid type, from the limiter's question on
-  abbrev made : new.Created
+  abbrev made : Done CreatedMemory
   made =
-      pick (eqb (saysOf l) 1) (new.done (new.refused (moved l) (refusal 3 0)) bs)
-      (pick (eqb (saysOf l) 2) (new.done (new.refused (moved l) (refusal 4 0)) bs)
-      (unless (leb least room) (new.done (new.refused (moved (moved l)) (heardOf (saysOf (moved l)) (refusal 5 0))) bs)
-      (new.done (record { made = Made (new.memoryOf (new.wanted wide limits exponent) start room least); limiter = moved l })
+      pick (eqb (saysOf l) 1) (done (new.refused (moved l) (refusal 3 0)) bs)
+      (pick (eqb (saysOf l) 2) (done (new.refused (moved l) (refusal 4 0)) bs)
+      (unless (leb least room) (done (new.refused (moved (moved l)) (heardOf (saysOf (moved l)) (refusal 5 0))) bs)
+      (done (record { made = Made (new.memoryOf (new.wanted w) start room least); limiter = moved l })
       (over bs start (replicate least 0)))))
 
-  made-chain : madeOf l (new.wanted wide limits exponent) start room least bs ≡ made
+  made-chain : madeOf l (new.memoryOf (new.wanted w) start room least) bs ≡ made
   unfolding madeOf madeBy
-  made-chain = creation-chain (λ p k. madeBy p k (new.wanted wide limits exponent) start room least bs) l (leb least room)
+  made-chain = creation-chain (λ p k. madeBy p k (new.memoryOf (new.wanted w) start room least) bs) l (leb least room)
 
-  size-chain : bySize (minimumBytes (new.wanted wide limits exponent)) l (new.wanted wide limits exponent) start room bs
-      ≡ unless (ltb least (2 ^ 64)) (new.done (new.refused l (refusal 2 0)) bs) made
+  size-chain : bySize (minimumBytes (new.wanted w)) l (new.wanted w) start room bs
+      ≡ unless (ltb least (2 ^ 64)) (done (new.refused l (refusal 2 0)) bs) made
   unfolding minimumBytes byteSize bySize
   size-chain =
-      pick-ap (λ to. bySize to l (new.wanted wide limits exponent) start room bs) (ltb least (2 ^ 64)) (Bytes least) Overflow
-      ∙ ap (λ (c : new.Created). pick (ltb least (2 ^ 64)) c (new.done (new.refused l (refusal 2 0)) bs)) made-chain
+      pick-ap (λ to. bySize to l (new.wanted w) start room bs) (ltb least (2 ^ 64)) (Bytes least) Overflow
+      ∙ ap (λ (c : Done CreatedMemory). pick (ltb least (2 ^ 64)) c (done (new.refused l (refusal 2 0)) bs)) made-chain
 
   abbrev valid : Bool
-  valid = both (validExponent exponent) (validMemory (new.wanted wide limits exponent))
+  valid = both (validExponent (w .exponent)) (validMemory (new.wanted w))
 
-  type-chain : byType (buildMemory wide limits exponent) l start room bs
-      ≡ unless valid (new.done (new.refused l (refusal 1 0)) bs) (unless (ltb least (2 ^ 64)) (new.done (new.refused l (refusal 2 0)) bs) made)
+  type-chain : byType (buildMemory (w .wide) (w .limits) (w .exponent)) l start room bs
+      ≡ unless valid (done (new.refused l (refusal 1 0)) bs) (unless (ltb least (2 ^ 64)) (done (new.refused l (refusal 2 0)) bs) made)
   unfolding buildMemory byType
   type-chain =
-      pick-ap (λ t. byType t l start room bs) valid (built.Built (new.wanted wide limits exponent)) (built.Refused (refusal 1 0))
-      ∙ ap (λ (c : new.Created). pick valid c (new.done (new.refused l (refusal 1 0)) bs)) size-chain
+      pick-ap (λ t. byType t l start room bs) valid (built.Built (new.wanted w)) (built.Refused (refusal 1 0))
+      ∙ ap (λ (c : Done CreatedMemory). pick valid c (done (new.refused l (refusal 1 0)) bs)) size-chain
 
-  pub new-staged : new.newMemory wide limits exponent start room bs l
-      ≡ pick (leb (start + room) (length bs)) (byType (buildMemory wide limits exponent) l start room bs) (new.done (new.refused l (refusal 19 0)) bs)
+  pub new-staged : new.newMemory w start room bs l
+      ≡ pick (leb (start + room) (length bs)) (byType (buildMemory (w .wide) (w .limits) (w .exponent)) l start room bs) (done (new.refused l (refusal 19 0)) bs)
   unfolding new.newMemory
   new-staged =
-      ap (λ (c : new.Created). pick (leb (start + room) (length bs)) c (new.done (new.refused l (refusal 19 0)) bs)) (sym type-chain)
+      ap (λ (c : Done CreatedMemory). pick (leb (start + room) (length bs)) c (done (new.refused l (refusal 19 0)) bs)) (sym type-chain)
 
   -- by whether the room is inside the buffer, as the code tests it
-  pub new-goes : {c : new.Created} → leb (start + room) (length bs) ≡ true → c ≡ byType (buildMemory wide limits exponent) l start room bs
-      → c ≡ new.newMemory wide limits exponent start room bs l
+  pub new-goes : {c : Done CreatedMemory} → leb (start + room) (length bs) ≡ true → c ≡ byType (buildMemory (w .wide) (w .limits) (w .exponent)) l start room bs
+      → c ≡ new.newMemory w start room bs l
   new-goes e q = q ∙ sym (new-staged ∙ pick-true _ _ _ e)
 
-  pub new-stops : {c : new.Created} → leb (start + room) (length bs) ≡ false → c ≡ new.done (new.refused l (refusal 19 0)) bs
-      → c ≡ new.newMemory wide limits exponent start room bs l
+  pub new-stops : {c : Done CreatedMemory} → leb (start + room) (length bs) ≡ false → c ≡ done (new.refused l (refusal 19 0)) bs
+      → c ≡ new.newMemory w start room bs l
   new-stops e q = q ∙ sym (new-staged ∙ pick-false _ _ _ e)

@@ -1,12 +1,10 @@
 -- Uniqueness: each public function's contract names one answer, and one content of what it is lent to write, for each input. Assumes nothing.
-use mathlib.Core.Path.{sym, _∙_, ap}
+use mathlib.Core.Path.{sym, _∙_}
 use mathlib.Core.List.{List}
 use Prim.Native.Nat.{ℕ}
 use denote.Ref.{now}
 use Rattle.types.proofs.One.{One, OneWith}
-use Rattle.memory.specs.Access as access
-use Rattle.memory.specs.Grow as grow
-use Rattle.memory.specs.New as new
+use Rattle.types.proofs.Dones.{done-parts}
 use Rattle.memory.proofs.access.Width.bytes.Reads as width-bytes-reads
 use Rattle.memory.proofs.access.Width.bytes.Kinds as width-bytes-kinds
 use Rattle.memory.proofs.access.LoadKind.width.Reads as load-kind-width-reads
@@ -52,10 +50,10 @@ pub access-load-one : One 1 access-load-kinds.ps access-load-kinds.r access-load
 access-load-one κs a x x′ s s′ z p q = p ∙ sym q
 
 pub access-store-one : OneWith 1 access-store-kinds.ps access-store-kinds.r access-store-reads.Pre access-store-reads.Post (List ℕ) (λ κs s. now (s .0))
-access-store-one κs a x x′ s s′ z p q = (ap (λ (o : access.Stored). o .answer) (p ∙ sym q), ap (λ (o : access.Stored). o .cells) (p ∙ sym q))
+access-store-one κs a x x′ s s′ z p q = done-parts (p ∙ sym q)
 
 pub memory-grow-one : OneWith 1 memory-grow-kinds.ps memory-grow-kinds.r memory-grow-reads.Pre memory-grow-reads.Post (List ℕ) (λ κs s. now (s .1 .0))
-memory-grow-one κs a x x′ s s′ z p q = (ap (λ (o : grow.Grown). o .out) (p ∙ sym q), ap (λ (o : grow.Grown). o .cells) (p ∙ sym q))
+memory-grow-one κs a x x′ s s′ z p q = done-parts (p ∙ sym q)
 
 pub memory-pages-one : One 0 memory-pages-kinds.ps memory-pages-kinds.r memory-pages-reads.Pre memory-pages-reads.Post
 memory-pages-one κs a x x′ s s′ z p q = p ∙ sym q
@@ -67,13 +65,13 @@ pub memory-load-one : One 1 memory-load-kinds.ps memory-load-kinds.r memory-load
 memory-load-one κs a x x′ s s′ z p q = p ∙ sym q
 
 pub memory-store-one : OneWith 1 memory-store-kinds.ps memory-store-kinds.r memory-store-reads.Pre memory-store-reads.Post (List ℕ) (λ κs s. now (s .1 .0))
-memory-store-one κs a x x′ s s′ z p q = (ap (λ (o : access.Stored). o .answer) (p ∙ sym q), ap (λ (o : access.Stored). o .cells) (p ∙ sym q))
+memory-store-one κs a x x′ s s′ z p q = done-parts (p ∙ sym q)
 
 pub memory-read-one : OneWith 2 memory-read-kinds.ps memory-read-kinds.r memory-read-reads.Pre memory-read-reads.Post (List ℕ) (λ κs s. now (s .1 .1 .1 .0))
-memory-read-one κs a x x′ s s′ z p q = (ap (λ (o : access.Stored). o .answer) (p ∙ sym q), ap (λ (o : access.Stored). o .cells) (p ∙ sym q))
+memory-read-one κs a x x′ s s′ z p q = done-parts (p ∙ sym q)
 
 pub memory-write-one : OneWith 2 memory-write-kinds.ps memory-write-kinds.r memory-write-reads.Pre memory-write-reads.Post (List ℕ) (λ κs s. now (s .1 .0))
-memory-write-one κs a x x′ s s′ z p q = (ap (λ (o : access.Stored). o .answer) (p ∙ sym q), ap (λ (o : access.Stored). o .cells) (p ∙ sym q))
+memory-write-one κs a x x′ s s′ z p q = done-parts (p ∙ sym q)
 
-pub new-new-memory-one : OneWith 1 new-new-memory-kinds.ps new-new-memory-kinds.r new-new-memory-reads.Pre new-new-memory-reads.Post (List ℕ) (λ κs s. now (s .1 .1 .1 .1 .1 .0))
-new-new-memory-one κs a x x′ s s′ z p q = (ap (λ (o : new.Created). o .out) (p ∙ sym q), ap (λ (o : new.Created). o .cells) (p ∙ sym q))
+pub new-new-memory-one : OneWith 1 new-new-memory-kinds.ps new-new-memory-kinds.r new-new-memory-reads.Pre new-new-memory-reads.Post (List ℕ) (λ κs s. now (s .1 .1 .1 .0))
+new-new-memory-one κs a x x′ s s′ z p q = done-parts (p ∙ sym q)

@@ -10,7 +10,7 @@ use mir.Facts.{toZ-pos, toZ-ofZ}
 use Rattle.types.specs.declared.answer.Value.{Value}
 use Rattle.types.specs.declared.answer.Value.the-variants as value
 use Rattle.memory.specs.Access.{widthBytes, loadWidth, extend}
-use Rattle.memory.specs.Facts.{Reach, SignsBy, signedOf}
+use Rattle.memory.specs.stages.Facts.{Reach, SignsBy, signedOf}
 use Rattle.memory.specs.declared.access.Width.{Width}
 use Rattle.memory.specs.declared.access.Width.the-variants.{W8, W16, W32, W64}
 use Rattle.memory.specs.declared.access.LoadKind.{LoadKind}

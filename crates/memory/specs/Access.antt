@@ -1,12 +1,14 @@
 -- Loads and stores: document 01, "Access"; WebAssembly Core Specification 3.0, Execution, Instructions, memory instructions.
-use Prim.Native.Nat.{ℕ, _+_, _^_}
+use Prim.Native.Nat.{ℕ, _+_}
 use mathlib.Core.List.{List}
 use lib.Dec.{ltb}
 use lib.IntN.{pos}
 use lib.ListN.{length}
 use mir.Syntax.{w8, w16, w32, w64}
 use mir.Val.{toZ}
+use Rattle.types.specs.Numbers.{word64}
 use Rattle.types.specs.Pick.{pick}
+use Rattle.types.specs.Done.{Done, done}
 use Rattle.types.specs.Span.{inside, cut, over}
 use Rattle.types.specs.Answer.{float32, float64, refuse, accept}
 use Rattle.types.specs.declared.answer.Answer.{Answer}
@@ -23,6 +25,7 @@ use Rattle.memory.specs.declared.access.StoreKind.the-variants as to
 use Rattle.memory.specs.declared.access.Address.{Address}
 use Rattle.memory.specs.declared.access.Address.the-variants.{At, Outside}
 
+-- the bytes of a width
 abbrev pub widthBytes : Width → ℕ
 widthBytes W8 = 1
 widthBytes W16 = 2
@@ -32,7 +35,7 @@ widthBytes W64 = 8
 -- the effective address is pointer plus offset; a sum above 2^64-1 is outside, and so is an access whose end passes the size
 unfoldable pub addressOf : ℕ → ℕ → ℕ → ℕ → Address
 addressOf size ptr offset n =
-    pick (ltb (ptr + offset) (2 ^ 64)) (pick (inside (ptr + offset) n size) (At (ptr + offset)) Outside) Outside
+    pick (ltb (ptr + offset) word64) (pick (inside (ptr + offset) n size) (At (ptr + offset)) Outside) Outside
 
 -- how many bytes a load reads
 abbrev pub loadWidth : LoadKind → Width
@@ -97,22 +100,16 @@ storeWidth to.I64To8 = W8
 storeWidth to.I64To16 = W16
 storeWidth to.I64To32 = W32
 
--- an answer, and the bytes after it
-pub record Stored : Type 0 where
-  pub answer : Answer
-  pub cells : List ℕ
-
-abbrev pub done : Answer → List ℕ → Stored
-done a bs = record { answer = a; cells = bs }
-
 -- 9 outside, and then no byte changes; else the low bytes of the value, the lowest first
-unfoldable pub storeFound : StoreKind → List ℕ → ℕ → ℕ → Address → Stored
+unfoldable pub storeFound : StoreKind → List ℕ → ℕ → ℕ → Address → Done Answer
 storeFound k bs base v Outside = done (refuse 9 0) bs
 storeFound k bs base v (At a) = done (accept 0) (over bs (base + a) (leBytes (widthBytes (storeWidth k)) v))
 
-unfoldable pub storeAt : StoreKind → List ℕ → ℕ → ℕ → ℕ → ℕ → ℕ → Stored
+-- a store to the memory whose size bytes stand from base on
+unfoldable pub storeAt : StoreKind → List ℕ → ℕ → ℕ → ℕ → ℕ → ℕ → Done Answer
 storeAt k bs base size ptr offset v =
     storeFound k bs base v (addressOf size ptr offset (widthBytes (storeWidth k)))
 
-abbrev pub store : StoreKind → List ℕ → ℕ → ℕ → ℕ → Stored
+-- a store to a memory that has all the bytes
+abbrev pub store : StoreKind → List ℕ → ℕ → ℕ → ℕ → Done Answer
 store k bs ptr offset v = storeAt k bs 0 (length bs) ptr offset v

@@ -1,11 +1,13 @@
 -- Document 01, "First check wins", grow memory: by 0 accepted; 6 beyond the bounds; limiter 6/4 without notice; 7 with notice; 8 with notice.
 -- WebAssembly Core Specification 3.0, Execution, Modules, growing memories: the answer is the size before, and the new bytes are 0.
-use Prim.Native.Nat.{ℕ, _+_, _-_, _*_, _^_}
+use Prim.Native.Nat.{ℕ, _+_, _-_, _*_}
 use mathlib.Core.Bool.{Bool}
 use mathlib.Core.List.{List}
 use lib.Dec.{eqb, leb, ltb}
 use lib.ListN.{length, replicate}
+use Rattle.types.specs.Numbers.{word64}
 use Rattle.types.specs.Pick.{pick, unless, both}
+use Rattle.types.specs.Done.{Done, done}
 use Rattle.types.specs.Span.{over}
 use Rattle.types.specs.Answer.{refuse, accept}
 use Rattle.types.specs.Price.{price}
@@ -21,21 +23,14 @@ use Rattle.memory.specs.Memory.{pagesOf, resized, soundMemory}
 use Rattle.memory.specs.declared.memory.Memory.{Memory}
 use Rattle.memory.specs.declared.grow.GrownMemory.{GrownMemory}
 
--- what a growth gives back, and the bytes after it
-pub record Grown : Type 0 where
-  pub out : GrownMemory
-  pub cells : List ℕ
-
-abbrev pub done : GrownMemory → List ℕ → Grown
-done r bs = record { out = r; cells = bs }
-
+-- what a growth gives back
 abbrev pub answered : Answer → Memory → Fuel → Limiter → GrownMemory
 answered a m f l = record { answer = a; memory = m; fuel = f; limiter = l }
 
 -- new pages within the page bound and the type's maximum, new bytes below 2^64
 unfoldable pub mayHave : MemoryType → ℕ → Bool
 mayHave t pages =
-    both (leb pages (pageBound t)) (both (admitsOf (t .limits) pages) (ltb (pages * pageBytes (t .page)) (2 ^ 64)))
+    both (leb pages (pageBound t)) (both (admitsOf (t .limits) pages) (ltb (pages * pageBytes (t .page)) word64))
 
 -- the size in bytes after a growth by n pages
 abbrev pub grownSize : Memory → ℕ → ℕ
@@ -46,7 +41,7 @@ abbrev pub growthPrice : Memory → ℕ → Fuel → ℕ
 growthPrice m n f = price (f .costs .copied) (grownSize m n - m .size)
 
 -- growth by n pages
-unfoldable pub growMemory : Memory → List ℕ → ℕ → Fuel → Limiter → Grown
+unfoldable pub growMemory : Memory → List ℕ → ℕ → Fuel → Limiter → Done GrownMemory
 growMemory m bs n f l =
     unless (soundMemory m (length bs)) (done (answered (refuse 19 0) m f l) bs)
     (pick (eqb n 0) (done (answered (accept (pagesOf m)) m f l) bs)

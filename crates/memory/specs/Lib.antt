@@ -1,9 +1,7 @@
 pub mod LittleEndian
-pub mod Facts
 pub mod Access
 pub mod Memory
 pub mod New
-pub mod NewStages
 pub mod Grow
-pub mod GrowStages
 pub mod Host
+pub mod stages

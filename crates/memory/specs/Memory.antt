@@ -5,11 +5,12 @@ use mathlib.Core.List.{List}
 use lib.Dec.{eqb, leb}
 use lib.ListN.{length}
 use Rattle.types.specs.Pick.{pick, both}
+use Rattle.types.specs.Done.{Done, done}
 use Rattle.types.specs.Limits.{admitsOf}
 use Rattle.types.specs.MemoryType.{pageBytes, pageBound, validMemory}
 use Rattle.types.specs.Answer.{refuse}
 use Rattle.types.specs.declared.answer.Answer.{Answer}
-use Rattle.memory.specs.Access.{Stored, done, loadAt, storeAt}
+use Rattle.memory.specs.Access.{loadAt, storeAt}
 use Rattle.memory.specs.declared.access.LoadKind.{LoadKind}
 use Rattle.memory.specs.declared.access.StoreKind.{StoreKind}
 use Rattle.memory.specs.declared.memory.Memory.{Memory}
@@ -43,6 +44,6 @@ loadMemory k m bs ptr offset =
     pick (soundMemory m (length bs)) (loadAt k bs (m .start) (m .size) ptr offset) (refuse 19 0)
 
 -- a store to a memory, or 19
-unfoldable pub storeMemory : StoreKind → Memory → List ℕ → ℕ → ℕ → ℕ → Stored
+unfoldable pub storeMemory : StoreKind → Memory → List ℕ → ℕ → ℕ → ℕ → Done Answer
 storeMemory k m bs ptr offset v =
     pick (soundMemory m (length bs)) (storeAt k bs (m .start) (m .size) ptr offset v) (done (refuse 19 0) bs)

@@ -8,10 +8,11 @@ ghost use Prim.Native.Nat.{_+_, _*_, _^_, _≤_, _<_};
 ghost use mir.Syntax.{w64};
 ghost use mir.Val.{toZ};
 ghost use lib.ListN.{length};
+ghost use Rattle.types.specs.Done.{done};
 ghost use Rattle.types.specs.Span.{over};
 ghost use Rattle.memory.specs.LittleEndian.{leBytes};
-ghost use Rattle.memory.specs.Facts.{Read, Reach, SignsBy, signedOf, Found};
-ghost use Rattle.memory.specs.Access.{addressOf, widthBytes, loadWidth, extend, loadedOf, loadFound, loadAt, load, storeWidth, done, storeFound, storeAt, store};
+ghost use Rattle.memory.specs.stages.Facts.{Read, Reach, SignsBy, signedOf, Found};
+ghost use Rattle.memory.specs.Access.{addressOf, widthBytes, loadWidth, extend, loadedOf, loadFound, loadAt, load, storeWidth, storeFound, storeAt, store};
 
 // How many bytes an access has.
 pub enum Width {

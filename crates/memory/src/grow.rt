@@ -13,14 +13,15 @@ use types::memory_ty::ByteSize;
 use types::memory_ty::MemoryType;
 ghost use mathlib.Core.Path.{_≡_};
 ghost use mathlib.Core.Bool.{true};
-ghost use Prim.Native.Nat.{_+_, _≤_};
+ghost use Prim.Native.Nat.{_≤_};
 ghost use lib.ListN.{length};
 ghost use Rattle.types.specs.declared.limiter.Permit.the-variants.{Granted};
 ghost use Rattle.types.specs.Answer.{refuse, accept};
+ghost use Rattle.types.specs.Done.{done};
 ghost use Rattle.memory.specs.Memory.{pagesOf, soundMemory};
-ghost use Rattle.memory.specs.Facts.{Roomy, Held, Reaches};
-ghost use Rattle.memory.specs.Grow.{done, answered, mayHave, growMemory};
-ghost use Rattle.memory.specs.GrowStages.{reachPages, reachOf, enlargedBy, grantOf, growTo, byReach, growSound};
+ghost use Rattle.memory.specs.stages.Facts.{Roomy, Held, Reaches};
+ghost use Rattle.memory.specs.Grow.{answered, mayHave, growMemory};
+ghost use Rattle.memory.specs.stages.Grow.{reachPages, reachOf, enlargedBy, grantOf, growTo, byReach, growSound};
 
 pub struct GrownMemory {
     pub answer: Answer,

@@ -17,7 +17,7 @@ ghost use Rattle.types.specs.Pick.{both};
 ghost use Rattle.types.specs.Limits.{admitsOf};
 ghost use Rattle.types.specs.MemoryType.{pageBound};
 ghost use Rattle.types.specs.Answer.{refuse};
-ghost use Rattle.memory.specs.Access.{done};
+ghost use Rattle.types.specs.Done.{done};
 ghost use Rattle.memory.specs.Memory.{pagesOf, soundRoom, soundSize, soundMemory, loadMemory, storeMemory};
 ghost use Rattle.memory.specs.Host.{readUsed, readMemory, writeUsed, writeMemory};
 

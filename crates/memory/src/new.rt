@@ -4,19 +4,20 @@ use super::memory::Memory;
 use types::answer::Refusal;
 use types::limiter::Limiter;
 use types::limiter::Permit;
-use types::limits::Limits;
 use types::memory_ty::BuiltMemory;
 use types::memory_ty::ByteSize;
 use types::memory_ty::MemoryType;
+use types::memory_ty::WantedMemory;
 ghost use mathlib.Core.Path.{_≡_};
 ghost use Prim.Native.Nat.{_+_, _≤_};
 ghost use lib.ListN.{length, replicate};
 ghost use Rattle.types.specs.declared.limiter.Permit.the-variants.{Granted};
 ghost use Rattle.types.specs.Answer.{refusal};
+ghost use Rattle.types.specs.Done.{done};
 ghost use Rattle.types.specs.MemoryType.{buildMemory, minimumBytes};
 ghost use Rattle.types.specs.Span.{over};
-ghost use Rattle.memory.specs.New.{done, refused, newMemory};
-ghost use Rattle.memory.specs.NewStages.{madeBy, madeOf, bySize, byType};
+ghost use Rattle.memory.specs.New.{refused, newMemory};
+ghost use Rattle.memory.specs.stages.New.{madeBy, madeOf, bySize, byType};
 
 pub enum MadeMemory {
     Made(Memory),
@@ -46,63 +47,36 @@ pub(crate) fn zero(bytes: &mut [u8], from: usize, n: usize)
 }
 
 // The memory that was granted.
-fn make(
-    limiter: Limiter,
-    ty: MemoryType,
-    start: usize,
-    room: u64,
-    size: u64,
-    bytes: &mut [u8],
-) -> CreatedMemory
-    requires { ⌜ start + size ≤ length (now bytes) ⌝ }
-    ensures { λ r. ⌜ done r (now (bytes .exit)) ≡ madeBy Granted limiter ty start room size (now (bytes .entry)) ⌝ }
+fn make(limiter: Limiter, memory: Memory, bytes: &mut [u8]) -> CreatedMemory
+    requires { ⌜ memory .start + memory .size ≤ length (now bytes) ⌝ }
+    ensures { λ r. ⌜ done r (now (bytes .exit)) ≡ madeBy Granted limiter memory (now (bytes .entry)) ⌝ }
 {
-    zero(bytes, start, size as usize);
+    zero(bytes, memory.start, memory.size as usize);
     CreatedMemory {
-        made: MadeMemory::Made(Memory {
-            ty,
-            start,
-            room,
-            size,
-        }),
+        made: MadeMemory::Made(memory),
         limiter,
     }
 }
 
 // By what the limiter and the room say.
-fn make_by(
-    permit: Permit,
-    limiter: Limiter,
-    ty: MemoryType,
-    start: usize,
-    room: u64,
-    size: u64,
-    bytes: &mut [u8],
-) -> CreatedMemory
-    requires { ⌜ (permit ≡ Granted → start + size ≤ length (now bytes)) ⌝ }
-    ensures { λ r. ⌜ done r (now (bytes .exit)) ≡ madeBy permit limiter ty start room size (now (bytes .entry)) ⌝ }
+fn make_by(permit: Permit, limiter: Limiter, memory: Memory, bytes: &mut [u8]) -> CreatedMemory
+    requires { ⌜ (permit ≡ Granted → memory .start + memory .size ≤ length (now bytes)) ⌝ }
+    ensures { λ r. ⌜ done r (now (bytes .exit)) ≡ madeBy permit limiter memory (now (bytes .entry)) ⌝ }
 {
     match permit {
         Permit::Denied(refusal) => no_memory(limiter, refusal),
-        Permit::Granted => make(limiter, ty, start, room, size, bytes),
+        Permit::Granted => make(limiter, memory, bytes),
     }
 }
 
-fn make_sized(
-    limiter: Limiter,
-    ty: MemoryType,
-    start: usize,
-    room: u64,
-    size: u64,
-    bytes: &mut [u8],
-) -> CreatedMemory
-    requires { ⌜ start + room ≤ length (now bytes) ⌝ }
-    ensures { λ r. ⌜ done r (now (bytes .exit)) ≡ madeOf limiter ty start room size (now (bytes .entry)) ⌝ }
+fn make_sized(limiter: Limiter, memory: Memory, bytes: &mut [u8]) -> CreatedMemory
+    requires { ⌜ memory .start + memory .room ≤ length (now bytes) ⌝ }
+    ensures { λ r. ⌜ done r (now (bytes .exit)) ≡ madeOf limiter memory (now (bytes .entry)) ⌝ }
 {
-    let asked = types::grant::grant_creation(limiter, size <= room);
+    let asked = types::grant::grant_creation(limiter, memory.size <= memory.room);
     let permit = asked.permit;
     let left = asked.limiter;
-    make_by(permit, left, ty, start, room, size, bytes)
+    make_by(permit, left, memory, bytes)
 }
 
 // By the minimum in bytes.
@@ -125,7 +99,16 @@ fn by_size(
                 amount: 0,
             },
         ),
-        ByteSize::Bytes(size) => make_sized(limiter, ty, start, room, size, bytes),
+        ByteSize::Bytes(size) => make_sized(
+            limiter,
+            Memory {
+                ty,
+                start,
+                room,
+                size,
+            },
+            bytes,
+        ),
     }
 }
 
@@ -161,35 +144,32 @@ fn by_type(
 }
 
 fn make_in(
-    is_64: bool,
-    limits: Limits,
-    exponent: u8,
+    wanted: WantedMemory,
     start: usize,
     room: u64,
     bytes: &mut [u8],
     limiter: Limiter,
 ) -> CreatedMemory
     requires { ⌜ start + room ≤ length (now bytes) ⌝ }
-    ensures { λ r. ⌜ done r (now (bytes .exit)) ≡ byType (buildMemory is_64 limits exponent) limiter start room (now (bytes .entry)) ⌝ }
+    ensures { λ r. ⌜ done r (now (bytes .exit)) ≡ byType (buildMemory (wanted .wide) (wanted .limits) (wanted .exponent)) limiter start room (now (bytes .entry)) ⌝ }
 {
-    let built = MemoryType::build(is_64, limits, exponent);
+    let limits = wanted.limits;
+    let built = MemoryType::build(wanted.wide, limits, wanted.exponent);
     by_type(built, limiter, start, room, bytes)
 }
 
 // A new memory in the `room` bytes from `start` on: 1, 2, the limiter's 3 or 4, 5 with notice; 19 where the room is not inside the buffer.
 pub fn new_memory(
-    is_64: bool,
-    limits: Limits,
-    exponent: u8,
+    wanted: WantedMemory,
     start: usize,
     room: u64,
     bytes: &mut [u8],
     limiter: Limiter,
 ) -> CreatedMemory
-    ensures { λ r. ⌜ done r (now (bytes .exit)) ≡ newMemory is_64 limits exponent start room (now (bytes .entry)) limiter ⌝ }
+    ensures { λ r. ⌜ done r (now (bytes .exit)) ≡ newMemory wanted start room (now (bytes .entry)) limiter ⌝ }
 {
     if types::span::within(start as u64, room, bytes.len() as u64) {
-        return make_in(is_64, limits, exponent, start, room, bytes, limiter);
+        return make_in(wanted, start, room, bytes, limiter);
     }
     no_memory(
         limiter,

@@ -2,9 +2,9 @@
 // for each on standard output, and after them the cells of every memory and table.
 mod cells;
 
-use types::fuel::FuelCosts;
 use lines::session::Session;
 use lines::session::piece;
+use types::fuel::FuelCosts;
 ghost use Prim.Native.Nat.{_≤_};
 ghost use lib.ListN.{length};
 

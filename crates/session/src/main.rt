@@ -1,7 +1,7 @@
 // Operation lines on standard input, one answer line for each on standard output.
-use types::fuel::FuelCosts;
 use lines::session::Session;
 use lines::session::piece;
+use types::fuel::FuelCosts;
 ghost use Prim.Native.Nat.{_≤_};
 ghost use lib.ListN.{length};
 

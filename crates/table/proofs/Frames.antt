@@ -16,12 +16,14 @@ use Rattle.types.specs.Answer.{accept, numberOf}
 use Rattle.types.specs.IndexType.{maxSize}
 use Rattle.types.specs.Limits.{admitsOf, validMaximum, validLimits}
 use Rattle.types.specs.TableType.{tableBound, validTable, validated, buildTable, tableType}
-use Rattle.types.specs.Grant.{SpanDone, spanDone, spanned}
+use Rattle.types.specs.Done.{Done, done, spanDone}
+use Rattle.types.specs.stages.Grant.{spanned}
 use Rattle.types.specs.declared.answer.Answer.{Answer}
 use Rattle.types.specs.declared.answer.Answer.the-variants as answer
 use Rattle.types.specs.declared.answer.Refusal.{Refusal}
 use Rattle.types.specs.declared.answer.Value.{Value}
 use Rattle.types.specs.declared.fuel.Fuel.{Fuel}
+use Rattle.types.specs.declared.grant.Spanned.{Spanned}
 use Rattle.types.specs.declared.fuel.FuelStep.{FuelStep}
 use Rattle.types.specs.declared.fuel.FuelStep.the-variants as step
 use Rattle.types.specs.declared.limiter.Limiter.{Limiter}
@@ -30,31 +32,35 @@ use Rattle.types.specs.declared.limiter.Permit.the-variants.{Granted, Denied}
 use Rattle.types.specs.declared.limits.Limits.{Limits}
 use Rattle.types.specs.declared.raw.RefType.{RefType}
 use Rattle.types.specs.declared.raw.TypedRawRef.{TypedRawRef}
+use Rattle.types.specs.declared.span.CopySpan.{CopySpan}
+use Rattle.types.specs.declared.span.FillSpan.{FillSpan}
 use Rattle.types.specs.declared.table_ty.TableType.{TableType}
 use Rattle.types.specs.declared.table_ty.BuiltTable.{BuiltTable}
 use Rattle.types.specs.declared.table_ty.BuiltTable.the-variants as built
+use Rattle.types.specs.declared.table_ty.WantedTable.{WantedTable}
 use Rattle.types.proofs.Picks.{pick-true, pick-false, both-true, both-1, both-2}
 use Rattle.types.proofs.Spans.{within-is, length-over, over-low, over-after}
 use Rattle.types.proofs.Moves.{length-cut}
 use Rattle.types.proofs.Stepping.{fill-closed, init-closed, copy-closed}
 use Rattle.table.proofs.Readings.{grow-reads, new-reads, fill-reads, copy-reads, within-reads, init-reads}
 use Rattle.types.proofs.Grants.{granted-span, granted-creation, granted-admits}
-use Rattle.table.specs.Table.{Written, resized, soundBuffer, soundSize, soundTable, setSound, setTable}
-use Rattle.table.specs.Element.{MadeWith, dropped, soundSegment, newSegment}
-use Rattle.table.specs.New.{Created, refused, tableOf, newTable}
-use Rattle.table.specs.Stages.{madeBy, madeOf, byKind, byType, copyStaged, fillStaged, growStaged, initStaged, newStaged, withinStaged}
-use Rattle.table.specs.Grow.{Grown, done, answered, growTable}
-use Rattle.table.specs.Stages.{enlargedBy, grantOf, growTo, growSome, growSound}
+use Rattle.table.specs.Table.{resized, soundBuffer, soundSize, soundTable, setSound, setTable}
+use Rattle.table.specs.Element.{dropped, soundSegment, newSegment}
+use Rattle.table.specs.New.{refused, tableOf, newTable}
+use Rattle.table.specs.stages.New.{madeBy, madeOf, byKind, byType}
+use Rattle.table.specs.stages.Grow.{enlargedBy, grantOf, growTo, growSome, growSound}
+use Rattle.table.specs.stages.Spans.{fillKind, fillSound, copyBounds, copyKinds, initSome, initBounds, initKinds}
+use Rattle.table.specs.Grow.{answered, growTable}
 use Rattle.table.specs.Fill.{fillTable}
-use Rattle.table.specs.Stages.{fillKind, fillSound}
 use Rattle.table.specs.Copy.{roomsApart, soundTwo, copyTable, copyWithin}
-use Rattle.table.specs.Stages.{copySpan, copyKinds}
 use Rattle.table.specs.Init.{initTable}
-use Rattle.table.specs.Stages.{initSome, initSpan, initKinds}
 use Rattle.table.specs.declared.table.Table.{Table}
 use Rattle.table.specs.declared.element.ElementSegment.{ElementSegment}
+use Rattle.table.specs.declared.element.MadeSegment.{MadeSegment}
 use Rattle.table.specs.declared.element.MadeSegment.the-variants as segment
 use Rattle.table.specs.declared.new.MadeTable.the-variants.{Made, Refused}
+use Rattle.table.specs.declared.new.CreatedTable.{CreatedTable}
+use Rattle.table.specs.declared.grow.GrownTable.{GrownTable}
 use Rattle.table.proofs.Sounds.{buffer-within, sound-room, sound-size, sound-within, segment-places}
 use Rattle.table.proofs.Growths.{growth-fits}
 
@@ -93,7 +99,7 @@ refusal-of (answer.Value v) h = absurd (h refl)
 refusal-of (answer.Refusal r) h = (r, refl)
 
 -- a span operation: what it leaves where it is accepted and where it is refused, and what it keeps
-pub record SpanFrame (f : Fuel) (cs new : List ℕ) (x e : ℕ) (o : SpanDone) : Type 0 where
+pub record SpanFrame (f : Fuel) (cs new : List ℕ) (x e : ℕ) (o : Done Spanned) : Type 0 where
   pub accepted : (v : Value) → o .out .answer ≡ answer.Value v → o .cells ≡ new
   pub refused : (r : Refusal) → o .out .answer ≡ answer.Refusal r → (o .cells ≡ cs) × (o .out .fuel ≡ f)
   pub kept : Kept x e cs (o .cells)
@@ -110,13 +116,13 @@ module _ (f : Fuel) (cs new : List ℕ) (x e : ℕ) where
   span-frame (step.Refused r) ds h = span-refused r
   span-frame (step.Done g) ds h = span-done g ds (h g refl .0) (h g refl .1)
 
-  span-pick : (t : Bool) (a : SpanDone) (r : Refusal) → (t ≡ true → SpanFrame f cs new x e a) → SpanFrame f cs new x e (pick t a (spanDone (answer.Refusal r) f cs))
+  span-pick : (t : Bool) (a : Done Spanned) (r : Refusal) → (t ≡ true → SpanFrame f cs new x e a) → SpanFrame f cs new x e (pick t a (spanDone (answer.Refusal r) f cs))
   span-pick t a r h = pick-case (SpanFrame f cs new x e) t a _ h (span-refused r)
 
 -- fill
-module _ (r : ℕ) (t : Table) (cs : List ℕ) (i n : ℕ) (f : Fuel) where
+module _ (r : ℕ) (t : Table) (cs : List ℕ) (span : FillSpan) (f : Fuel) where
   fill-span : (bits : ℕ) → soundTable t (length cs) ≡ true
-      → SpanFrame f cs (fillSteps n cs (t .start) i bits) (t .start) (t .start + t .room) (fillKind r t cs i bits n f)
+      → SpanFrame f cs (fillSteps (span .len) cs (t .start) (span .start) bits) (t .start) (t .start + t .room) (fillKind r t cs span bits f)
   unfolding fillKind
   fill-span bits h =
       let room = sound-room t _ h in
@@ -124,10 +130,10 @@ module _ (r : ℕ) (t : Table) (cs : List ℕ) (i n : ℕ) (f : Fuel) where
       span-frame f cs _ _ _ _ _
       (λ g e.
       let b = within-is _ _ _ (granted-span f _ 11 _ g e) in
-      (sym (fill-closed n cs (t .start) i bits (omega arith)), fill-kept _ _ n bits _ cs (omega arith) (omega arith) room))
+      (sym (fill-closed (span .len) cs (t .start) (span .start) bits (omega arith)), fill-kept _ _ (span .len) bits _ cs (omega arith) (omega arith) room))
 
-  pub fill-frame : (v : TypedRawRef) → SpanFrame f cs (fillSteps n cs (t .start) i (v .raw .bits)) (t .start) (t .start + t .room) (fillTable r t cs i v n f)
-  unfolding fillStaged fillSound
+  pub fill-frame : (v : TypedRawRef) → SpanFrame f cs (fillSteps (span .len) cs (t .start) (span .start) (v .raw .bits)) (t .start) (t .start + t .room) (fillTable r t cs span v f)
+  unfolding fillSound
   fill-frame v = rw fill-reads (span-pick f cs _ _ _ _ _ _ (λ h. span-pick f cs _ _ _ _ _ _ (λ k. fill-span (v .raw .bits) h)))
 
 -- copy: the spans of two tables whose rooms follow each other lie apart
@@ -142,24 +148,25 @@ apart-rooms d s i j n = go (leb (d .start + d .room) (s .start)) refl
         let e : leb (s .start + s .room) (d .start) ≡ true = sym (pick-false _ _ _ p) ∙ q in
         inr (inr (omega (arith, leb-true (s .start + s .room) (d .start) e)))
 
-module _ (r : ℕ) (d s : Table) (cs : List ℕ) (i j n : ℕ) (f : Fuel) where
-  copy-span : soundTable d (length cs) ≡ true → soundTable s (length cs) ≡ true → (i + n ≤ d .size → j + n ≤ s .size → Apart n (d .start) i (s .start) j)
-      → SpanFrame f cs (copySteps n cs (d .start) i (s .start) j) (d .start) (d .start + d .room) (copySpan r d s cs i j n f)
-  unfolding copySpan
-  copy-span h k a =
+module _ (r : ℕ) (d s : Table) (cs : List ℕ) (span : CopySpan) (f : Fuel) where
+  copy-bounds : soundTable d (length cs) ≡ true → soundTable s (length cs) ≡ true
+      → (span .to + span .len ≤ d .size → span .from + span .len ≤ s .size → Apart (span .len) (d .start) (span .to) (s .start) (span .from))
+      → SpanFrame f cs (copySteps (span .len) cs (d .start) (span .to) (s .start) (span .from)) (d .start) (d .start + d .room) (copyBounds r d s cs span f)
+  unfolding copyBounds
+  copy-bounds h k a =
       let room = sound-room d _ h in
       let size = sound-size d _ h in
       let within = sound-within s _ k in
       span-frame f cs _ _ _ _ _
       (λ g e.
       let b = granted-span f _ 12 _ g e in
-      let p = within-is i n (d .size) (both-1 _ _ b) in
-      let q = within-is j n (s .size) (both-2 _ _ b) in
-      let l = length-cut cs (s .start + j) n (omega arith) in
-      (sym (copy-closed n cs (d .start) i (s .start) j (omega arith) (omega arith) (a p q)), over-kept _ _ _ cs _ (omega arith) (omega arith) room))
+      let p = within-is (span .to) (span .len) (d .size) (both-1 _ _ b) in
+      let q = within-is (span .from) (span .len) (s .size) (both-2 _ _ b) in
+      let l = length-cut cs (s .start + span .from) (span .len) (omega arith) in
+      (sym (copy-closed (span .len) cs (d .start) (span .to) (s .start) (span .from) (omega arith) (omega arith) (a p q)), over-kept _ _ _ cs _ (omega arith) (omega arith) room))
 
-  pub copy-frame : SpanFrame f cs (copySteps n cs (d .start) i (s .start) j) (d .start) (d .start + d .room) (copyTable r d s cs i j n f)
-  unfolding copyStaged copyKinds soundTwo
+  pub copy-frame : SpanFrame f cs (copySteps (span .len) cs (d .start) (span .to) (s .start) (span .from)) (d .start) (d .start + d .room) (copyTable r d s cs span f)
+  unfolding copyKinds soundTwo
   copy-frame =
       rw copy-reads
       (span-pick f cs _ _ _ _ _ _
@@ -168,65 +175,68 @@ module _ (r : ℕ) (d s : Table) (cs : List ℕ) (i j n : ℕ) (f : Fuel) where
       let q = both-1 _ _ (both-2 _ _ h) in
       let a = both-2 _ _ (both-2 _ _ h) in
       span-pick f cs _ _ _ _ _ _
-      (λ k. copy-span p q (λ b c. apart-rooms d s i j n a (omega (arith, sound-size d _ p)) (omega (arith, sound-size s _ q))))))
+      (λ k. copy-bounds p q (λ b c. apart-rooms d s (span .to) (span .from) (span .len) a (omega (arith, sound-size d _ p)) (omega (arith, sound-size s _ q))))))
 
-pub within-frame : (r : ℕ) (t : Table) (cs : List ℕ) (i j n : ℕ) (f : Fuel)
-    → SpanFrame f cs (copySteps n cs (t .start) i (t .start) j) (t .start) (t .start + t .room) (copyWithin r t cs i j n f)
-unfolding withinStaged
-within-frame r t cs i j n f = rw within-reads (span-pick f cs _ _ _ _ _ _ (λ h. copy-span r t t cs i j n f h h (λ b c. inl refl)))
+pub within-frame : (r : ℕ) (t : Table) (cs : List ℕ) (span : CopySpan) (f : Fuel)
+    → SpanFrame f cs (copySteps (span .len) cs (t .start) (span .to) (t .start) (span .from)) (t .start) (t .start + t .room) (copyWithin r t cs span f)
+within-frame r t cs span f = rw within-reads (span-pick f cs _ _ _ _ _ _ (λ h. copy-bounds r t t cs span f h h (λ b c. inl refl)))
 
 -- init
-module _ (r : ℕ) (t : Table) (s : ElementSegment) (cs items : List ℕ) (i j n : ℕ) (f : Fuel) where
-  init-some : soundTable t (length cs) ≡ true → soundSegment s (length items) ≡ true → i + n ≤ t .size → j + n ≤ s .size
-      → SpanFrame f cs (initSteps n cs (t .start) i items (s .start + j)) (t .start) (t .start + t .room) (initSome r t s cs items i j n f)
+module _ (r : ℕ) (t : Table) (s : ElementSegment) (cs items : List ℕ) (span : CopySpan) (f : Fuel) where
+  -- the standard's steps
+  abbrev stepped : List ℕ
+  stepped = initSteps (span .len) cs (t .start) (span .to) items (s .start + span .from)
+
+  init-some : soundTable t (length cs) ≡ true → soundSegment s (length items) ≡ true → span .to + span .len ≤ t .size → span .from + span .len ≤ s .size
+      → SpanFrame f cs stepped (t .start) (t .start + t .room) (initSome r t s cs items span f)
   unfolding initSome
   init-some h k p q =
       let room = sound-room t _ h in
       let size = sound-size t _ h in
       let places = segment-places s _ k in
-      let l = length-cut items (s .start + j) n (omega arith) in
+      let l = length-cut items (s .start + span .from) (span .len) (omega arith) in
       span-frame f cs _ _ _ _ _
-      (λ g e. (sym (init-closed n cs (t .start) i items (s .start + j) (omega arith) (omega arith)), over-kept _ _ _ cs _ (omega arith) (omega arith) room))
+      (λ g e. (sym (init-closed (span .len) cs (t .start) (span .to) items (s .start + span .from) (omega arith) (omega arith)), over-kept _ _ _ cs _ (omega arith) (omega arith) room))
 
-  init-none : n ≡ 0 → initSteps n cs (t .start) i items (s .start + j) ≡ cs
+  init-none : span .len ≡ 0 → stepped ≡ cs
   unfolding initSteps
-  init-none e = ap (λ (k : ℕ). initSteps k cs (t .start) i items (s .start + j)) e
+  init-none e = ap (λ (k : ℕ). initSteps k cs (t .start) (span .to) items (s .start + span .from)) e
 
-  init-span : soundTable t (length cs) ≡ true → soundSegment s (length items) ≡ true
-      → SpanFrame f cs (initSteps n cs (t .start) i items (s .start + j)) (t .start) (t .start + t .room) (initSpan r t s cs items i j n f)
-  unfolding initSpan
-  init-span h k =
+  init-bounds : soundTable t (length cs) ≡ true → soundSegment s (length items) ≡ true
+      → SpanFrame f cs stepped (t .start) (t .start + t .room) (initBounds r t s cs items span f)
+  unfolding initBounds
+  init-bounds h k =
       span-pick f cs _ _ _ _ _ _
       (λ b.
-      pick-case (SpanFrame f cs _ _ _) (eqb n 0) _ _
-      (λ z. span-done f cs _ _ _ f cs (sym (init-none (eqb-true n 0 z))) (same-kept _ _ cs))
-      (init-some h k (within-is i n (t .size) (both-1 _ _ b)) (within-is j n (s .size) (both-2 _ _ b))))
+      pick-case (SpanFrame f cs _ _ _) (eqb (span .len) 0) _ _
+      (λ z. span-done f cs _ _ _ f cs (sym (init-none (eqb-true (span .len) 0 z))) (same-kept _ _ cs))
+      (init-some h k (within-is (span .to) (span .len) (t .size) (both-1 _ _ b)) (within-is (span .from) (span .len) (s .size) (both-2 _ _ b))))
 
-  pub init-frame : SpanFrame f cs (initSteps n cs (t .start) i items (s .start + j)) (t .start) (t .start + t .room) (initTable r t s cs items i j n f)
-  unfolding initStaged initKinds
+  pub init-frame : SpanFrame f cs (initSteps (span .len) cs (t .start) (span .to) items (s .start + span .from)) (t .start) (t .start + t .room) (initTable r t s cs items span f)
+  unfolding initKinds
   init-frame =
       rw init-reads
       (span-pick f cs _ _ _ _ _ _
-      (λ h. span-pick f cs _ _ _ _ _ _ (λ k. init-span (both-1 _ _ h) (both-2 _ _ h))))
+      (λ h. span-pick f cs _ _ _ _ _ _ (λ k. init-bounds (both-1 _ _ h) (both-2 _ _ h))))
 
 -- set: one cell becomes the reference
-pub record SetFrame (t : Table) (cs : List ℕ) (i bits : ℕ) (o : Written) : Type 0 where
-  pub accepted : (v : Value) → o .answer ≡ answer.Value v → o .cells ≡ set cs (t .start + i) bits
-  pub refused : (r : Refusal) → o .answer ≡ answer.Refusal r → o .cells ≡ cs
+pub record SetFrame (t : Table) (cs : List ℕ) (i bits : ℕ) (o : Done Answer) : Type 0 where
+  pub accepted : (v : Value) → o .out ≡ answer.Value v → o .cells ≡ set cs (t .start + i) bits
+  pub refused : (r : Refusal) → o .out ≡ answer.Refusal r → o .cells ≡ cs
   pub kept : Kept (t .start) (t .start + t .room) cs (o .cells)
 
 module _ (t : Table) (cs : List ℕ) (i : ℕ) (v : TypedRawRef) where
-  abbrev SetTo : Written → Type 0
+  abbrev SetTo : Done Answer → Type 0
   SetTo o = SetFrame t cs i (v .raw .bits) o
 
-  set-refused : (r : Refusal) → SetTo (record { answer = answer.Refusal r; cells = cs })
+  set-refused : (r : Refusal) → SetTo (done (answer.Refusal r) cs)
   set-refused r = record { accepted = (λ w q. absurd (no-value r w q)); refused = (λ s q. refl); kept = same-kept _ _ cs }
 
   set-one : t .start + i < length cs → over cs (t .start + i) (replicate 1 (v .raw .bits)) ≡ set cs (t .start + i) (v .raw .bits)
   unfolding fillSteps
   set-one h = sym (fill-closed 1 cs (t .start) i (v .raw .bits) (omega arith))
 
-  set-done : soundTable t (length cs) ≡ true → i < t .size → SetTo (record { answer = accept 0; cells = over cs (t .start + i) (replicate 1 (v .raw .bits)) })
+  set-done : soundTable t (length cs) ≡ true → i < t .size → SetTo (done (accept 0) (over cs (t .start + i) (replicate 1 (v .raw .bits))))
   set-done h k =
       let room = sound-room t _ h in
       let size = sound-size t _ h in
@@ -237,7 +247,7 @@ module _ (t : Table) (cs : List ℕ) (i : ℕ) (v : TypedRawRef) where
       }
 
   set-within : (b : Bool) → leb (t .size) i ≡ b → soundTable t (length cs) ≡ true
-      → SetTo (pick b (record { answer = answer.Refusal (record { number = 10; amount = 0 }); cells = cs }) (record { answer = accept 0; cells = over cs (t .start + i) (replicate 1 (v .raw .bits)) }))
+      → SetTo (pick b (done (answer.Refusal (record { number = 10; amount = 0 })) cs) (done (accept 0) (over cs (t .start + i) (replicate 1 (v .raw .bits)))))
   unfolding pick
   set-within true e h = set-refused _
   set-within false e h = set-done h (leb-false _ _ e)
@@ -248,7 +258,7 @@ module _ (t : Table) (cs : List ℕ) (i : ℕ) (v : TypedRawRef) where
       pick-case SetTo _ _ _ (λ h. pick-case SetTo _ _ _ (λ k. set-within _ refl h) (set-refused _)) (set-refused _)
 
 -- grow: a refused growth leaves cells and table; no growth changes type, place or room; a sound table stays sound
-pub record GrowFrame (t : Table) (cs : List ℕ) (o : Grown) : Type 0 where
+pub record GrowFrame (t : Table) (cs : List ℕ) (o : Done GrownTable) : Type 0 where
   pub refused : (r : Refusal) → o .out .answer ≡ answer.Refusal r → (o .cells ≡ cs) × (o .out .table ≡ t)
   pub kept : Kept (t .start) (t .start + t .room) cs (o .cells)
   pub same : o .out .table ≡ resized t (o .out .table .size)
@@ -304,11 +314,10 @@ module _ (r : ℕ) (t : Table) (cs : List ℕ) (f : Fuel) (l : Limiter) (h : sou
       (stays t cs _ f l)
 
 pub grow-frame : (r : ℕ) (t : Table) (cs : List ℕ) (n : ℕ) (v : TypedRawRef) (f : Fuel) (l : Limiter) → GrowFrame t cs (growTable r t cs n v f l)
-unfolding growStaged
 grow-frame r t cs n v f l = rw grow-reads (pick-case (GrowFrame t cs) _ _ _ (λ h. grow-sound r t cs f l h n v) (stays t cs _ f l))
 
 -- new: a refused creation leaves the cells; the table that is made stands at the place given and is sound
-pub record NewFrame (start room : ℕ) (cs : List ℕ) (o : Created) : Type 0 where
+pub record NewFrame (start room : ℕ) (cs : List ℕ) (o : Done CreatedTable) : Type 0 where
   pub refused : (r : Refusal) → o .out .made ≡ Refused r → o .cells ≡ cs
   pub kept : Kept start (start + room) cs (o .cells)
   pub placed : (t : Table) → o .out .made ≡ Made t → (t .start ≡ start) × (t .room ≡ room)
@@ -345,15 +354,15 @@ minimum-sound t start room len h v k =
     (both-true _ _ (le-leb (t .limits .minimum) _ (le-refl _)) (both-true _ _ (minimum-least _ _ v) (minimum-admitted _ _ v)))))
 
 module _ (start room : ℕ) (cs : List ℕ) where
-  abbrev NewIn : Created → Type 0
+  abbrev NewIn : Done CreatedTable → Type 0
   NewIn o = NewFrame start room cs o
 
-  none-made : (l : Limiter) (r : Refusal) → NewIn (record { out = refused l r; cells = cs })
+  none-made : (l : Limiter) (r : Refusal) → NewIn (done (refused l r) cs)
   none-made l r = record { refused = (λ s e. refl); kept = same-kept _ _ cs; placed = (λ t e. absurd (not-made r t e)); sound = (λ t e. absurd (not-made r t e)) }
 
   module _ (h : soundBuffer start room (length cs) ≡ true) where
     made-by : (p : Permit) (l : Limiter) (t : TableType) (bits : ℕ) → validTable t ≡ true → (p ≡ Granted → t .limits .minimum ≤ room)
-        → NewIn (madeBy p l t start room bits cs)
+        → NewIn (madeBy p l (tableOf t start room (t .limits .minimum)) bits cs)
     unfolding madeBy
     made-by (Denied r) l t bits v k = none-made l r
     made-by Granted l t bits v k =
@@ -367,7 +376,7 @@ module _ (start room : ℕ) (cs : List ℕ) where
           sound = (λ u e. rw (kept .long) (ap (λ (x : Table). soundTable x (length cs)) (made-same e) ∙ minimum-sound t start room _ h v fits));
         }
 
-    made-of : (l : Limiter) (t : TableType) (bits : ℕ) → validTable t ≡ true → NewIn (madeOf l t start room bits cs)
+    made-of : (l : Limiter) (t : TableType) (bits : ℕ) → validTable t ≡ true → NewIn (madeOf l (tableOf t start room (t .limits .minimum)) bits cs)
     unfolding madeOf
     made-of l t bits v = made-by _ _ t bits v (λ e. leb-true _ _ (granted-creation l _ e))
 
@@ -388,19 +397,17 @@ built-valid k wide l t = go (validTable (tableType k wide l)) refl
         let q : built.Refused (record { number = 1; amount = 0 }) ≡ built.Built t = sym (pick-false _ _ _ p) ∙ e in
         let z : _≡_ {A = ℕ} 0 1 = cc in absurd (omega arith)
 
-pub new-frame : (k : RefType) (wide : Bool) (limits : Limits) (init : TypedRawRef) (start room : ℕ) (cs : List ℕ) (l : Limiter)
-    → NewFrame start room cs (newTable k wide limits init start room cs l)
-unfolding newStaged
-new-frame k wide limits init start room cs l =
+pub new-frame : (w : WantedTable) (init : TypedRawRef) (start room : ℕ) (cs : List ℕ) (l : Limiter) → NewFrame start room cs (newTable w init start room cs l)
+new-frame w init start room cs l =
     rw new-reads
-    (pick-case (NewFrame start room cs) _ _ _ (λ h. made-typed start room cs h _ l init (λ t e. built-valid k wide limits t e)) (none-made start room cs l _))
+    (pick-case (NewFrame start room cs) _ _ _ (λ h. made-typed start room cs h _ l init (λ t e. built-valid (w .element) (w .wide) (w .limits) t e)) (none-made start room cs l _))
 
 -- segments: a refused one leaves the items; a new one stands at the place given; a new one and a dropped one are sound
-pub record SegmentFrame (start places : ℕ) (items : List ℕ) (o : MadeWith) : Type 0 where
-  pub refused : (r : Refusal) → o .made ≡ segment.Refused r → o .items ≡ items
-  pub kept : Kept start (start + places) items (o .items)
-  pub placed : (s : ElementSegment) → o .made ≡ segment.Made s → (s .start ≡ start) × (s .places ≡ places)
-  pub sound : (s : ElementSegment) → o .made ≡ segment.Made s → soundSegment s (length (o .items)) ≡ true
+pub record SegmentFrame (start places : ℕ) (items : List ℕ) (o : Done MadeSegment) : Type 0 where
+  pub refused : (r : Refusal) → o .out ≡ segment.Refused r → o .cells ≡ items
+  pub kept : Kept start (start + places) items (o .cells)
+  pub placed : (s : ElementSegment) → o .out ≡ segment.Made s → (s .start ≡ start) × (s .places ≡ places)
+  pub sound : (s : ElementSegment) → o .out ≡ segment.Made s → soundSegment s (length (o .cells)) ≡ true
 
 same-segment : {s u : ElementSegment} → segment.Made s ≡ segment.Made u → u ≡ s
 same-segment e = cc

@@ -6,7 +6,7 @@ use borrow.Author.Tests.{leb-true, le-ltb}
 use lib.Dec.{leb, ltb}
 use Rattle.types.specs.Pick.{pick}
 use Rattle.types.specs.IndexType.{maxSize}
-use Rattle.types.specs.Grant.{grantCreation}
+use Rattle.types.specs.stages.Grant.{grantCreation}
 use Rattle.types.specs.declared.fuel.Fuel.{Fuel}
 use Rattle.types.specs.declared.grant.Growth.{Growth}
 use Rattle.types.specs.declared.index_ty.IndexType.{IndexType}
@@ -16,8 +16,8 @@ use Rattle.types.specs.declared.limiter.Limiter.{Limiter}
 use Rattle.types.specs.declared.limiter.Permit.the-variants.{Granted}
 use Rattle.types.proofs.Picks.{pick-false}
 use Rattle.types.proofs.Grants.{granted-creation, granted-growth}
-use Rattle.table.specs.Facts.{Roomed, Roomy}
-use Rattle.table.specs.Stages.{grantOf}
+use Rattle.table.specs.stages.Facts.{Roomed, Roomy}
+use Rattle.table.specs.stages.Grow.{grantOf}
 use Rattle.table.specs.declared.table.Table.{Table}
 
 -- the cells of a creation that is granted lie in the buffer

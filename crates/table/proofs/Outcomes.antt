@@ -8,8 +8,8 @@ use borrow.Author.Tests.{not-false}
 use Rattle.types.specs.Pick.{both}
 use Rattle.types.specs.Span.{inside}
 use Rattle.types.specs.Answer.{accept}
-use Rattle.types.specs.Grant.{grantSpan, spanDone, spanned}
-use Rattle.types.specs.declared.answer.Answer.{Answer}
+use Rattle.types.specs.Done.{spanDone}
+use Rattle.types.specs.stages.Grant.{grantSpan, spanned}
 use Rattle.types.specs.declared.answer.Answer.the-variants as answer
 use Rattle.types.specs.declared.answer.Refusal.{Refusal}
 use Rattle.types.specs.declared.fuel.Fuel.{Fuel}
@@ -18,7 +18,7 @@ use Rattle.types.specs.declared.fuel.FuelStep.the-variants.{Done, Refused}
 use Rattle.types.proofs.Picks.{both-1, both-2, known-test}
 use Rattle.types.proofs.Spans.{within-is}
 use Rattle.types.proofs.Grants.{granted-span}
-use Rattle.table.specs.Facts.{Within, Places, Goes}
+use Rattle.table.specs.stages.Facts.{Within, Places, Goes}
 use Rattle.table.specs.declared.table.Table.{Table}
 use Rattle.table.specs.declared.element.ElementSegment.{ElementSegment}
 
@@ -30,9 +30,6 @@ spanned-done s f g cs new r e p = rw e (ap (spanDone (accept 0) g) p)
 pub spanned-refused : (s : FuelStep) (f : Fuel) (r : Refusal) (cs new : List ℕ) → s ≡ Refused r → spanDone (answer.Refusal r) f cs ≡ spanned s f cs new
 unfolding spanned
 spanned-refused s f r cs new e = rw e
-
-pub spanned-as : {a b : Answer} {f g : Fuel} (cs : List ℕ) → a ≡ b → f ≡ g → spanDone a f cs ≡ spanDone b g cs
-spanned-as cs p q = (λ i. spanDone (p i) (q i) cs)
 
 -- the bounds that a grant shows, in a table whose size lies in the buffer
 module _ (t : Table) (len i n : ℕ) (w : Within t len) where

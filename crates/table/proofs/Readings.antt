@@ -1,6 +1,5 @@
 -- The stages of the code are the chains of checks that the definitions say. Assumes nothing.
 use mathlib.Core.Path.{_≡_, ap, sym, _∙_}
-use mathlib.Core.Bool.{Bool}
 use mathlib.Core.List.{List}
 use Prim.Native.Nat.{ℕ, _+_, _-_, _*_}
 use native.Mathlib.Nat.{add-sub-cancel-left}
@@ -11,34 +10,40 @@ use Rattle.types.specs.Span.{inside, cut, over}
 use Rattle.types.specs.Answer.{refusal, refuse, accept}
 use Rattle.types.specs.Price.{price}
 use Rattle.types.specs.Fuel.{short, paid}
-use Rattle.types.specs.Grant.{SpanDone, spanDone}
+use Rattle.types.specs.Done.{Done, done, spanDone}
 use Rattle.types.specs.Limiter.{saysOf, moved, heardOf, noticed}
 use Rattle.types.specs.declared.fuel.Fuel.{Fuel}
+use Rattle.types.specs.declared.grant.Spanned.{Spanned}
 use Rattle.types.specs.declared.limiter.Limiter.{Limiter}
 use Rattle.types.proofs.Picks.{pick-ap}
 use Rattle.types.proofs.Chains.{growth-chain, creation-chain, charge-chain, span-chain}
 use Rattle.types.specs.IndexType.{maxSize}
 use Rattle.types.specs.Limits.{admitsOf}
-use Rattle.types.specs.TableType.{tableType, validTable, validated, buildTable, elementMatches}
-use Rattle.types.specs.declared.limits.Limits.{Limits}
-use Rattle.types.specs.declared.raw.RefType.{RefType}
+use Rattle.types.specs.TableType.{validTable, validated, buildTable, elementMatches}
 use Rattle.types.specs.declared.raw.TypedRawRef.{TypedRawRef}
+use Rattle.types.specs.declared.span.CopySpan.{CopySpan}
+use Rattle.types.specs.declared.span.FillSpan.{FillSpan}
 use Rattle.types.specs.declared.table_ty.BuiltTable.the-variants as built
+use Rattle.types.specs.declared.table_ty.WantedTable.{WantedTable}
 use Rattle.table.specs.Table.{resized, soundBuffer, soundTable}
 use Rattle.table.specs.Element.{soundSegment}
 use Rattle.table.specs.New as new
-use Rattle.table.specs.Grow.{Grown, done, answered, cellsPrice, growTable}
+use Rattle.table.specs.Grow.{answered, cellsPrice, growTable}
 use Rattle.table.specs.Fill.{fillTable}
 use Rattle.table.specs.Copy.{soundTwo, copyTable, copyWithin}
 use Rattle.table.specs.Init.{initTable}
-use Rattle.table.specs.Stages.{madeBy, madeOf, byKind, byType, newStaged, enlargedBy, grantOf, growTo, growSome, growSound, growStaged, fillKind, fillSound, fillStaged, copySpan, copyKinds, copyStaged, withinStaged, initSome, initSpan, initKinds, initStaged}
+use Rattle.table.specs.stages.New.{madeBy, madeOf, byKind, byType}
+use Rattle.table.specs.stages.Grow.{enlargedBy, grantOf, growTo, growSome, growSound}
+use Rattle.table.specs.stages.Spans.{fillKind, fillSound, copyBounds, copyKinds, initSome, initBounds, initKinds}
 use Rattle.table.specs.declared.table.Table.{Table}
 use Rattle.table.specs.declared.element.ElementSegment.{ElementSegment}
 use Rattle.table.specs.declared.new.MadeTable.the-variants.{Made}
+use Rattle.table.specs.declared.new.CreatedTable.{CreatedTable}
+use Rattle.table.specs.declared.grow.GrownTable.{GrownTable}
 
 module _ (r : ℕ) (t : Table) (cs : List ℕ) (n : ℕ) (v : TypedRawRef) (f : Fuel) (l : Limiter) where
   -- a growth within the index bound, from the limiter's question on, by d new cells
-  abbrev granted : ℕ → Grown
+  abbrev granted : ℕ → Done GrownTable
   granted d =
       pick (eqb (saysOf l) 1) (done (answered (refuse 6 0) t f (moved l)) cs)
       (pick (eqb (saysOf l) 2) (done (answered (refuse 4 0) t f (moved l)) cs)
@@ -55,78 +60,85 @@ module _ (r : ℕ) (t : Table) (cs : List ℕ) (n : ℕ) (v : TypedRawRef) (f : 
       (cellsPrice r (t .size + n - t .size) f) (leb (t .size + n) (t .room))
       ∙ ap granted (add-sub-cancel-left (t .size) n)
 
-  pub grow-reads : growTable r t cs n v f l ≡ growStaged r t cs n v f l
-  unfolding growTable growStaged growSound growSome
+  pub grow-reads : growTable r t cs n v f l ≡ pick (soundTable t (length cs)) (growSound r t cs n v f l) (done (answered (refuse 19 0) t f l) cs)
+  unfolding growTable growSound growSome
   grow-reads =
-      ap (λ (g : Grown).
+      ap (λ (g : Done GrownTable).
       unless (soundTable t (length cs)) (done (answered (refuse 19 0) t f l) cs)
       (unless (elementMatches (t .ty) (v .ty)) (done (answered (refuse 14 0) t f l) cs)
       (pick (eqb n 0) (done (answered (accept (t .size)) t f l) cs)
       (unless (ltb (t .size + n) (maxSize (t .ty .index))) (done (answered (refuse 6 0) t f l) cs) g))))
       (sym to-chain)
 
-module _ (k : RefType) (wide : Bool) (limits : Limits) (init : TypedRawRef) (start room : ℕ) (cs : List ℕ) (l : Limiter) where
+module _ (w : WantedTable) (init : TypedRawRef) (start room : ℕ) (cs : List ℕ) (l : Limiter) where
   -- a creation of a valid type and the right kind, from the limiter's question on
-  abbrev made : new.Created
+  abbrev made : Done CreatedTable
   made =
-      pick (eqb (saysOf l) 1) (new.done (new.refused (moved l) (refusal 3 0)) cs)
-      (pick (eqb (saysOf l) 2) (new.done (new.refused (moved l) (refusal 4 0)) cs)
-      (unless (leb (limits .minimum) room) (new.done (new.refused (moved (moved l)) (heardOf (saysOf (moved l)) (refusal 5 0))) cs)
-      (new.done (record { made = Made (new.tableOf (tableType k wide limits) start room (limits .minimum)); limiter = moved l })
-      (over cs start (replicate (limits .minimum) (init .raw .bits))))))
+      pick (eqb (saysOf l) 1) (done (new.refused (moved l) (refusal 3 0)) cs)
+      (pick (eqb (saysOf l) 2) (done (new.refused (moved l) (refusal 4 0)) cs)
+      (unless (leb (w .limits .minimum) room) (done (new.refused (moved (moved l)) (heardOf (saysOf (moved l)) (refusal 5 0))) cs)
+      (done (record { made = Made (new.tableOf (new.wanted w) start room (w .limits .minimum)); limiter = moved l })
+      (over cs start (replicate (w .limits .minimum) (init .raw .bits))))))
 
-  made-chain : madeOf l (tableType k wide limits) start room (init .raw .bits) cs ≡ made
+  made-chain : madeOf l (new.tableOf (new.wanted w) start room (w .limits .minimum)) (init .raw .bits) cs ≡ made
   unfolding madeOf madeBy
-  made-chain = creation-chain (λ p m. madeBy p m (tableType k wide limits) start room (init .raw .bits) cs) l (leb (limits .minimum) room)
+  made-chain = creation-chain (λ p m. madeBy p m (new.tableOf (new.wanted w) start room (w .limits .minimum)) (init .raw .bits) cs) l (leb (w .limits .minimum) room)
 
-  type-chain : byType (buildTable k wide limits) l start room init cs
-      ≡ unless (validTable (tableType k wide limits)) (new.done (new.refused l (refusal 1 0)) cs)
-      (unless (elementMatches (tableType k wide limits) (init .ty)) (new.done (new.refused l (refusal 14 0)) cs) made)
+  type-chain : byType (buildTable (w .element) (w .wide) (w .limits)) l start room init cs
+      ≡ unless (validTable (new.wanted w)) (done (new.refused l (refusal 1 0)) cs)
+      (unless (elementMatches (new.wanted w) (init .ty)) (done (new.refused l (refusal 14 0)) cs) made)
   unfolding buildTable validated byType byKind
   type-chain =
-      pick-ap (λ b. byType b l start room init cs) (validTable (tableType k wide limits)) (built.Built (tableType k wide limits)) (built.Refused (refusal 1 0))
-      ∙ ap (λ (c : new.Created). unless (validTable (tableType k wide limits)) (new.done (new.refused l (refusal 1 0)) cs)
-      (unless (elementMatches (tableType k wide limits) (init .ty)) (new.done (new.refused l (refusal 14 0)) cs) c))
+      pick-ap (λ b. byType b l start room init cs) (validTable (new.wanted w)) (built.Built (new.wanted w)) (built.Refused (refusal 1 0))
+      ∙ ap (λ (c : Done CreatedTable). unless (validTable (new.wanted w)) (done (new.refused l (refusal 1 0)) cs)
+      (unless (elementMatches (new.wanted w) (init .ty)) (done (new.refused l (refusal 14 0)) cs) c))
       made-chain
 
-  pub new-reads : new.newTable k wide limits init start room cs l ≡ newStaged k wide limits init start room cs l
-  unfolding new.newTable newStaged
+  pub new-reads : new.newTable w init start room cs l
+      ≡ pick (soundBuffer start room (length cs)) (byType (buildTable (w .element) (w .wide) (w .limits)) l start room init cs) (done (new.refused l (refusal 19 0)) cs)
+  unfolding new.newTable
   new-reads =
-      ap (λ (c : new.Created). unless (soundBuffer start room (length cs)) (new.done (new.refused l (refusal 19 0)) cs) c) (sym type-chain)
+      ap (λ (c : Done CreatedTable). unless (soundBuffer start room (length cs)) (done (new.refused l (refusal 19 0)) cs) c) (sym type-chain)
 
-pub fill-reads : (r : ℕ) (t : Table) (cs : List ℕ) (i : ℕ) (v : TypedRawRef) (n : ℕ) (f : Fuel) → fillTable r t cs i v n f ≡ fillStaged r t cs i v n f
-unfolding fillTable fillStaged fillSound fillKind
-fill-reads r t cs i v n f =
-    ap (λ (o : SpanDone). unless (soundTable t (length cs)) (spanDone (refuse 19 0) f cs) (unless (elementMatches (t .ty) (v .ty)) (spanDone (refuse 14 0) f cs) o))
-    (sym (span-chain f (inside i n (t .size)) 11 (price (f .costs .copied) (n * r)) cs (over cs (t .start + i) (replicate n (v .raw .bits)))))
+pub fill-reads : (r : ℕ) (t : Table) (cs : List ℕ) (span : FillSpan) (v : TypedRawRef) (f : Fuel)
+    → fillTable r t cs span v f ≡ pick (soundTable t (length cs)) (fillSound r t cs span v f) (spanDone (refuse 19 0) f cs)
+unfolding fillTable fillSound fillKind
+fill-reads r t cs span v f =
+    ap (λ (o : Done Spanned). unless (soundTable t (length cs)) (spanDone (refuse 19 0) f cs) (unless (elementMatches (t .ty) (v .ty)) (spanDone (refuse 14 0) f cs) o))
+    (sym (span-chain f (inside (span .start) (span .len) (t .size)) 11 (price (f .costs .copied) (span .len * r)) cs (over cs (t .start + span .start) (replicate (span .len) (v .raw .bits)))))
 
 -- both copies have one chain from the bounds on
-span-reads : (r : ℕ) (d s : Table) (cs : List ℕ) (i j n : ℕ) (f : Fuel)
-    → copySpan r d s cs i j n f
-    ≡ unless (both (inside i n (d .size)) (inside j n (s .size))) (spanDone (refuse 12 0) f cs)
-    (pick (short f (price (f .costs .copied) (n * r))) (spanDone (refuse 7 (price (f .costs .copied) (n * r))) f cs)
-    (spanDone (accept 0) (paid f (price (f .costs .copied) (n * r))) (over cs (d .start + i) (cut cs (s .start + j) n))))
-unfolding copySpan
-span-reads r d s cs i j n f =
-    span-chain f (both (inside i n (d .size)) (inside j n (s .size))) 12 (price (f .costs .copied) (n * r)) cs (over cs (d .start + i) (cut cs (s .start + j) n))
+span-reads : (r : ℕ) (d s : Table) (cs : List ℕ) (span : CopySpan) (f : Fuel)
+    → copyBounds r d s cs span f
+    ≡ unless (both (inside (span .to) (span .len) (d .size)) (inside (span .from) (span .len) (s .size))) (spanDone (refuse 12 0) f cs)
+    (pick (short f (price (f .costs .copied) (span .len * r))) (spanDone (refuse 7 (price (f .costs .copied) (span .len * r))) f cs)
+    (spanDone (accept 0) (paid f (price (f .costs .copied) (span .len * r))) (over cs (d .start + span .to) (cut cs (s .start + span .from) (span .len)))))
+unfolding copyBounds
+span-reads r d s cs span f =
+    span-chain f (both (inside (span .to) (span .len) (d .size)) (inside (span .from) (span .len) (s .size))) 12 (price (f .costs .copied) (span .len * r)) cs
+    (over cs (d .start + span .to) (cut cs (s .start + span .from) (span .len)))
 
-pub copy-reads : (r : ℕ) (d s : Table) (cs : List ℕ) (i j n : ℕ) (f : Fuel) → copyTable r d s cs i j n f ≡ copyStaged r d s cs i j n f
-unfolding copyTable copyStaged copyKinds
-copy-reads r d s cs i j n f =
-    ap (λ (o : SpanDone). unless (soundTwo d s (length cs)) (spanDone (refuse 19 0) f cs) (unless (elementMatches (d .ty) (s .ty .element)) (spanDone (refuse 14 0) f cs) o))
-    (sym (span-reads r d s cs i j n f))
+pub copy-reads : (r : ℕ) (d s : Table) (cs : List ℕ) (span : CopySpan) (f : Fuel)
+    → copyTable r d s cs span f ≡ pick (soundTwo d s (length cs)) (copyKinds r d s cs span f) (spanDone (refuse 19 0) f cs)
+unfolding copyTable copyKinds
+copy-reads r d s cs span f =
+    ap (λ (o : Done Spanned). unless (soundTwo d s (length cs)) (spanDone (refuse 19 0) f cs) (unless (elementMatches (d .ty) (s .ty .element)) (spanDone (refuse 14 0) f cs) o))
+    (sym (span-reads r d s cs span f))
 
-pub within-reads : (r : ℕ) (t : Table) (cs : List ℕ) (i j n : ℕ) (f : Fuel) → copyWithin r t cs i j n f ≡ withinStaged r t cs i j n f
-unfolding copyWithin withinStaged
-within-reads r t cs i j n f =
-    ap (λ (o : SpanDone). unless (soundTable t (length cs)) (spanDone (refuse 19 0) f cs) o) (sym (span-reads r t t cs i j n f))
+pub within-reads : (r : ℕ) (t : Table) (cs : List ℕ) (span : CopySpan) (f : Fuel)
+    → copyWithin r t cs span f ≡ pick (soundTable t (length cs)) (copyBounds r t t cs span f) (spanDone (refuse 19 0) f cs)
+unfolding copyWithin
+within-reads r t cs span f =
+    ap (λ (o : Done Spanned). unless (soundTable t (length cs)) (spanDone (refuse 19 0) f cs) o) (sym (span-reads r t t cs span f))
 
-pub init-reads : (r : ℕ) (t : Table) (s : ElementSegment) (cs items : List ℕ) (i j n : ℕ) (f : Fuel) → initTable r t s cs items i j n f ≡ initStaged r t s cs items i j n f
-unfolding initTable initStaged initKinds initSpan initSome
-init-reads r t s cs items i j n f =
-    ap (λ (o : SpanDone).
+pub init-reads : (r : ℕ) (t : Table) (s : ElementSegment) (cs items : List ℕ) (span : CopySpan) (f : Fuel)
+    → initTable r t s cs items span f
+    ≡ pick (both (soundTable t (length cs)) (soundSegment s (length items))) (initKinds r t s cs items span f) (spanDone (refuse 19 0) f cs)
+unfolding initTable initKinds initBounds initSome
+init-reads r t s cs items span f =
+    ap (λ (o : Done Spanned).
     unless (both (soundTable t (length cs)) (soundSegment s (length items))) (spanDone (refuse 19 0) f cs)
     (unless (elementMatches (t .ty) (s .ty)) (spanDone (refuse 14 0) f cs)
-    (unless (both (inside i n (t .size)) (inside j n (s .size))) (spanDone (refuse 13 0) f cs)
-    (pick (eqb n 0) (spanDone (accept 0) f cs) o))))
-    (sym (charge-chain f (price (f .costs .copied) (n * r)) cs (over cs (t .start + i) (cut items (s .start + j) n))))
+    (unless (both (inside (span .to) (span .len) (t .size)) (inside (span .from) (span .len) (s .size))) (spanDone (refuse 13 0) f cs)
+    (pick (eqb (span .len) 0) (spanDone (accept 0) f cs) o))))
+    (sym (charge-chain f (price (f .costs .copied) (span .len * r)) cs (over cs (t .start + span .to) (cut items (s .start + span .from) (span .len)))))

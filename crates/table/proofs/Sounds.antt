@@ -10,7 +10,7 @@ use Rattle.types.proofs.Spans.{within-is}
 use Rattle.table.specs.Table.{soundBuffer, soundSize, soundTable}
 use Rattle.table.specs.Element.{soundSegment}
 use Rattle.table.specs.Copy.{soundTwo}
-use Rattle.table.specs.Facts.{Within, Roomed, Places}
+use Rattle.table.specs.stages.Facts.{Within, Roomed, Places}
 use Rattle.table.specs.declared.table.Table.{Table}
 use Rattle.table.specs.declared.element.ElementSegment.{ElementSegment}
 

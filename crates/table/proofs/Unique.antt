@@ -1,14 +1,10 @@
 -- Uniqueness: each public function's contract names one answer, and one content of what it is lent to write, for each input. Assumes nothing.
-use mathlib.Core.Path.{sym, _∙_, ap}
+use mathlib.Core.Path.{sym, _∙_}
 use mathlib.Core.List.{List}
 use Prim.Native.Nat.{ℕ}
 use denote.Ref.{now}
 use Rattle.types.proofs.One.{One, OneWith}
-use Rattle.types.proofs.Grants.{spans}
-use Rattle.table.specs.Element as element
-use Rattle.table.specs.Grow as grow
-use Rattle.table.specs.New as new
-use Rattle.table.specs.Table as table
+use Rattle.types.proofs.Dones.{done-parts}
 use Rattle.table.proofs.table.Table.copy.Reads as table-copy-reads
 use Rattle.table.proofs.table.Table.copy.Kinds as table-copy-kinds
 use Rattle.table.proofs.table.Table.copy_within.Reads as table-copy-within-reads
@@ -37,13 +33,13 @@ use Rattle.table.proofs.table.Table.set.Reads as table-set-reads
 use Rattle.table.proofs.table.Table.set.Kinds as table-set-kinds
 
 pub table-copy-one : OneWith 1 table-copy-kinds.ps table-copy-kinds.r table-copy-reads.Pre table-copy-reads.Post (List ℕ) (λ κs s. now (s .1 .1 .0))
-table-copy-one κs a x x′ s s′ z p q = spans (p ∙ sym q)
+table-copy-one κs a x x′ s s′ z p q = done-parts (p ∙ sym q)
 
 pub table-copy-within-one : OneWith 1 table-copy-within-kinds.ps table-copy-within-kinds.r table-copy-within-reads.Pre table-copy-within-reads.Post (List ℕ) (λ κs s. now (s .1 .0))
-table-copy-within-one κs a x x′ s s′ z p q = spans (p ∙ sym q)
+table-copy-within-one κs a x x′ s s′ z p q = done-parts (p ∙ sym q)
 
 pub element-segment-new-one : OneWith 2 element-segment-new-kinds.ps element-segment-new-kinds.r element-segment-new-reads.Pre element-segment-new-reads.Post (List ℕ) (λ κs s. now (s .1 .1 .0))
-element-segment-new-one κs a x x′ s s′ z p q = (ap (λ (o : element.MadeWith). o .made) (p ∙ sym q), ap (λ (o : element.MadeWith). o .items) (p ∙ sym q))
+element-segment-new-one κs a x x′ s s′ z p q = done-parts (p ∙ sym q)
 
 pub element-segment-is-sound-one : One 0 element-segment-is-sound-kinds.ps element-segment-is-sound-kinds.r element-segment-is-sound-reads.Pre element-segment-is-sound-reads.Post
 element-segment-is-sound-one κs a x x′ s s′ z p q = p ∙ sym q
@@ -55,16 +51,16 @@ pub element-segment-drop-items-one : One 0 element-segment-drop-items-kinds.ps e
 element-segment-drop-items-one κs a x x′ s s′ z p q = p ∙ sym q
 
 pub table-fill-one : OneWith 1 table-fill-kinds.ps table-fill-kinds.r table-fill-reads.Pre table-fill-reads.Post (List ℕ) (λ κs s. now (s .1 .0))
-table-fill-one κs a x x′ s s′ z p q = spans (p ∙ sym q)
+table-fill-one κs a x x′ s s′ z p q = done-parts (p ∙ sym q)
 
 pub table-grow-one : OneWith 1 table-grow-kinds.ps table-grow-kinds.r table-grow-reads.Pre table-grow-reads.Post (List ℕ) (λ κs s. now (s .1 .0))
-table-grow-one κs a x x′ s s′ z p q = (ap (λ (o : grow.Grown). o .out) (p ∙ sym q), ap (λ (o : grow.Grown). o .cells) (p ∙ sym q))
+table-grow-one κs a x x′ s s′ z p q = done-parts (p ∙ sym q)
 
 pub table-init-one : OneWith 2 table-init-kinds.ps table-init-kinds.r table-init-reads.Pre table-init-reads.Post (List ℕ) (λ κs s. now (s .1 .1 .0))
-table-init-one κs a x x′ s s′ z p q = spans (p ∙ sym q)
+table-init-one κs a x x′ s s′ z p q = done-parts (p ∙ sym q)
 
-pub new-new-table-one : OneWith 1 new-new-table-kinds.ps new-new-table-kinds.r new-new-table-reads.Pre new-new-table-reads.Post (List ℕ) (λ κs s. now (s .1 .1 .1 .1 .1 .1 .0))
-new-new-table-one κs a x x′ s s′ z p q = (ap (λ (o : new.Created). o .out) (p ∙ sym q), ap (λ (o : new.Created). o .cells) (p ∙ sym q))
+pub new-new-table-one : OneWith 1 new-new-table-kinds.ps new-new-table-kinds.r new-new-table-reads.Pre new-new-table-reads.Post (List ℕ) (λ κs s. now (s .1 .1 .1 .1 .0))
+new-new-table-one κs a x x′ s s′ z p q = done-parts (p ∙ sym q)
 
 pub table-is-sound-one : One 0 table-is-sound-kinds.ps table-is-sound-kinds.r table-is-sound-reads.Pre table-is-sound-reads.Post
 table-is-sound-one κs a x x′ s s′ z p q = p ∙ sym q
@@ -73,4 +69,4 @@ pub table-get-one : One 1 table-get-kinds.ps table-get-kinds.r table-get-reads.P
 table-get-one κs a x x′ s s′ z p q = p ∙ sym q
 
 pub table-set-one : OneWith 1 table-set-kinds.ps table-set-kinds.r table-set-reads.Pre table-set-reads.Post (List ℕ) (λ κs s. now (s .1 .0))
-table-set-one κs a x x′ s s′ z p q = (ap (λ (o : table.Written). o .answer) (p ∙ sym q), ap (λ (o : table.Written). o .cells) (p ∙ sym q))
+table-set-one κs a x x′ s s′ z p q = done-parts (p ∙ sym q)

@@ -9,8 +9,10 @@ use Rattle.types.specs.Span.{inside, cut, over}
 use Rattle.types.specs.Answer.{refuse, accept}
 use Rattle.types.specs.Price.{price}
 use Rattle.types.specs.Fuel.{short, paid}
-use Rattle.types.specs.Grant.{SpanDone, spanDone}
+use Rattle.types.specs.Done.{Done, spanDone}
 use Rattle.types.specs.declared.fuel.Fuel.{Fuel}
+use Rattle.types.specs.declared.grant.Spanned.{Spanned}
+use Rattle.types.specs.declared.span.CopySpan.{CopySpan}
 use Rattle.types.specs.TableType.{elementMatches}
 use Rattle.table.specs.Table.{soundTable}
 use Rattle.table.specs.declared.table.Table.{Table}
@@ -19,22 +21,23 @@ use Rattle.table.specs.declared.table.Table.{Table}
 unfoldable pub roomsApart : Table → Table → Bool
 roomsApart d s = pick (leb (d .start + d .room) (s .start)) true (leb (s .start + s .room) (d .start))
 
+-- two sound tables that have no cell in common
 unfoldable pub soundTwo : Table → Table → ℕ → Bool
 soundTwo d s len = both (soundTable d len) (both (soundTable s len) (roomsApart d s))
 
--- n cells of one table, from j on, go to another, from i on; all are read as they were before
-unfoldable pub copyTable : ℕ → Table → Table → List ℕ → ℕ → ℕ → ℕ → Fuel → SpanDone
-copyTable r d s cs i j n f =
+-- cells of one table go to another; all are read as they were before
+unfoldable pub copyTable : ℕ → Table → Table → List ℕ → CopySpan → Fuel → Done Spanned
+copyTable r d s cs span f =
     unless (soundTwo d s (length cs)) (spanDone (refuse 19 0) f cs)
     (unless (elementMatches (d .ty) (s .ty .element)) (spanDone (refuse 14 0) f cs)
-    (unless (both (inside i n (d .size)) (inside j n (s .size))) (spanDone (refuse 12 0) f cs)
-    (pick (short f (price (f .costs .copied) (n * r))) (spanDone (refuse 7 (price (f .costs .copied) (n * r))) f cs)
-    (spanDone (accept 0) (paid f (price (f .costs .copied) (n * r))) (over cs (d .start + i) (cut cs (s .start + j) n))))))
+    (unless (both (inside (span .to) (span .len) (d .size)) (inside (span .from) (span .len) (s .size))) (spanDone (refuse 12 0) f cs)
+    (pick (short f (price (f .costs .copied) (span .len * r))) (spanDone (refuse 7 (price (f .costs .copied) (span .len * r))) f cs)
+    (spanDone (accept 0) (paid f (price (f .costs .copied) (span .len * r))) (over cs (d .start + span .to) (cut cs (s .start + span .from) (span .len)))))))
 
 -- the same within one table, whose kind is its own
-unfoldable pub copyWithin : ℕ → Table → List ℕ → ℕ → ℕ → ℕ → Fuel → SpanDone
-copyWithin r t cs i j n f =
+unfoldable pub copyWithin : ℕ → Table → List ℕ → CopySpan → Fuel → Done Spanned
+copyWithin r t cs span f =
     unless (soundTable t (length cs)) (spanDone (refuse 19 0) f cs)
-    (unless (both (inside i n (t .size)) (inside j n (t .size))) (spanDone (refuse 12 0) f cs)
-    (pick (short f (price (f .costs .copied) (n * r))) (spanDone (refuse 7 (price (f .costs .copied) (n * r))) f cs)
-    (spanDone (accept 0) (paid f (price (f .costs .copied) (n * r))) (over cs (t .start + i) (cut cs (t .start + j) n)))))
+    (unless (both (inside (span .to) (span .len) (t .size)) (inside (span .from) (span .len) (t .size))) (spanDone (refuse 12 0) f cs)
+    (pick (short f (price (f .costs .copied) (span .len * r))) (spanDone (refuse 7 (price (f .costs .copied) (span .len * r))) f cs)
+    (spanDone (accept 0) (paid f (price (f .costs .copied) (span .len * r))) (over cs (t .start + span .to) (cut cs (t .start + span .from) (span .len))))))

@@ -5,6 +5,7 @@ use mathlib.Core.List.{List}
 use lib.Dec.{leb}
 use lib.ListN.{length, getD}
 use Rattle.types.specs.Pick.{pick, both}
+use Rattle.types.specs.Done.{Done, done}
 use Rattle.types.specs.Span.{over}
 use Rattle.types.specs.Answer.{refusal, refuse, accept}
 use Rattle.types.specs.declared.answer.Answer.{Answer}
@@ -29,16 +30,8 @@ itemOf s items i =
     (pick (leb (s .size) i) (refuse 9 0) (accept (getD items (s .start + i) 0)))
     (refuse 19 0)
 
--- what making a segment gives back, and the items after it
-pub record MadeWith : Type 0 where
-  pub made : MadeSegment
-  pub items : List ℕ
-
-abbrev pub done : MadeSegment → List ℕ → MadeWith
-done m items = record { made = m; items = items }
-
 -- the items go to their places, or 19 where these are not inside the buffer
-unfoldable pub newSegment : RefType → ℕ → List ℕ → List ℕ → MadeWith
+unfoldable pub newSegment : RefType → ℕ → List ℕ → List ℕ → Done MadeSegment
 newSegment k start items given =
     pick (soundBuffer start (length given) (length items))
     (done (Made (record { ty = k; start = start; places = length given; size = length given })) (over items start given))

@@ -5,6 +5,7 @@ use mathlib.Core.List.{List}
 use lib.Dec.{eqb, leb, ltb}
 use lib.ListN.{length, replicate}
 use Rattle.types.specs.Pick.{pick, unless}
+use Rattle.types.specs.Done.{Done, done}
 use Rattle.types.specs.Span.{over}
 use Rattle.types.specs.Answer.{refuse, accept}
 use Rattle.types.specs.Price.{price}
@@ -21,14 +22,7 @@ use Rattle.table.specs.Table.{resized, soundTable}
 use Rattle.table.specs.declared.table.Table.{Table}
 use Rattle.table.specs.declared.grow.GrownTable.{GrownTable}
 
--- what a growth gives back, and the cells after it
-pub record Grown : Type 0 where
-  pub out : GrownTable
-  pub cells : List ℕ
-
-abbrev pub done : GrownTable → List ℕ → Grown
-done r cs = record { out = r; cells = cs }
-
+-- what a growth gives back
 abbrev pub answered : Answer → Table → Fuel → Limiter → GrownTable
 answered a t f l = record { answer = a; table = t; fuel = f; limiter = l }
 
@@ -37,7 +31,7 @@ abbrev pub cellsPrice : ℕ → ℕ → Fuel → ℕ
 cellsPrice r n f = price (f .costs .copied) (n * r)
 
 -- growth by n cells
-unfoldable pub growTable : ℕ → Table → List ℕ → ℕ → TypedRawRef → Fuel → Limiter → Grown
+unfoldable pub growTable : ℕ → Table → List ℕ → ℕ → TypedRawRef → Fuel → Limiter → Done GrownTable
 growTable r t cs n v f l =
     unless (soundTable t (length cs)) (done (answered (refuse 19 0) t f l) cs)
     (unless (elementMatches (t .ty) (v .ty)) (done (answered (refuse 14 0) t f l) cs)

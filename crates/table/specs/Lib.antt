@@ -1,9 +1,8 @@
 pub mod Table
 pub mod Element
-pub mod Facts
 pub mod New
 pub mod Grow
 pub mod Fill
 pub mod Copy
 pub mod Init
-pub mod Stages
+pub mod stages

@@ -1,10 +1,12 @@
 -- Document 01, "The machine": a table's record, and when it is sound; WebAssembly Core Specification 3.0, Execution, Runtime structure, table instances, and table.get, table.set.
-use Prim.Native.Nat.{ℕ, _+_, _^_}
+use Prim.Native.Nat.{ℕ, _+_}
 use mathlib.Core.Bool.{Bool}
 use mathlib.Core.List.{List}
 use lib.Dec.{leb}
 use lib.ListN.{length, getD, replicate}
+use Rattle.types.specs.Numbers.{word32}
 use Rattle.types.specs.Pick.{pick, both}
+use Rattle.types.specs.Done.{Done, done}
 use Rattle.types.specs.Span.{inside, over}
 use Rattle.types.specs.Limits.{admitsOf}
 use Rattle.types.specs.TableType.{tableBound, validTable, elementMatches}
@@ -19,7 +21,7 @@ resized t size = record { ty = t .ty; start = t .start; room = t .room; size = s
 
 -- places inside a buffer of references; one above 2^32 cells is unsound
 unfoldable pub soundBuffer : ℕ → ℕ → ℕ → Bool
-soundBuffer start places len = both (leb len (2 ^ 32)) (inside start places len)
+soundBuffer start places len = both (leb len word32) (inside start places len)
 
 -- the size lies within the room, is at least the minimum, at most 2^N - 1 and the maximum
 unfoldable pub soundSize : Table → Bool
@@ -39,21 +41,13 @@ getTable t cs i =
     (pick (leb (t .size) i) (refuse 9 0) (accept (getD cs (t .start + i) 0)))
     (refuse 19 0)
 
--- an answer, and the cells after it
-pub record Written : Type 0 where
-  pub answer : Answer
-  pub cells : List ℕ
-
-abbrev pub done : Answer → List ℕ → Written
-done a cs = record { answer = a; cells = cs }
-
 -- 14, 10 where the index is not below the size
-unfoldable pub setSound : Table → List ℕ → ℕ → TypedRawRef → Written
+unfoldable pub setSound : Table → List ℕ → ℕ → TypedRawRef → Done Answer
 setSound t cs i v =
     pick (elementMatches (t .ty) (v .ty))
     (pick (leb (t .size) i) (done (refuse 10 0) cs) (done (accept 0) (over cs (t .start + i) (replicate 1 (v .raw .bits)))))
     (done (refuse 14 0) cs)
 
 -- table.set, or 19
-unfoldable pub setTable : Table → List ℕ → ℕ → TypedRawRef → Written
+unfoldable pub setTable : Table → List ℕ → ℕ → TypedRawRef → Done Answer
 setTable t cs i v = pick (soundTable t (length cs)) (setSound t cs i v) (done (refuse 19 0) cs)

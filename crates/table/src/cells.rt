@@ -2,7 +2,8 @@
 ghost use mathlib.Core.Path.{_≡_};
 ghost use Prim.Native.Nat.{_+_, _≤_};
 ghost use lib.ListN.{length, replicate};
-ghost use Rattle.types.specs.Span.{over, cut, Two};
+ghost use Rattle.types.specs.Span.{over, cut};
+ghost use Rattle.types.specs.stages.Facts.{Two};
 
 // Every cell of the part becomes `v`.
 fn fill(part: &mut [u64], v: u64)

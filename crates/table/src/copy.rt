@@ -8,29 +8,29 @@ use types::fuel::Fuel;
 use types::fuel::FuelStep;
 use types::grant::Spanned;
 use types::raw::RawRef;
+use types::span::CopySpan;
 ghost use mathlib.Core.Path.{_≡_};
 ghost use Prim.Native.Nat.{_+_};
 ghost use lib.ListN.{length};
 ghost use Rattle.types.specs.Span.{over, cut};
-ghost use Rattle.types.specs.Grant.{spanDone, spanned};
+ghost use Rattle.types.specs.Done.{done};
+ghost use Rattle.types.specs.stages.Grant.{spanned};
 ghost use Rattle.types.specs.Raw.{rawBytes};
-ghost use Rattle.table.specs.Facts.{Goes, Within};
+ghost use Rattle.table.specs.stages.Facts.{Goes, Within};
 ghost use Rattle.table.specs.Copy.{roomsApart, soundTwo, copyTable, copyWithin};
-ghost use Rattle.table.specs.Stages.{copySpan, copyKinds};
+ghost use Rattle.table.specs.stages.Spans.{copyBounds, copyKinds};
 
 // By what bounds and fuel say.
 fn copy_by(
     step: FuelStep,
     fuel: Fuel,
-    to: Table,
-    from: Table,
+    into: Table,
+    source: Table,
     cells: &mut [u64],
-    i: u64,
-    j: u64,
-    n: u64,
+    span: CopySpan,
 ) -> Spanned
-    requires { ⌜ Goes step (to .start + (i + n)) (length (now cells)) × Goes step (from .start + (j + n)) (length (now cells)) ⌝ }
-    ensures { λ r. ⌜ spanDone (r .answer) (r .fuel) (now (cells .exit)) ≡ spanned step fuel (now (cells .entry)) (over (now (cells .entry)) (to .start + i) (cut (now (cells .entry)) (from .start + j) n)) ⌝ }
+    requires { ⌜ Goes step (into .start + (span .to + span .len)) (length (now cells)) × Goes step (source .start + (span .from + span .len)) (length (now cells)) ⌝ }
+    ensures { λ r. ⌜ done r (now (cells .exit)) ≡ spanned step fuel (now (cells .entry)) (over (now (cells .entry)) (into .start + span .to) (cut (now (cells .entry)) (source .start + span .from) (span .len))) ⌝ }
 {
     match step {
         FuelStep::Refused(refusal) => Spanned {
@@ -38,9 +38,9 @@ fn copy_by(
             fuel,
         },
         FuelStep::Done(left) => {
-            let there = to.start + (i as usize);
-            let here = from.start + (j as usize);
-            cells::move_cells(cells, there, here, n as usize);
+            let there = into.start + (span.to as usize);
+            let here = source.start + (span.from as usize);
+            cells::move_cells(cells, there, here, span.len as usize);
             Spanned {
                 answer: Answer::Value(Value::Number(0)),
                 fuel: left,
@@ -49,87 +49,71 @@ fn copy_by(
     }
 }
 
-fn copy_span(
-    to: Table,
-    from: Table,
-    cells: &mut [u64],
-    i: u64,
-    j: u64,
-    n: u64,
-    fuel: Fuel,
-) -> Spanned
-    requires { ⌜ Within to (length (now cells)) × Within from (length (now cells)) ⌝ }
-    ensures { λ r. ⌜ spanDone (r .answer) (r .fuel) (now (cells .exit)) ≡ copySpan rawBytes to from (now (cells .entry)) i j n fuel ⌝ }
+fn copy_bounds(into: Table, source: Table, cells: &mut [u64], span: CopySpan, fuel: Fuel) -> Spanned
+    requires { ⌜ Within into (length (now cells)) × Within source (length (now cells)) ⌝ }
+    ensures { λ r. ⌜ done r (now (cells .exit)) ≡ copyBounds rawBytes into source (now (cells .entry)) span fuel ⌝ }
 {
     let costs = fuel.costs;
-    let ok = table::both_within(i, to.size, j, from.size, n);
-    let price = costs.fuel_for_copying_values(n, RawRef::size());
+    let ok = table::both_within(span.to, into.size, span.from, source.size, span.len);
+    let price = costs.fuel_for_copying_values(span.len, RawRef::size());
     let step = types::grant::grant_span(fuel, ok, 12, price);
-    copy_by(step, fuel, to, from, cells, i, j, n)
+    copy_by(step, fuel, into, source, cells, span)
 }
 
 // Whether the rooms of two tables follow each other.
-fn rooms_apart(to: Table, from: Table) -> bool
-    ensures { λ r. ⌜ r ≡ roomsApart to from ⌝ }
+fn rooms_apart(into: Table, source: Table) -> bool
+    ensures { λ r. ⌜ r ≡ roomsApart into source ⌝ }
 {
-    if types::span::within(to.start as u64, to.room, from.start as u64) {
+    if types::span::within(into.start as u64, into.room, source.start as u64) {
         return true;
     }
-    types::span::within(from.start as u64, from.room, to.start as u64)
+    types::span::within(source.start as u64, source.room, into.start as u64)
 }
 
-fn sound_two(to: Table, from: Table, len: usize) -> bool
-    ensures { λ r. ⌜ r ≡ soundTwo to from len ⌝ }
+fn sound_two(into: Table, source: Table, len: usize) -> bool
+    ensures { λ r. ⌜ r ≡ soundTwo into source len ⌝ }
 {
-    if !to.is_sound(len) {
+    if !into.is_sound(len) {
         return false;
     }
-    if !from.is_sound(len) {
+    if !source.is_sound(len) {
         return false;
     }
-    rooms_apart(to, from)
+    rooms_apart(into, source)
 }
 
-fn copy_kinds(
-    to: Table,
-    from: Table,
-    cells: &mut [u64],
-    i: u64,
-    j: u64,
-    n: u64,
-    fuel: Fuel,
-) -> Spanned
-    requires { ⌜ Within to (length (now cells)) × Within from (length (now cells)) ⌝ }
-    ensures { λ r. ⌜ spanDone (r .answer) (r .fuel) (now (cells .exit)) ≡ copyKinds rawBytes to from (now (cells .entry)) i j n fuel ⌝ }
+fn copy_kinds(into: Table, source: Table, cells: &mut [u64], span: CopySpan, fuel: Fuel) -> Spanned
+    requires { ⌜ Within into (length (now cells)) × Within source (length (now cells)) ⌝ }
+    ensures { λ r. ⌜ done r (now (cells .exit)) ≡ copyKinds rawBytes into source (now (cells .entry)) span fuel ⌝ }
 {
-    let ty = to.ty;
-    let source = from.ty;
-    let kind = source.element;
+    let ty = into.ty;
+    let other = source.ty;
+    let kind = other.element;
     if ty.element_matches(kind) {
-        return copy_span(to, from, cells, i, j, n, fuel);
+        return copy_bounds(into, source, cells, span, fuel);
     }
     table::not_spanned(14, fuel)
 }
 
 impl Table {
-    // `n` cells of another table, from `j` on, go to this one from `i` on: 14, 12 outside, 7; 19 where a record is unsound or the rooms meet.
-    pub fn copy(self, from: Table, cells: &mut [u64], i: u64, j: u64, n: u64, fuel: Fuel) -> Spanned
-        ensures { λ r. ⌜ spanDone (r .answer) (r .fuel) (now (cells .exit)) ≡ copyTable rawBytes self from (now (cells .entry)) i j n fuel ⌝ }
+    // Cells of another table go to this one: 14, 12 outside, 7; 19 where a record is unsound or the rooms meet.
+    pub fn copy(self, source: Table, cells: &mut [u64], span: CopySpan, fuel: Fuel) -> Spanned
+        ensures { λ r. ⌜ done r (now (cells .exit)) ≡ copyTable rawBytes self source (now (cells .entry)) span fuel ⌝ }
     {
         let len = cells.len();
-        if sound_two(self, from, len) {
-            return copy_kinds(self, from, cells, i, j, n, fuel);
+        if sound_two(self, source, len) {
+            return copy_kinds(self, source, cells, span, fuel);
         }
         table::not_spanned(19, fuel)
     }
 
-    // `n` cells from `j` on go to those from `i` on, read as they were before: 12 outside, 7; 19 where the record is unsound.
-    pub fn copy_within(self, cells: &mut [u64], i: u64, j: u64, n: u64, fuel: Fuel) -> Spanned
-        ensures { λ r. ⌜ spanDone (r .answer) (r .fuel) (now (cells .exit)) ≡ copyWithin rawBytes self (now (cells .entry)) i j n fuel ⌝ }
+    // Cells go to others of the same table, read as they were before: 12 outside, 7; 19 where the record is unsound.
+    pub fn copy_within(self, cells: &mut [u64], span: CopySpan, fuel: Fuel) -> Spanned
+        ensures { λ r. ⌜ done r (now (cells .exit)) ≡ copyWithin rawBytes self (now (cells .entry)) span fuel ⌝ }
     {
         let len = cells.len();
         if self.is_sound(len) {
-            return copy_span(self, self, cells, i, j, n, fuel);
+            return copy_bounds(self, self, cells, span, fuel);
         }
         table::not_spanned(19, fuel)
     }

@@ -6,7 +6,8 @@ use types::answer::Refusal;
 use types::answer::Value;
 use types::raw::RefType;
 ghost use mathlib.Core.Path.{_≡_};
-ghost use Rattle.table.specs.Element.{soundSegment, dropped, itemOf, done, newSegment};
+ghost use Rattle.types.specs.Done.{done};
+ghost use Rattle.table.specs.Element.{soundSegment, dropped, itemOf, newSegment};
 
 // `size` items at the `places` places from `start` on.
 pub struct ElementSegment {

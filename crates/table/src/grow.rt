@@ -6,9 +6,9 @@ use types::answer::Refusal;
 use types::answer::Value;
 use types::fuel::Fuel;
 use types::grant::Growth;
+use types::index_ty::IndexType;
 use types::limiter::Limiter;
 use types::limiter::Permit;
-use types::index_ty::IndexType;
 use types::raw::RawRef;
 use types::raw::TypedRawRef;
 ghost use mathlib.Core.Path.{_≡_};
@@ -17,11 +17,12 @@ ghost use lib.Dec.{ltb};
 ghost use lib.ListN.{length};
 ghost use Rattle.types.specs.declared.limiter.Permit.the-variants.{Granted};
 ghost use Rattle.types.specs.Answer.{refuse};
+ghost use Rattle.types.specs.Done.{done};
 ghost use Rattle.types.specs.IndexType.{maxSize};
 ghost use Rattle.types.specs.Raw.{rawBytes};
-ghost use Rattle.table.specs.Facts.{Roomy, Roomed};
-ghost use Rattle.table.specs.Grow.{done, answered, growTable};
-ghost use Rattle.table.specs.Stages.{enlargedBy, grantOf, growTo, growSome, growSound};
+ghost use Rattle.table.specs.stages.Facts.{Roomy, Roomed};
+ghost use Rattle.table.specs.Grow.{answered, growTable};
+ghost use Rattle.table.specs.stages.Grow.{enlargedBy, grantOf, growTo, growSome, growSound};
 
 pub struct GrownTable {
     pub answer: Answer,

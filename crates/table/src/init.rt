@@ -9,33 +9,33 @@ use types::fuel::Fuel;
 use types::fuel::FuelStep;
 use types::grant::Spanned;
 use types::raw::RawRef;
+use types::span::CopySpan;
 ghost use mathlib.Core.Path.{_≡_};
 ghost use Prim.Native.Nat.{_+_, _≤_};
 ghost use lib.ListN.{length};
 ghost use Rattle.types.specs.Pick.{both};
 ghost use Rattle.types.specs.Span.{over, cut};
-ghost use Rattle.types.specs.Grant.{spanDone, spanned};
+ghost use Rattle.types.specs.Done.{done};
+ghost use Rattle.types.specs.stages.Grant.{spanned};
 ghost use Rattle.types.specs.Raw.{rawBytes};
-ghost use Rattle.table.specs.Facts.{Within, Places};
+ghost use Rattle.table.specs.stages.Facts.{Within, Places};
 ghost use Rattle.table.specs.Table.{soundTable};
 ghost use Rattle.table.specs.Element.{soundSegment};
 ghost use Rattle.table.specs.Init.{initTable};
-ghost use Rattle.table.specs.Stages.{initSome, initSpan, initKinds};
+ghost use Rattle.table.specs.stages.Spans.{initSome, initBounds, initKinds};
 
 // By what the fuel step says.
 fn init_by(
     step: FuelStep,
     fuel: Fuel,
-    to: Table,
-    from: ElementSegment,
+    table: Table,
+    segment: ElementSegment,
     cells: &mut [u64],
     items: &[u64],
-    i: u64,
-    j: u64,
-    n: u64,
+    span: CopySpan,
 ) -> Spanned
-    requires { ⌜ (to .start + (i + n) ≤ length (now cells)) × (from .start + (j + n) ≤ length (now items)) ⌝ }
-    ensures { λ r. ⌜ spanDone (r .answer) (r .fuel) (now (cells .exit)) ≡ spanned step fuel (now (cells .entry)) (over (now (cells .entry)) (to .start + i) (cut (now (items .entry)) (from .start + j) n)) ⌝ }
+    requires { ⌜ (table .start + (span .to + span .len) ≤ length (now cells)) × (segment .start + (span .from + span .len) ≤ length (now items)) ⌝ }
+    ensures { λ r. ⌜ done r (now (cells .exit)) ≡ spanned step fuel (now (cells .entry)) (over (now (cells .entry)) (table .start + span .to) (cut (now (items .entry)) (segment .start + span .from) (span .len))) ⌝ }
 {
     match step {
         FuelStep::Refused(refusal) => Spanned {
@@ -43,9 +43,9 @@ fn init_by(
             fuel,
         },
         FuelStep::Done(left) => {
-            let there = to.start + (i as usize);
-            let here = from.start + (j as usize);
-            cells::init_cells(cells, there, items, here, n as usize);
+            let there = table.start + (span.to as usize);
+            let here = segment.start + (span.from as usize);
+            cells::init_cells(cells, there, items, here, span.len as usize);
             Spanned {
                 answer: Answer::Value(Value::Number(0)),
                 fuel: left,
@@ -55,98 +55,90 @@ fn init_by(
 }
 
 fn init_some(
-    to: Table,
-    from: ElementSegment,
+    table: Table,
+    segment: ElementSegment,
     cells: &mut [u64],
     items: &[u64],
-    i: u64,
-    j: u64,
-    n: u64,
+    span: CopySpan,
     fuel: Fuel,
 ) -> Spanned
-    requires { ⌜ (to .start + (i + n) ≤ length (now cells)) × (from .start + (j + n) ≤ length (now items)) ⌝ }
-    ensures { λ r. ⌜ spanDone (r .answer) (r .fuel) (now (cells .exit)) ≡ initSome rawBytes to from (now (cells .entry)) (now (items .entry)) i j n fuel ⌝ }
+    requires { ⌜ (table .start + (span .to + span .len) ≤ length (now cells)) × (segment .start + (span .from + span .len) ≤ length (now items)) ⌝ }
+    ensures { λ r. ⌜ done r (now (cells .exit)) ≡ initSome rawBytes table segment (now (cells .entry)) (now (items .entry)) span fuel ⌝ }
 {
     let costs = fuel.costs;
-    let price = costs.fuel_for_copying_values(n, RawRef::size());
+    let price = costs.fuel_for_copying_values(span.len, RawRef::size());
     let step = fuel.consume_fuel_if(price);
-    init_by(step, fuel, to, from, cells, items, i, j, n)
+    init_by(step, fuel, table, segment, cells, items, span)
 }
 
-fn init_span(
-    to: Table,
-    from: ElementSegment,
+fn init_bounds(
+    table: Table,
+    segment: ElementSegment,
     cells: &mut [u64],
     items: &[u64],
-    i: u64,
-    j: u64,
-    n: u64,
+    span: CopySpan,
     fuel: Fuel,
 ) -> Spanned
-    requires { ⌜ Within to (length (now cells)) × Places from (length (now items)) ⌝ }
-    ensures { λ r. ⌜ spanDone (r .answer) (r .fuel) (now (cells .exit)) ≡ initSpan rawBytes to from (now (cells .entry)) (now (items .entry)) i j n fuel ⌝ }
+    requires { ⌜ Within table (length (now cells)) × Places segment (length (now items)) ⌝ }
+    ensures { λ r. ⌜ done r (now (cells .exit)) ≡ initBounds rawBytes table segment (now (cells .entry)) (now (items .entry)) span fuel ⌝ }
 {
-    if !table::both_within(i, to.size, j, from.size, n) {
+    if !table::both_within(span.to, table.size, span.from, segment.size, span.len) {
         return table::not_spanned(13, fuel);
     }
-    if n == 0 {
+    if span.len == 0 {
         return Spanned {
             answer: Answer::Value(Value::Number(0)),
             fuel,
         };
     }
-    init_some(to, from, cells, items, i, j, n, fuel)
+    init_some(table, segment, cells, items, span, fuel)
 }
 
 fn init_kinds(
-    to: Table,
-    from: ElementSegment,
+    table: Table,
+    segment: ElementSegment,
     cells: &mut [u64],
     items: &[u64],
-    i: u64,
-    j: u64,
-    n: u64,
+    span: CopySpan,
     fuel: Fuel,
 ) -> Spanned
-    requires { ⌜ Within to (length (now cells)) × Places from (length (now items)) ⌝ }
-    ensures { λ r. ⌜ spanDone (r .answer) (r .fuel) (now (cells .exit)) ≡ initKinds rawBytes to from (now (cells .entry)) (now (items .entry)) i j n fuel ⌝ }
+    requires { ⌜ Within table (length (now cells)) × Places segment (length (now items)) ⌝ }
+    ensures { λ r. ⌜ done r (now (cells .exit)) ≡ initKinds rawBytes table segment (now (cells .entry)) (now (items .entry)) span fuel ⌝ }
 {
-    let ty = to.ty;
-    let kind = from.ty;
+    let ty = table.ty;
+    let kind = segment.ty;
     if ty.element_matches(kind) {
-        return init_span(to, from, cells, items, i, j, n, fuel);
+        return init_bounds(table, segment, cells, items, span, fuel);
     }
     table::not_spanned(14, fuel)
 }
 
 // Whether table and segment are both sound, each over its buffer.
-fn sound_pair(to: Table, from: ElementSegment, len: usize, count: usize) -> bool
-    ensures { λ r. ⌜ r ≡ both (soundTable to len) (soundSegment from count) ⌝ }
+fn sound_pair(table: Table, segment: ElementSegment, len: usize, count: usize) -> bool
+    ensures { λ r. ⌜ r ≡ both (soundTable table len) (soundSegment segment count) ⌝ }
 {
-    if !to.is_sound(len) {
+    if !table.is_sound(len) {
         return false;
     }
-    from.is_sound(count)
+    segment.is_sound(count)
 }
 
 impl Table {
-    // `n` items of a segment, from `j` on, go to the cells from `i` on: 14, 13 outside, length 0 is free, 7; 19 where a record is unsound.
+    // Items of a segment go to cells of the table: 14, 13 outside, length 0 is free, 7; 19 where a record is unsound.
     pub fn init(
         self,
-        from: ElementSegment,
+        segment: ElementSegment,
         cells: &mut [u64],
         items: &[u64],
-        i: u64,
-        j: u64,
-        n: u64,
+        span: CopySpan,
         fuel: Fuel,
     ) -> Spanned
-        ensures { λ r. ⌜ spanDone (r .answer) (r .fuel) (now (cells .exit)) ≡ initTable rawBytes self from (now (cells .entry)) (now (items .entry)) i j n fuel ⌝ }
+        ensures { λ r. ⌜ done r (now (cells .exit)) ≡ initTable rawBytes self segment (now (cells .entry)) (now (items .entry)) span fuel ⌝ }
     {
         let len = cells.len();
         let count = items.len();
-        if sound_pair(self, from, len, count) {
-            return init_kinds(self, from, cells, items, i, j, n, fuel);
+        if sound_pair(self, segment, len, count) {
+            return init_kinds(self, segment, cells, items, span, fuel);
         }
         table::not_spanned(19, fuel)
     }

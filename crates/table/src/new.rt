@@ -5,18 +5,19 @@ use super::table::Table;
 use types::answer::Refusal;
 use types::limiter::Limiter;
 use types::limiter::Permit;
-use types::limits::Limits;
-use types::raw::RefType;
 use types::raw::TypedRawRef;
 use types::table_ty::BuiltTable;
 use types::table_ty::TableType;
+use types::table_ty::WantedTable;
 ghost use mathlib.Core.Path.{_≡_};
 ghost use Prim.Native.Nat.{_+_, _≤_};
 ghost use lib.ListN.{length};
 ghost use Rattle.types.specs.declared.limiter.Permit.the-variants.{Granted};
+ghost use Rattle.types.specs.Done.{done};
 ghost use Rattle.types.specs.TableType.{buildTable};
-ghost use Rattle.table.specs.New.{done, refused, newTable};
-ghost use Rattle.table.specs.Stages.{madeBy, madeOf, byKind, byType};
+ghost use Rattle.table.specs.stages.Facts.{Within, Roomed};
+ghost use Rattle.table.specs.New.{refused, newTable};
+ghost use Rattle.table.specs.stages.New.{madeBy, madeOf, byKind, byType};
 
 pub enum MadeTable {
     Made(Table),
@@ -38,26 +39,13 @@ fn no_table(limiter: Limiter, refusal: Refusal) -> CreatedTable
 }
 
 // The table that was granted.
-fn make(
-    limiter: Limiter,
-    ty: TableType,
-    start: usize,
-    room: u64,
-    bits: u64,
-    cells: &mut [u64],
-) -> CreatedTable
-    requires { ⌜ start + ty .limits .minimum ≤ length (now cells) ⌝ }
-    ensures { λ r. ⌜ done r (now (cells .exit)) ≡ madeBy Granted limiter ty start room bits (now (cells .entry)) ⌝ }
+fn make(limiter: Limiter, table: Table, bits: u64, cells: &mut [u64]) -> CreatedTable
+    requires { ⌜ Within table (length (now cells)) ⌝ }
+    ensures { λ r. ⌜ done r (now (cells .exit)) ≡ madeBy Granted limiter table bits (now (cells .entry)) ⌝ }
 {
-    let size = ty.limits.minimum;
-    cells::fill_cells(cells, start, bits, size as usize);
+    cells::fill_cells(cells, table.start, bits, table.size as usize);
     CreatedTable {
-        made: MadeTable::Made(Table {
-            ty,
-            start,
-            room,
-            size,
-        }),
+        made: MadeTable::Made(table),
         limiter,
     }
 }
@@ -66,36 +54,27 @@ fn make(
 fn make_by(
     permit: Permit,
     limiter: Limiter,
-    ty: TableType,
-    start: usize,
-    room: u64,
+    table: Table,
     bits: u64,
     cells: &mut [u64],
 ) -> CreatedTable
-    requires { ⌜ (permit ≡ Granted → start + ty .limits .minimum ≤ length (now cells)) ⌝ }
-    ensures { λ r. ⌜ done r (now (cells .exit)) ≡ madeBy permit limiter ty start room bits (now (cells .entry)) ⌝ }
+    requires { ⌜ (permit ≡ Granted → Within table (length (now cells))) ⌝ }
+    ensures { λ r. ⌜ done r (now (cells .exit)) ≡ madeBy permit limiter table bits (now (cells .entry)) ⌝ }
 {
     match permit {
         Permit::Denied(refusal) => no_table(limiter, refusal),
-        Permit::Granted => make(limiter, ty, start, room, bits, cells),
+        Permit::Granted => make(limiter, table, bits, cells),
     }
 }
 
-fn make_granted(
-    limiter: Limiter,
-    ty: TableType,
-    start: usize,
-    room: u64,
-    bits: u64,
-    cells: &mut [u64],
-) -> CreatedTable
-    requires { ⌜ start + room ≤ length (now cells) ⌝ }
-    ensures { λ r. ⌜ done r (now (cells .exit)) ≡ madeOf limiter ty start room bits (now (cells .entry)) ⌝ }
+fn make_granted(limiter: Limiter, table: Table, bits: u64, cells: &mut [u64]) -> CreatedTable
+    requires { ⌜ Roomed table (length (now cells)) ⌝ }
+    ensures { λ r. ⌜ done r (now (cells .exit)) ≡ madeOf limiter table bits (now (cells .entry)) ⌝ }
 {
-    let asked = types::grant::grant_creation(limiter, ty.limits.minimum <= room);
+    let asked = types::grant::grant_creation(limiter, table.size <= table.room);
     let permit = asked.permit;
     let left = asked.limiter;
-    make_by(permit, left, ty, start, room, bits, cells)
+    make_by(permit, left, table, bits, cells)
 }
 
 // By the kind of the initial reference.
@@ -104,15 +83,26 @@ fn by_kind(
     ty: TableType,
     start: usize,
     room: u64,
-    init: TypedRawRef,
+    initial: TypedRawRef,
     cells: &mut [u64],
 ) -> CreatedTable
     requires { ⌜ start + room ≤ length (now cells) ⌝ }
-    ensures { λ r. ⌜ done r (now (cells .exit)) ≡ byKind limiter ty start room init (now (cells .entry)) ⌝ }
+    ensures { λ r. ⌜ done r (now (cells .exit)) ≡ byKind limiter ty start room initial (now (cells .entry)) ⌝ }
 {
-    let kind = init.ty;
+    let kind = initial.ty;
     if ty.element_matches(kind) {
-        return make_granted(limiter, ty, start, room, init.raw.bits, cells);
+        let size = ty.limits.minimum;
+        return make_granted(
+            limiter,
+            Table {
+                ty,
+                start,
+                room,
+                size,
+            },
+            initial.raw.bits,
+            cells,
+        );
     }
     no_table(
         limiter,
@@ -129,51 +119,49 @@ fn by_type(
     limiter: Limiter,
     start: usize,
     room: u64,
-    init: TypedRawRef,
+    initial: TypedRawRef,
     cells: &mut [u64],
 ) -> CreatedTable
     requires { ⌜ start + room ≤ length (now cells) ⌝ }
-    ensures { λ r. ⌜ done r (now (cells .exit)) ≡ byType built limiter start room init (now (cells .entry)) ⌝ }
+    ensures { λ r. ⌜ done r (now (cells .exit)) ≡ byType built limiter start room initial (now (cells .entry)) ⌝ }
 {
     match built {
         BuiltTable::Refused(refusal) => no_table(limiter, refusal),
-        BuiltTable::Built(ty) => by_kind(limiter, ty, start, room, init, cells),
+        BuiltTable::Built(ty) => by_kind(limiter, ty, start, room, initial, cells),
     }
 }
 
 fn make_in(
-    element: RefType,
-    is_64: bool,
-    limits: Limits,
-    init: TypedRawRef,
+    wanted: WantedTable,
+    initial: TypedRawRef,
     start: usize,
     room: u64,
     cells: &mut [u64],
     limiter: Limiter,
 ) -> CreatedTable
     requires { ⌜ start + room ≤ length (now cells) ⌝ }
-    ensures { λ r. ⌜ done r (now (cells .exit)) ≡ byType (buildTable element is_64 limits) limiter start room init (now (cells .entry)) ⌝ }
+    ensures { λ r. ⌜ done r (now (cells .exit)) ≡ byType (buildTable (wanted .element) (wanted .wide) (wanted .limits)) limiter start room initial (now (cells .entry)) ⌝ }
 {
-    let built = TableType::build(element, is_64, limits);
-    by_type(built, limiter, start, room, init, cells)
+    let element = wanted.element;
+    let limits = wanted.limits;
+    let built = TableType::build(element, wanted.wide, limits);
+    by_type(built, limiter, start, room, initial, cells)
 }
 
 // A new table in the `room` cells from `start` on: 1, 14, the limiter's 3 or 4, 5 with notice; 19 where the room is not inside the buffer.
 pub fn new_table(
-    element: RefType,
-    is_64: bool,
-    limits: Limits,
-    init: TypedRawRef,
+    wanted: WantedTable,
+    initial: TypedRawRef,
     start: usize,
     room: u64,
     cells: &mut [u64],
     limiter: Limiter,
 ) -> CreatedTable
-    ensures { λ r. ⌜ done r (now (cells .exit)) ≡ newTable element is_64 limits init start room (now (cells .entry)) limiter ⌝ }
+    ensures { λ r. ⌜ done r (now (cells .exit)) ≡ newTable wanted initial start room (now (cells .entry)) limiter ⌝ }
 {
     let len = cells.len();
     if table::sound_buffer(start, room, len) {
-        return make_in(element, is_64, limits, init, start, room, cells, limiter);
+        return make_in(wanted, initial, start, room, cells, limiter);
     }
     no_table(
         limiter,

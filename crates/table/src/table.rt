@@ -11,11 +11,12 @@ ghost use mathlib.Core.Path.{_≡_};
 ghost use lib.Dec.{leb};
 ghost use lib.ListN.{length};
 ghost use Rattle.types.specs.Answer.{refuse};
+ghost use Rattle.types.specs.Done.{done, spanOf};
 ghost use Rattle.types.specs.Pick.{both};
 ghost use Rattle.types.specs.Span.{inside};
 ghost use Rattle.types.specs.TableType.{tableBound};
-ghost use Rattle.table.specs.Facts.{Within};
-ghost use Rattle.table.specs.Table.{done, soundBuffer, soundSize, soundTable, getTable, setSound, setTable};
+ghost use Rattle.table.specs.stages.Facts.{Within};
+ghost use Rattle.table.specs.Table.{soundBuffer, soundSize, soundTable, getTable, setSound, setTable};
 
 // `size` cells in use of a room of `room` cells, which starts at `start` in the buffer.
 pub struct Table {
@@ -33,7 +34,7 @@ pub(crate) fn refused(number: u8) -> Answer
 
 // A span operation that is refused: fuel and cells stay.
 pub(crate) fn not_spanned(number: u8, fuel: Fuel) -> Spanned
-    ensures { λ r. ⌜ (r .answer ≡ refuse number 0) × (r .fuel ≡ fuel) ⌝ }
+    ensures { λ r. ⌜ r ≡ spanOf (refuse number 0) fuel ⌝ }
 {
     Spanned {
         answer: refused(number),

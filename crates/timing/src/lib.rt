@@ -1,18 +1,23 @@
 // Exports for the benches only: each builds the records of one operation from numbers, and leaves what a host would keep.
-use types::fuel::Fuel;
-use types::fuel::FuelCosts;
-use types::fuel::FuelStep;
-use types::limiter::Limiter;
+pub mod operate;
+pub mod text;
+
 use memory::memory::Memory;
 use table::element::ElementSegment;
 use table::table::Table;
+use types::fuel::Fuel;
+use types::fuel::FuelCosts;
+use types::fuel::FuelStep;
 use types::index_ty::IndexType;
+use types::limiter::Limiter;
 use types::limits::Limits;
 use types::memory_ty::MemoryType;
 use types::memory_ty::PageSize;
 use types::raw::RawRef;
 use types::raw::RefType;
 use types::raw::TypedRawRef;
+use types::span::CopySpan;
+use types::span::FillSpan;
 use types::table_ty::TableType;
 ghost use mathlib.Core.Path.{_≡_};
 ghost use lib.ListN.{length};
@@ -25,7 +30,7 @@ ghost use Rattle.table.specs.Table.{getTable, setTable};
 ghost use Rattle.table.specs.Fill.{fillTable};
 ghost use Rattle.table.specs.Copy.{copyTable, copyWithin};
 ghost use Rattle.table.specs.Init.{initTable};
-ghost use Rattle.timing.specs.Timing.{pageOf, memoryOf, fuelOf, tableOf, refOf, segmentOf, Grew, Took, Charged, Got, Wrote, Spans};
+ghost use Rattle.timing.specs.Timing.{pageOf, memoryOf, fuelOf, tableOf, refOf, segmentOf, fillSpan, copySpan, Grew, Took, Charged, Got, Wrote, Spans};
 
 fn page_of(wasm: bool) -> PageSize
     ensures { λ r. ⌜ r ≡ pageOf wasm ⌝ }
@@ -272,15 +277,14 @@ pub extern "C" fn timing_set(cells: &mut [u64], wide: bool, size: u64, index: u6
 fn fill_from(
     table: Table,
     cells: &mut [u64],
-    to: u64,
+    span: FillSpan,
     value: TypedRawRef,
-    count: u64,
     fuel: Fuel,
     left: &mut u64,
 ) -> u8
-    ensures { λ r. ⌜ Spans (fillTable rawBytes table (now (cells .entry)) to value count fuel) r (now (cells .exit)) (now (left .exit)) ⌝ }
+    ensures { λ r. ⌜ Spans (fillTable rawBytes table (now (cells .entry)) span value fuel) r (now (cells .exit)) (now (left .exit)) ⌝ }
 {
-    let filled = table.fill(cells, to, value, count, fuel);
+    let filled = table.fill(cells, span, value, fuel);
     let paid = filled.fuel;
     let answer = filled.answer;
     *left = paid.remaining;
@@ -300,27 +304,29 @@ pub extern "C" fn timing_fill(
     left: &mut u64,
     per_unit: u32,
 ) -> u8
-    ensures { λ r. ⌜ Spans (fillTable rawBytes (tableOf wide 0 size) (now (cells .entry)) to (refOf bits) count (fuelOf metered (now (left .entry)) «per_unit»)) r (now (cells .exit)) (now (left .exit)) ⌝ }
+    ensures { λ r. ⌜ Spans (fillTable rawBytes (tableOf wide 0 size) (now (cells .entry)) (fillSpan to count) (refOf bits) (fuelOf metered (now (left .entry)) «per_unit»)) r (now (cells .exit)) (now (left .exit)) ⌝ }
 {
     let table = table_of(wide, 0, size);
     let value = ref_of(bits);
     let fuel = fuel_of(metered, *left, per_unit);
-    fill_from(table, cells, to, value, count, fuel, left)
+    let span = FillSpan {
+        start: to,
+        len: count,
+    };
+    fill_from(table, cells, span, value, fuel, left)
 }
 
 fn copy_from(
     table: Table,
     source: Table,
     cells: &mut [u64],
-    to: u64,
-    from: u64,
-    count: u64,
+    span: CopySpan,
     fuel: Fuel,
     left: &mut u64,
 ) -> u8
-    ensures { λ r. ⌜ Spans (copyTable rawBytes table source (now (cells .entry)) to from count fuel) r (now (cells .exit)) (now (left .exit)) ⌝ }
+    ensures { λ r. ⌜ Spans (copyTable rawBytes table source (now (cells .entry)) span fuel) r (now (cells .exit)) (now (left .exit)) ⌝ }
 {
-    let copied = table.copy(source, cells, to, from, count, fuel);
+    let copied = table.copy(source, cells, span, fuel);
     let paid = copied.fuel;
     let answer = copied.answer;
     *left = paid.remaining;
@@ -341,26 +347,29 @@ pub extern "C" fn timing_copy(
     left: &mut u64,
     per_unit: u32,
 ) -> u8
-    ensures { λ r. ⌜ Spans (copyTable rawBytes (tableOf wide 0 split) (tableOf wide split size) (now (cells .entry)) to from count (fuelOf metered (now (left .entry)) «per_unit»)) r (now (cells .exit)) (now (left .exit)) ⌝ }
+    ensures { λ r. ⌜ Spans (copyTable rawBytes (tableOf wide 0 split) (tableOf wide split size) (now (cells .entry)) (copySpan to from count) (fuelOf metered (now (left .entry)) «per_unit»)) r (now (cells .exit)) (now (left .exit)) ⌝ }
 {
     let table = table_of(wide, 0, split as u64);
     let source = table_of(wide, split, size);
     let fuel = fuel_of(metered, *left, per_unit);
-    copy_from(table, source, cells, to, from, count, fuel, left)
+    let span = CopySpan {
+        to,
+        from,
+        len: count,
+    };
+    copy_from(table, source, cells, span, fuel, left)
 }
 
 fn copy_within_from(
     table: Table,
     cells: &mut [u64],
-    to: u64,
-    from: u64,
-    count: u64,
+    span: CopySpan,
     fuel: Fuel,
     left: &mut u64,
 ) -> u8
-    ensures { λ r. ⌜ Spans (copyWithin rawBytes table (now (cells .entry)) to from count fuel) r (now (cells .exit)) (now (left .exit)) ⌝ }
+    ensures { λ r. ⌜ Spans (copyWithin rawBytes table (now (cells .entry)) span fuel) r (now (cells .exit)) (now (left .exit)) ⌝ }
 {
-    let copied = table.copy_within(cells, to, from, count, fuel);
+    let copied = table.copy_within(cells, span, fuel);
     let paid = copied.fuel;
     let answer = copied.answer;
     *left = paid.remaining;
@@ -380,11 +389,16 @@ pub extern "C" fn timing_copy_within(
     left: &mut u64,
     per_unit: u32,
 ) -> u8
-    ensures { λ r. ⌜ Spans (copyWithin rawBytes (tableOf wide 0 size) (now (cells .entry)) to from count (fuelOf metered (now (left .entry)) «per_unit»)) r (now (cells .exit)) (now (left .exit)) ⌝ }
+    ensures { λ r. ⌜ Spans (copyWithin rawBytes (tableOf wide 0 size) (now (cells .entry)) (copySpan to from count) (fuelOf metered (now (left .entry)) «per_unit»)) r (now (cells .exit)) (now (left .exit)) ⌝ }
 {
     let table = table_of(wide, 0, size);
     let fuel = fuel_of(metered, *left, per_unit);
-    copy_within_from(table, cells, to, from, count, fuel, left)
+    let span = CopySpan {
+        to,
+        from,
+        len: count,
+    };
+    copy_within_from(table, cells, span, fuel, left)
 }
 
 fn init_from(
@@ -392,15 +406,13 @@ fn init_from(
     segment: ElementSegment,
     cells: &mut [u64],
     items: &[u64],
-    to: u64,
-    from: u64,
-    count: u64,
+    span: CopySpan,
     fuel: Fuel,
     left: &mut u64,
 ) -> u8
-    ensures { λ r. ⌜ Spans (initTable rawBytes table segment (now (cells .entry)) (now (items .entry)) to from count fuel) r (now (cells .exit)) (now (left .exit)) ⌝ }
+    ensures { λ r. ⌜ Spans (initTable rawBytes table segment (now (cells .entry)) (now (items .entry)) span fuel) r (now (cells .exit)) (now (left .exit)) ⌝ }
 {
-    let written = table.init(segment, cells, items, to, from, count, fuel);
+    let written = table.init(segment, cells, items, span, fuel);
     let paid = written.fuel;
     let answer = written.answer;
     *left = paid.remaining;
@@ -412,16 +424,14 @@ fn init_first(
     cells: &mut [u64],
     items: &[u64],
     places: u64,
-    to: u64,
-    from: u64,
-    count: u64,
+    span: CopySpan,
     fuel: Fuel,
     left: &mut u64,
 ) -> u8
-    ensures { λ r. ⌜ Spans (initTable rawBytes table (segmentOf places) (now (cells .entry)) (now (items .entry)) to from count fuel) r (now (cells .exit)) (now (left .exit)) ⌝ }
+    ensures { λ r. ⌜ Spans (initTable rawBytes table (segmentOf places) (now (cells .entry)) (now (items .entry)) span fuel) r (now (cells .exit)) (now (left .exit)) ⌝ }
 {
     let segment = segment_of(places);
-    init_from(table, segment, cells, items, to, from, count, fuel, left)
+    init_from(table, segment, cells, items, span, fuel, left)
 }
 
 // An init from a segment of the first `places` items.
@@ -439,9 +449,14 @@ pub extern "C" fn timing_init(
     left: &mut u64,
     per_unit: u32,
 ) -> u8
-    ensures { λ r. ⌜ Spans (initTable rawBytes (tableOf wide 0 size) (segmentOf places) (now (cells .entry)) (now (items .entry)) to from count (fuelOf metered (now (left .entry)) «per_unit»)) r (now (cells .exit)) (now (left .exit)) ⌝ }
+    ensures { λ r. ⌜ Spans (initTable rawBytes (tableOf wide 0 size) (segmentOf places) (now (cells .entry)) (now (items .entry)) (copySpan to from count) (fuelOf metered (now (left .entry)) «per_unit»)) r (now (cells .exit)) (now (left .exit)) ⌝ }
 {
     let table = table_of(wide, 0, size);
     let fuel = fuel_of(metered, *left, per_unit);
-    init_first(table, cells, items, places, to, from, count, fuel, left)
+    let span = CopySpan {
+        to,
+        from,
+        len: count,
+    };
+    init_first(table, cells, items, places, span, fuel, left)
 }

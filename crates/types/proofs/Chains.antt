@@ -8,8 +8,8 @@ use Rattle.types.specs.Pick.{pick, both, unless}
 use Rattle.types.specs.Answer.{refusal, refuse, accept}
 use Rattle.types.specs.Fuel.{left, short, paid, consumeIf, consumeUnchecked}
 use Rattle.types.specs.Limiter.{saysOf, moved, permitOf, ask, heardOf, notify}
-use Rattle.types.specs.Grant.{told, creationRoom, creationPermit, grantCreation, growthRoom, growthPaid, growthFuel, growthPermit, grantGrowth, grantSpan, SpanDone, spanDone, spanned}
-use Rattle.types.specs.declared.answer.Refusal.{Refusal}
+use Rattle.types.specs.stages.Grant.{told, creationRoom, creationPermit, grantCreation, growthRoom, growthPaid, growthFuel, growthPermit, grantGrowth, grantSpan, spanned}
+use Rattle.types.specs.Done.{spanDone}
 use Rattle.types.specs.declared.fuel.Fuel.{Fuel}
 use Rattle.types.specs.declared.fuel.FuelStep.the-variants.{Done, Refused}
 use Rattle.types.specs.declared.grant.Growth.{Growth}

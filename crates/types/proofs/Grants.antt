@@ -1,7 +1,6 @@
 -- What a grant shows: that the cells fit; and what a denial shows: a number that is not 0. Assumes nothing.
 use mathlib.Core.Path.{_≡_, refl, ap}
 use mathlib.Core.Bool.{Bool, true, false}
-use mathlib.Core.List.{List}
 use Prim.Native.Nat.{ℕ, _-_, _<_}
 use native.Mathlib.Omega.{arith}
 use lib.Dec.{eqb, ltb}
@@ -9,12 +8,11 @@ use Rattle.types.specs.Pick.{pick, both}
 use Rattle.types.specs.Answer.{refusal}
 use Rattle.types.specs.Fuel.{left, consumeIf, consumeUnchecked}
 use Rattle.types.specs.Limiter.{saysOf, permitOf, ask, heardOf, notify}
-use Rattle.types.specs.Grant.{told, creationRoom, creationPermit, grantCreation, growthRoom, growthPaid, growthFuel, growthPermit, grantGrowth, grantSpan, SpanDone, spanDone}
+use Rattle.types.specs.stages.Grant.{told, creationRoom, creationPermit, grantCreation, growthRoom, growthPaid, growthFuel, growthPermit, grantGrowth, grantSpan}
 use Rattle.types.specs.declared.answer.Refusal.{Refusal}
 use Rattle.types.specs.declared.fuel.Fuel.{Fuel}
 use Rattle.types.specs.declared.fuel.FuelStep.{FuelStep}
 use Rattle.types.specs.declared.fuel.FuelStep.the-variants.{Done, Refused}
-use Rattle.types.specs.declared.grant.Spanned.{Spanned}
 use Rattle.types.specs.declared.limiter.Limiter.{Limiter}
 use Rattle.types.specs.declared.limiter.Permit.{Permit}
 use Rattle.types.specs.declared.limiter.Permit.the-variants.{Granted, Denied}
@@ -127,7 +125,3 @@ pub granted-span : (f : Fuel) (inBounds : Bool) (number price : ℕ) (g : Fuel) 
 unfolding grantSpan pick
 granted-span f true number price g e = refl
 granted-span f false number price g e = let z : _≡_ {A = ℕ} 0 1 = cc in absurd (omega arith)
-
--- one outcome of a span operation, taken apart
-pub spans : {r s : Spanned} {cs ds : List ℕ} → spanDone (r .answer) (r .fuel) cs ≡ spanDone (s .answer) (s .fuel) ds → (r ≡ s) × (cs ≡ ds)
-spans e = (ap (λ (o : SpanDone). o .out) e, ap (λ (o : SpanDone). o .cells) e)

@@ -1,6 +1,6 @@
 -- Laws of a number in two halves of 64 bits. Assumes nothing.
-use mathlib.Core.Path.{_≡_, refl, ap, sym, _∙_}
-use Prim.Native.Nat.{ℕ, zero, _+_, _-_, _*_, _/_, _%_, _^_, _<_, _≤_}
+use mathlib.Core.Path.{_≡_, ap, sym, _∙_}
+use Prim.Native.Nat.{ℕ, _+_, _-_, _*_, _/_, _%_, _^_, _<_, _≤_}
 use native.Mathlib.Omega.{arith}
 use native.Mathlib.Nat.{mul-assoc, mul-add-div-right, div-div-eq-div-mul, mul-div-cancel, mul-mod-left, add-zero, zero-add, mod-lt}
 use lib.Arith.{digits-div, digits-mod, digits-lt, mod-mul}

@@ -1,4 +1,5 @@
 pub mod One
+pub mod Dones
 pub mod Picks
 pub mod Prices
 pub mod Floats

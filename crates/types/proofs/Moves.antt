@@ -1,14 +1,15 @@
 -- What a turn of a loop that copies, fills or puts adds to a span, over cells of any size. Assumes nothing.
 use mathlib.Core.Path.{_≡_, refl, ap, sym, _∙_}
-use mathlib.Core.List.{List, [], _∷_, _++_, append-nil}
-use Prim.Native.Nat.{ℕ, zero, suc, _+_, _-_, _≤_, _<_}
+use mathlib.Core.List.{List, _++_, append-nil}
+use Prim.Native.Nat.{ℕ, suc, _+_, _-_, _≤_, _<_}
 use native.Mathlib.Omega.{arith}
 use native.Mathlib.Numerals.{add-one}
 use native.Mathlib.Nat.{add-zero}
 use lib.ListN.{length, take, drop, set, getD, replicate, length-take, length-drop, length-replicate, drop-of-length-le}
 use lib.Seq.{take-suc, getD-drop, take-add, drop-drop, take-all}
 use borrow.Rule.Slice.PartMut.{putMid, midOf, mid-len}
-use Rattle.types.specs.Span.{over, cut, Two}
+use Rattle.types.specs.Span.{over, cut}
+use Rattle.types.specs.stages.Facts.{Two}
 use Rattle.types.proofs.Spans.{over-nil, over-put, over-over, over-under, over-after, length-over, cut-before}
 
 pub length-cut : (l : List ℕ) (a n : ℕ) → a + n ≤ length l → length (cut l a n) ≡ n

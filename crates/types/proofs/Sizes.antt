@@ -1,11 +1,10 @@
 -- Laws of page sizes and sizes in bytes. Assumes nothing.
-use mathlib.Core.Path.{_≡_, refl, sym, ap, _∙_}
-use Prim.Native.Nat.{ℕ, _+_, _-_, _*_, _/_, _^_, _<_, _≤_}
+use mathlib.Core.Path.{_≡_, sym, ap, _∙_}
+use Prim.Native.Nat.{ℕ, _-_, _*_, _/_, _^_, _<_, _≤_}
 use native.Mathlib.Omega.{arith}
 use borrow.Author.Tests.{lt-ltb, le-ltb}
 use Rattle.types.specs.declared.memory_ty.PageSize.{PageSize}
 use Rattle.types.specs.declared.memory_ty.PageSize.the-variants.{One, Wasm}
-use Rattle.types.specs.declared.memory_ty.ByteSize.{ByteSize}
 use Rattle.types.specs.declared.memory_ty.ByteSize.the-variants.{Bytes, Overflow}
 use mathlib.Core.Bool.{false}
 use Rattle.types.specs.IndexType.{maxSize}

@@ -6,7 +6,7 @@ use Prim.Native.Nat.{ℕ, zero, suc, _+_, _-_, _≤_, _<_}
 use native.Mathlib.Omega.{arith}
 use native.Mathlib.Nat.{add-zero}
 use lib.Dec.{leb}
-use lib.ListN.{length, take, drop, set, getD, length-append, length-take, length-drop, length-set, take-append-drop}
+use lib.ListN.{length, take, drop, set, getD, length-append, length-drop, length-set, take-append-drop}
 use lib.Seq.{take-at, drop-at, set-at, length-take-le, drop-cons, take-suc, take-suc-set, drop-set-lt, take-set-le, append-snoc, drop-append-add, drop-drop, getD-set-same, take-take, take-nil}
 use borrow.Author.Tests.{le-leb, lt-leb, leb-true, leb-false}
 use Rattle.types.specs.Span.{inside, over, cut}

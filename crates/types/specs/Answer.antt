@@ -31,6 +31,7 @@ bitsOf (Number n) = n
 abbrev pub refusal : ℕ → ℕ → Refusal
 refusal number amount = record { number = number; amount = amount }
 
+-- the answer of such a refusal
 abbrev pub refuse : ℕ → ℕ → Answer
 refuse number amount = answer.Refusal (refusal number amount)
 

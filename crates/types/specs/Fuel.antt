@@ -14,6 +14,7 @@ use Rattle.types.specs.declared.fuel.FuelStep.the-variants.{Done, Refuse
 abbrev pub defaultCosts : FuelCosts
 defaultCosts = record { copied = 64; translated = 7; validated = 2 }
 
+-- a new record: nothing is left, and metering is on or off
 abbrev pub newFuel : Bool → FuelCosts → Fuel
 newFuel on costs = record { remaining = 0; enabled = on; costs = costs }
 
@@ -29,9 +30,11 @@ short f p = both (f .enabled) (ltb (f .remaining) p)
 abbrev pub paid : Fuel → ℕ → Fuel
 paid f p = pick (f .enabled) (left f (f .remaining - p)) f
 
+-- n units are left from now on; 15 with metering off
 unfoldable pub setFuel : Fuel → ℕ → FuelStep
 setFuel f n = pick (f .enabled) (Done (left f n)) (Refused (refusal 15 0))
 
+-- how much is left; 15 with metering off
 unfoldable pub getFuel : Fuel → Answer
 getFuel f = pick (f .enabled) (accept (f .remaining)) (refuse 15 0)
 
@@ -39,6 +42,7 @@ getFuel f = pick (f .enabled) (accept (f .remaining)) (refuse 15 0)
 unfoldable pub consumeUnchecked : Fuel → ℕ → FuelStep
 consumeUnchecked f p = pick (ltb (f .remaining) p) (Refused (refusal 7 p)) (Done (left f (f .remaining - p)))
 
+-- a charge; 15 with metering off
 unfoldable pub consume : Fuel → ℕ → FuelStep
 consume f p = pick (f .enabled) (consumeUnchecked f p) (Refused (refusal 15 0))
 

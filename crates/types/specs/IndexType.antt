@@ -13,14 +13,17 @@ indexBits I64 = 64
 abbrev pub maxSize : IndexType → ℕ
 maxSize i = 2 ^ indexBits i
 
+-- whether addresses have 64 bits
 abbrev pub is64 : IndexType → Bool
 is64 I32 = false
 is64 I64 = true
 
+-- the address type of 64 bits, or else of 32
 abbrev pub indexOf : Bool → IndexType
 indexOf false = I32
 indexOf true = I64
 
+-- whether two are the same
 abbrev pub sameIndex : IndexType → IndexType → Bool
 sameIndex I32 I32 = true
 sameIndex I32 I64 = false

@@ -1,9 +1,10 @@
+pub mod Numbers
 pub mod Pick
+pub mod Done
 pub mod Answer
 pub mod Price
 pub mod Fuel
 pub mod Limiter
-pub mod Grant
 pub mod Span
 pub mod Steps
 pub mod Wide
@@ -12,3 +13,4 @@ pub mod Limits
 pub mod MemoryType
 pub mod Raw
 pub mod TableType
+pub mod stages

@@ -16,9 +16,13 @@ use Rattle.types.specs.declared.limiter.Asked.{Asked}
 use Rattle.types.specs.declared.limiter.Noticed.{Noticed}
 use Rattle.types.specs.declared.limiter.HandedOver.{HandedOver}
 
--- a script stands at the front of a row of 16 zeros
+-- the most answers that a script has
+abbrev pub longestScript : ℕ
+longestScript = 16
+
+-- a script stands at the front of a row of zeros
 unfoldable pub padded : List ℕ → List ℕ
-padded script = script ++ drop (length script) (replicate 16 0)
+padded script = script ++ drop (length script) (replicate longestScript 0)
 
 -- the limiter of a script, at its start
 abbrev pub limiterOf : List ℕ → Limiter
@@ -65,9 +69,11 @@ unfolding both
 allAnswers [] = true
 allAnswers (b ∷ bs) = both (leb b 2) (allAnswers bs)
 
+-- a script has room in the row, and every byte is an answer
 unfoldable pub wellFormed : List ℕ → Bool
-wellFormed script = both (leb (length script) 16) (allAnswers script)
+wellFormed script = both (leb (length script) longestScript) (allAnswers script)
 
+-- a script that is taken stands at its start
 abbrev pub takenOf : List ℕ → HandedOver
 takenOf script = record { answer = accept 0; limiter = limiterOf script }
 

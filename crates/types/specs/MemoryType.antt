@@ -2,6 +2,7 @@
 use Prim.Native.Nat.{ℕ, _*_, _/_, _^_}
 use mathlib.Core.Bool.{Bool, true, false}
 use lib.Dec.{eqb, ltb}
+use Rattle.types.specs.Numbers.{word64}
 use Rattle.types.specs.Pick.{pick, both}
 use Rattle.types.specs.Answer.{refusal}
 use Rattle.types.specs.IndexType.{maxSize, indexOf, sameIndex}
@@ -15,15 +16,20 @@ use Rattle.types.specs.declared.memory_ty.BuiltMemory.the-variants.{Buil
 use Rattle.types.specs.declared.memory_ty.ByteSize.{ByteSize}
 use Rattle.types.specs.declared.memory_ty.ByteSize.the-variants.{Bytes, Overflow}
 
+-- the exponent of a Wasm page, of 65,536 bytes
+abbrev pub wasmExponent : ℕ
+wasmExponent = 16
+
 -- the page exponent, 0 or 16
 abbrev pub log2Of : PageSize → ℕ
 log2Of One = 0
-log2Of Wasm = 16
+log2Of Wasm = wasmExponent
 
 -- the bytes of a page
 abbrev pub pageBytes : PageSize → ℕ
 pageBytes p = 2 ^ log2Of p
 
+-- whether two pages are the same
 abbrev pub samePage : PageSize → PageSize → Bool
 samePage One One = true
 samePage One Wasm = false
@@ -38,13 +44,15 @@ pageBound t = maxSize (t .index) / 2 ^ log2Of (t .page)
 unfoldable pub validMemory : MemoryType → Bool
 validMemory t = validLimits (t .limits) (pageBound t)
 
+-- the type of these fields
 abbrev pub memoryType : Bool → PageSize → Limits → MemoryType
 memoryType wide p l = record { index = indexOf wide; page = p; limits = l }
 
--- the exponents there are, and the page of each
+-- the exponents there are
 abbrev pub validExponent : ℕ → Bool
-validExponent e = pick (eqb e 0) true (eqb e 16)
+validExponent e = pick (eqb e 0) true (eqb e wasmExponent)
 
+-- the page of an exponent
 abbrev pub pageOf : ℕ → PageSize
 pageOf e = pick (eqb e 0) One Wasm
 
@@ -61,8 +69,9 @@ buildMemory wide l e =
 
 -- a size in bytes, where it is below 2^64
 unfoldable pub byteSize : ℕ → ByteSize
-byteSize n = pick (ltb n (2 ^ 64)) (Bytes n) Overflow
+byteSize n = pick (ltb n word64) (Bytes n) Overflow
 
+-- the minimum in bytes
 unfoldable pub minimumBytes : MemoryType → ByteSize
 minimumBytes t = byteSize (t .limits .minimum * pageBytes (t .page))
 

@@ -1,12 +1,13 @@
 -- Document 01, "Fuel": the price of a byte length.
-use Prim.Native.Nat.{ℕ, _-_, _/_, _^_, min}
+use Prim.Native.Nat.{ℕ, _/_, min}
 use lib.Dec.{eqb}
+use Rattle.types.specs.Numbers.{maxWord}
 use Rattle.types.specs.Pick.{pick}
 
 -- at most 2^64-1
 unfoldable pub capped : ℕ → ℕ
-capped n = min n (2 ^ 64 - 1)
+capped n = min n maxWord
 
 -- the byte length, capped at 2^64-1, divided by B, rounded down; with B = 0 it is 2^64-1 at every length
 unfoldable pub price : ℕ → ℕ → ℕ
-price b len = pick (eqb b 0) (2 ^ 64 - 1) (capped len / b)
+price b len = pick (eqb b 0) maxWord (capped len / b)

@@ -7,6 +7,7 @@ use Rattle.types.specs.declared.raw.RefType.the-variants.{Func, Extern}
 use Rattle.types.specs.declared.raw.RawRef.{RawRef}
 use Rattle.types.specs.declared.raw.TypedRawRef.{TypedRawRef}
 
+-- whether two kinds are the same
 abbrev pub sameKind : RefType → RefType → Bool
 sameKind Func Func = true
 sameKind Func Extern = false
@@ -17,12 +18,15 @@ sameKind Extern Extern = true
 abbrev pub nullRef : RawRef
 nullRef = record { bits = 0 }
 
+-- whether a reference is null
 abbrev pub isNull : RawRef → Bool
 isNull r = eqb (r .bits) 0
 
+-- a reference with its kind
 abbrev pub typedOf : RawRef → RefType → TypedRawRef
 typedOf r k = record { raw = r; ty = k }
 
+-- the null reference of a kind
 abbrev pub nullOf : RefType → TypedRawRef
 nullOf k = typedOf nullRef k
 

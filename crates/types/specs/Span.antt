@@ -1,5 +1,5 @@
 -- Spans of cells, over cells of any size: WebAssembly Core Specification 3.0, Execution, Instructions (the bounds of memory and table instructions).
-use Prim.Native.Nat.{ℕ, _+_, _≤_}
+use Prim.Native.Nat.{ℕ, _+_}
 use mathlib.Core.Bool.{Bool}
 use mathlib.Core.List.{List, _++_}
 use lib.Dec.{leb}
@@ -16,8 +16,3 @@ cut cells a n = take n (drop a cells)
 -- the cells with those from a on replaced by vs
 unfoldable pub over : List ℕ → ℕ → List ℕ → List ℕ
 over cells a vs = take a cells ++ (vs ++ drop (a + length vs) cells)
-
--- n cells of so many, at each of two places
-pub record Two (to from n len : ℕ) : Type 0 where
-  pub there : to + n ≤ len
-  pub here : from + n ≤ len

@@ -16,9 +16,11 @@ use Rattle.types.specs.declared.table_ty.BuiltTable.the-variants.{Built,
 unfoldable pub tableBound : TableType → ℕ
 tableBound t = maxSize (t .index) - 1
 
+-- minimum and maximum may equal the most cells
 unfoldable pub validTable : TableType → Bool
 validTable t = validLimits (t .limits) (tableBound t)
 
+-- the type of these fields
 abbrev pub tableType : RefType → Bool → Limits → TableType
 tableType k wide l = record { element = k; index = indexOf wide; limits = l }
 

@@ -7,7 +7,7 @@ use super::limiter::Asked;
 use super::limiter::Limiter;
 use super::limiter::Permit;
 ghost use mathlib.Core.Path.{_≡_};
-ghost use Rattle.types.specs.Grant.{told, creationRoom, creationPermit, grantCreation, growthOf, growthRoom, growthPaid, growthFuel, growthPermit, grantGrowth, grantSpan};
+ghost use Rattle.types.specs.stages.Grant.{told, creationRoom, creationPermit, grantCreation, growthOf, growthRoom, growthPaid, growthFuel, growthPermit, grantGrowth, grantSpan};
 ghost use Rattle.types.specs.Fuel.{consumeIf};
 
 // What a growth's checks leave: the permit, and fuel and limiter after them.

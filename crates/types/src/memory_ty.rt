@@ -1,8 +1,8 @@
 // Memory types: validity, sizes in bytes, subtyping, the dynamic type.
+use super::answer::Refusal;
 use super::index_ty::IndexType;
 use super::limits::Limits;
 use super::wide::Wide;
-use super::answer::Refusal;
 ghost use mathlib.Core.Path.{_≡_};
 ghost use Prim.Native.Nat.{_*_};
 ghost use Rattle.types.specs.MemoryType.{log2Of, pageBytes, pageBound, memoryType, validMemory, buildMemory, validated, byteSize, minimumBytes, maximumBytes, matchMemory, dynamicMemory, samePage};
@@ -18,6 +18,13 @@ pub struct MemoryType {
     pub index: IndexType,
     pub page: PageSize,
     pub limits: Limits,
+}
+
+// A memory type that is asked for, before it is built.
+pub struct WantedMemory {
+    pub wide: bool,
+    pub limits: Limits,
+    pub exponent: u8,
 }
 
 pub enum BuiltMemory {

@@ -1,16 +1,23 @@
 // Table types: validity, element kinds, subtyping, the dynamic type.
+use super::answer::Refusal;
 use super::index_ty::IndexType;
 use super::limits::Limits;
 use super::raw::RefType;
 use super::wide::Wide;
-use super::answer::Refusal;
 ghost use mathlib.Core.Path.{_≡_};
-ghost use Rattle.types.specs.TableType.{tableBound, tableType, validTable, validated, buildTable, matchTable, dynamicTable, elementMatches};
+ghost use Rattle.types.specs.TableType.{tableBound, validTable, validated, buildTable, matchTable, dynamicTable, elementMatches};
 ghost use Rattle.types.specs.Wide.{halves};
 
 pub struct TableType {
     pub element: RefType,
     pub index: IndexType,
+    pub limits: Limits,
+}
+
+// A table type that is asked for, before it is built.
+pub struct WantedTable {
+    pub element: RefType,
+    pub wide: bool,
     pub limits: Limits,
 }
 

@@ -1,8 +1,20 @@
 // The cases that run on a machine.
 use super::lines::answer_line;
-use types::fuel::FuelCosts;
-use machine::records::Machine;
+use machine::operation::FuelOp;
+use machine::operation::Items;
+use machine::operation::MemoryOp;
 use machine::operation::Operation;
+use machine::records::Machine;
+use memory::access::LoadKind;
+use memory::access::StoreKind;
+use types::fuel::FuelCosts;
+use types::limits::Limits;
+use types::memory_ty::WantedMemory;
+use types::raw::RawRef;
+use types::raw::RefType;
+use types::raw::TypedRawRef;
+use types::span::CopySpan;
+use types::table_ty::WantedTable;
 
 fn fresh(copied: u32) -> Machine {
     let costs = FuelCosts {
@@ -11,6 +23,27 @@ fn fresh(copied: u32) -> Machine {
         validated: 2,
     };
     Machine::new(true, costs)
+}
+
+// No maximum.
+fn at_least(minimum: u64) -> Limits {
+    Limits {
+        minimum,
+        bounded: false,
+        maximum: 0,
+    }
+}
+
+fn new_memory(room: u64, wide: bool, minimum: u64, exponent: u8) -> Operation {
+    let limits = at_least(minimum);
+    Operation::NewMemory {
+        room,
+        wanted: WantedMemory {
+            wide,
+            limits,
+            exponent,
+        },
+    }
 }
 
 // One operation whose answer is shown.
@@ -36,14 +69,7 @@ pub(crate) fn minimum_of_all(bytes: &mut [u8], cells: &mut [u64], items: &mut [u
         bytes,
         cells,
         items,
-        Operation::NewMemory {
-            room: 0,
-            wide: 1,
-            bounded: 0,
-            minimum: 281474976710656,
-            maximum: 0,
-            exponent: 16,
-        },
+        new_memory(0, true, 281474976710656, 16),
     );
 }
 
@@ -54,24 +80,29 @@ fn table_and_segment(
     cells: &mut [u64],
     items: &mut [u64],
 ) -> Machine {
+    let limits = at_least(2);
     let table = Operation::NewTable {
         room: 2,
-        kind: 0,
-        wide: 0,
-        bounded: 0,
-        minimum: 2,
-        maximum: 0,
-        initial: 0,
-        bits: 0,
+        wanted: WantedTable {
+            element: RefType::Func,
+            wide: false,
+            limits,
+        },
+        initial: TypedRawRef {
+            raw: RawRef { bits: 0 },
+            ty: RefType::Func,
+        },
     };
     let with_table = machine.operate(bytes, cells, items, table);
     let segment = Operation::NewSegment {
-        kind: 0,
-        count: 2,
-        first: 7,
-        second: 8,
-        third: 0,
-        fourth: 0,
+        element: RefType::Func,
+        items: Items {
+            count: 2,
+            first: 7,
+            second: 8,
+            third: 0,
+            fourth: 0,
+        },
     };
     let next = with_table.machine;
     let with_both = next.operate(bytes, cells, items, segment);
@@ -82,9 +113,11 @@ fn empty_init(to: u64) -> Operation {
     Operation::TableInit {
         table: 0,
         segment: 0,
-        to,
-        from: 0,
-        len: 0,
+        span: CopySpan {
+            to,
+            from: 0,
+            len: 0,
+        },
     }
 }
 
@@ -110,17 +143,22 @@ pub(crate) fn init_at_the_size(bytes: &mut [u8], cells: &mut [u64], items: &mut 
 fn copy_and_init(machine: Machine, bytes: &mut [u8], cells: &mut [u64], items: &mut [u64]) {
     let copy = Operation::TableCopy {
         into: 0,
-        to: 0,
         source: 0,
-        from: 0,
-        len: 0,
+        span: CopySpan {
+            to: 0,
+            from: 0,
+            len: 0,
+        },
     };
     let next = show(b"P8 copy", machine, bytes, cells, items, copy);
     show(b"P8 init", next, bytes, cells, items, empty_init(0));
 }
 
 fn fuelled(bytes: &mut [u8], cells: &mut [u64], items: &mut [u64]) -> Machine {
-    let done = fresh(0).operate(bytes, cells, items, Operation::SetFuel { amount: 5 });
+    let set = Operation::Fuel {
+        op: FuelOp::SetFuel { amount: 5 },
+    };
+    let done = fresh(0).operate(bytes, cells, items, set);
     let next = done.machine;
     table_and_segment(next, bytes, cells, items)
 }
@@ -132,33 +170,29 @@ pub(crate) fn length_zero_with_b_zero(bytes: &mut [u8], cells: &mut [u64], items
 
 // A memory of one byte that holds ff.
 fn one_byte(bytes: &mut [u8], cells: &mut [u64], items: &mut [u64]) -> Machine {
-    let memory = Operation::NewMemory {
-        room: 1,
-        wide: 0,
-        bounded: 0,
-        minimum: 1,
-        maximum: 0,
-        exponent: 0,
-    };
-    let made = fresh(64).operate(bytes, cells, items, memory);
-    let store = Operation::Store {
-        memory: 0,
-        kind: 4,
-        pointer: 0,
-        offset: 0,
-        bits: 255,
+    let made = fresh(64).operate(bytes, cells, items, new_memory(1, false, 1, 0));
+    let store = Operation::Memory {
+        number: 0,
+        op: MemoryOp::Store {
+            kind: StoreKind::I32To8,
+            pointer: 0,
+            offset: 0,
+            bits: 255,
+        },
     };
     let next = made.machine;
     let stored = next.operate(bytes, cells, items, store);
     stored.machine
 }
 
-fn load(kind: u64, pointer: u64, offset: u64) -> Operation {
-    Operation::Load {
-        memory: 0,
-        kind,
-        pointer,
-        offset,
+fn load(kind: LoadKind, pointer: u64, offset: u64) -> Operation {
+    Operation::Memory {
+        number: 0,
+        op: MemoryOp::Load {
+            kind,
+            pointer,
+            offset,
+        },
     }
 }
 
@@ -170,15 +204,16 @@ fn two_loads(machine: Machine, bytes: &mut [u8], cells: &mut [u64], items: &mut 
         bytes,
         cells,
         items,
-        load(4, 0, 0),
+        load(LoadKind::I32From8S, 0, 0),
     );
-    show(b"P9 i64 from 8u", next, bytes, cells, items, load(9, 0, 0))
+    let wide = load(LoadKind::I64From8U, 0, 0);
+    show(b"P9 i64 from 8u", next, bytes, cells, items, wide)
 }
 
 // P9, and P10.
 fn three_loads(machine: Machine, bytes: &mut [u8], cells: &mut [u64], items: &mut [u64]) {
     let last = two_loads(machine, bytes, cells, items);
-    let far = load(5, 18446744073709551615, 1);
+    let far = load(LoadKind::I32From8U, 18446744073709551615, 1);
     show(
         b"P10 pointer 2^64-1, offset 1",
         last,

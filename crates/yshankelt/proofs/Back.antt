@@ -23,7 +23,7 @@ use Rattle.table.specs.declared.table.Table.{Table}
 use Rattle.table.specs.declared.element.ElementSegment.{ElementSegment}
 use Rattle.yshankelt.proofs.Rows.{join}
 use Rattle.machine.specs.Machine.{noMemory, noTable, noSegment, freshMachine}
-use Rattle.machine.specs.Operation.{yes}
+use Rattle.lines.specs.Fields.{yes}
 use Rattle.machine.specs.declared.records.Machine.{Machine}
 use Rattle.lines.specs.Session.{costsOf}
 use Rattle.yshankelt.specs.Words.{rowLength, yesWord, isWasm, pageOf, isExtern, elementOf, rowsOf, wordsOf}

@@ -5,7 +5,7 @@ use mathlib.Core.List.{List}
 use Rattle.types.specs.Answer.{bitsOf, numberOf}
 use Rattle.types.specs.declared.answer.Answer.{Answer}
 use Rattle.types.specs.declared.answer.Answer.the-variants as answer
-use Rattle.memory.specs.Access.{Stored}
+use Rattle.types.specs.Done.{Done}
 
 -- the value's bits, or what stood there
 unfoldable pub delivered : Answer → ℕ → ℕ
@@ -18,6 +18,6 @@ pub record Given (a : Answer) (old result new : ℕ) : Type 0 where
   pub out : new ≡ delivered a old
 
 -- of a store: the number, and the bytes after it
-pub record Taken (s : Stored) (result : ℕ) (new : List ℕ) : Type 0 where
-  pub number : result ≡ numberOf (s .answer)
+pub record Taken (s : Done Answer) (result : ℕ) (new : List ℕ) : Type 0 where
+  pub number : result ≡ numberOf (s .out)
   pub bytes : new ≡ s .cells

@@ -15,8 +15,8 @@ use Rattle.machine.specs.Machine.{Buffers, buffers, memoryAt, tableAt, freshMac
 use Rattle.machine.specs.declared.records.Machine.{Machine}
 use Rattle.machine.specs.declared.operate.Operated.{Operated}
 use Rattle.lines.specs.Line.{noLine}
+use Rattle.lines.specs.Code.{operationOf}
 use Rattle.lines.specs.Session.{Turn, costsOf, turnBy}
-use Rattle.lines.specs.Progress.{heldOn}
 use Rattle.lines.specs.AnswerLine.{fuelShown}
 use Rattle.lines.specs.declared.line.Line.{Line}
 use Rattle.yshankelt.specs.Words.{rowLength, wordsOf, machineFrom, inForm}
@@ -58,10 +58,10 @@ toldOf l t =
     call (numberOf (t .answer)) (shownOf (t .answer)) (fuelShown (t .held .machine .fuel)) (over l 0 (wordsOf (t .held .machine))) (t .held .buffers)
 
 -- one operation, as a session answers a line that is not its first
-unfoldable pub operateOf : List ℕ → List ℕ → List ℕ → List ℕ → ℕ → List ℕ → ℕ → ℕ → Call
-operateOf l bytes cells items code fields value fuel =
-    unless (inForm l) (call 19 value fuel l (buffers bytes cells items))
-    (toldOf l (turnBy rawBytes (heldOn (machineFrom l) false bytes cells items) (lineFrom code fields)))
+unfoldable pub operateOf : List ℕ → Buffers → Line → ℕ → ℕ → Call
+operateOf l b w value fuel =
+    unless (inForm l) (call 19 value fuel l b)
+    (toldOf l (turnBy rawBytes (record { machine = machineFrom l; first = false; buffers = b }) (operationOf w)))
 
 -- what is told of an operation, beside the buffers
 pub record Told (x : Operated) (l : List ℕ) (number value fuel : ℕ) (after : List ℕ) : Type 0 where

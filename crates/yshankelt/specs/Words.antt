@@ -17,7 +17,7 @@ use Rattle.types.specs.declared.limits.Limits.{Limits}
 use Rattle.memory.specs.declared.memory.Memory.{Memory}
 use Rattle.table.specs.declared.table.Table.{Table}
 use Rattle.table.specs.declared.element.ElementSegment.{ElementSegment}
-use Rattle.machine.specs.Operation.{yes}
+use Rattle.lines.specs.Fields.{yes}
 use Rattle.machine.specs.declared.records.Machine.{Machine}
 use Rattle.machine.specs.declared.records.Counts.{Counts}
 

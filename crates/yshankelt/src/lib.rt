@@ -2,11 +2,11 @@
 pub mod whole;
 mod words;
 
-use types::answer::Answer;
-use types::fuel::FuelCosts;
 use memory::access;
 use memory::access::LoadKind;
 use memory::access::StoreKind;
+use types::answer::Answer;
+use types::fuel::FuelCosts;
 ghost use mathlib.Core.Path.{_≡_};
 ghost use Prim.Native.Nat.{_*_};
 ghost use Rattle.types.specs.Price.{price};

@@ -1,26 +1,26 @@
 // A whole machine in a row of words that the host owns: made, operated, and asked for its sizes.
 use super::deliver;
 use super::words;
+use lines::code;
+use lines::code::Read;
+use lines::line;
+use lines::line::Line;
+use machine::operate::Operated;
+use machine::records::Machine;
 use types::answer::Answer;
 use types::answer::Refusal;
 use types::answer::Value;
 use types::fuel::Fuel;
 use types::fuel::FuelCosts;
-use lines::code;
-use lines::code::Parsed;
-use lines::line;
-use lines::line::Line;
-use machine::operate::Operated;
-use machine::records::Machine;
 ghost use mathlib.Core.Path.{_≡_};
+ghost use mathlib.Core.Bool.{false};
 ghost use Prim.Native.Nat.{_≤_};
 ghost use lib.ListN.{length, replicate};
 ghost use Rattle.types.specs.Answer.{refuse};
 ghost use Rattle.types.specs.Span.{over};
 ghost use Rattle.types.specs.Raw.{rawBytes};
 ghost use Rattle.machine.specs.Machine.{buffers, freshMachine};
-ghost use Rattle.lines.specs.Session.{costsOf, operated};
-ghost use Rattle.lines.specs.Progress.{turnedBy};
+ghost use Rattle.lines.specs.Session.{costsOf, heldOn, turned, turnBy};
 ghost use Rattle.lines.specs.AnswerLine.{fuelShown};
 ghost use Rattle.lines.specs.Code.{operationOf};
 ghost use Rattle.yshankelt.specs.Face.{Given};
@@ -93,20 +93,27 @@ fn line_from(code: u8, fields: &[u64]) -> Line
     }
 }
 
-// One operation, or 18.
+// One operation, or 18: making a machine is no operation.
 fn turn(
     machine: Machine,
     bytes: &mut [u8],
     cells: &mut [u64],
     items: &mut [u64],
-    parsed: Parsed,
+    said: Read,
 ) -> Operated
-    ensures { λ r. ⌜ turnedBy r (now (bytes .exit)) (now (cells .exit)) (now (items .exit))
-        ≡ operated rawBytes machine (buffers (now (bytes .entry)) (now (cells .entry)) (now (items .entry))) parsed ⌝ }
+    ensures { λ r. ⌜ turned (r .answer) (r .machine) (buffers (now (bytes .exit)) (now (cells .exit)) (now (items .exit)))
+        ≡ turnBy rawBytes (heldOn machine false (now (bytes .entry)) (now (cells .entry)) (now (items .entry))) said ⌝ }
 {
-    match parsed {
-        Parsed::Good(op) => machine.operate(bytes, cells, items, op),
-        Parsed::Malformed => Operated {
+    match said {
+        Read::Operation(op) => machine.operate(bytes, cells, items, op),
+        Read::Making { .. } => Operated {
+            answer: Answer::Refusal(Refusal {
+                number: 18,
+                amount: 0,
+            }),
+            machine,
+        },
+        Read::Malformed => Operated {
             answer: Answer::Refusal(Refusal {
                 number: 18,
                 amount: 0,
@@ -152,11 +159,11 @@ fn operate_on(
     requires { ⌜ rowLength ≤ length (now words) ⌝ }
     ensures { λ r. ⌜ call r (now (value .exit)) (now (fuel .exit)) (now (words .exit)) (buffers (now (bytes .exit)) (now (cells .exit)) (now (items .exit)))
         ≡ toldOf (now (words .entry))
-        (operated rawBytes (machineFrom (now (words .entry))) (buffers (now (bytes .entry)) (now (cells .entry)) (now (items .entry))) (operationOf line)) ⌝ }
+        (turnBy rawBytes (heldOn (machineFrom (now (words .entry))) false (now (bytes .entry)) (now (cells .entry)) (now (items .entry))) (operationOf line)) ⌝ }
 {
     let machine = words::machine_from(words);
-    let parsed = code::operation_of(line);
-    let done = turn(machine, bytes, cells, items, parsed);
+    let said = code::operation_of(line);
+    let done = turn(machine, bytes, cells, items, said);
     tell(words, done, value, fuel)
 }
 
@@ -173,8 +180,8 @@ pub extern "C" fn ysh_operate(
     fuel: &mut u64,
 ) -> u8
     ensures { λ r. ⌜ call r (now (value .exit)) (now (fuel .exit)) (now (words .exit)) (buffers (now (bytes .exit)) (now (cells .exit)) (now (items .exit)))
-        ≡ operateOf (now (words .entry)) (now (bytes .entry)) (now (cells .entry)) (now (items .entry)) code (now (fields .entry))
-        (now (value .entry)) (now (fuel .entry)) ⌝ }
+        ≡ operateOf (now (words .entry)) (buffers (now (bytes .entry)) (now (cells .entry)) (now (items .entry)))
+        (lineFrom code (now (fields .entry))) (now (value .entry)) (now (fuel .entry)) ⌝ }
 {
     if !words::in_form(words) {
         return 19;

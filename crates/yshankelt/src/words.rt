@@ -1,13 +1,13 @@
 // A machine as a row of words that its host owns: its words written, and the machine that a row says.
-use types::fuel::Fuel;
-use types::fuel::FuelCosts;
-use types::limiter::Limiter;
 use machine::records::Counts;
 use machine::records::Machine;
 use memory::memory::Memory;
 use table::element::ElementSegment;
 use table::table::Table;
+use types::fuel::Fuel;
+use types::fuel::FuelCosts;
 use types::index_ty::IndexType;
+use types::limiter::Limiter;
 use types::limits::Limits;
 use types::memory_ty::MemoryType;
 use types::memory_ty::PageSize;

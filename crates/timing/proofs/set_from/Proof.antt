@@ -1,4 +1,8 @@
 -- `timing::set_from` meets its contract. Assumes nothing.
+use mathlib.Core.Path.{ap, _∙_}
+use Rattle.types.specs.Answer.{numberOf}
+use Rattle.types.specs.Done.{Done}
+use Rattle.types.specs.declared.answer.Answer.{Answer}
 use borrow.Author.Needs.{needs}
 use Rattle.timing.proofs.set_from.Statement.{statement}
 use Rattle.timing.proofs.set_from.Tie as tie
@@ -13,7 +17,11 @@ same-length : tie.Need-same-length
 same-length c = search needs
 
 returns : tie.Need-returns
-returns c = record { number = cc; written = cc }
+returns c =
+    record {
+      number = c .number .ensures ∙ ap (λ (d : Done Answer). numberOf (d .out)) (c .before .before .before .set .ensures);
+      written = ap (λ (d : Done Answer). d .cells) (c .before .before .before .set .ensures);
+    }
 
 pub set-from-spec : {M : Type 1} → statement M
 set-from-spec = tie.close (tie.spec set-requires number-requires same-length returns)

@@ -1,5 +1,5 @@
 -- `lent::fuel::get` meets its contract. Assumes nothing.
-use Rattle.lent.specs.Fuel.{leftOf}
+use Rattle.lent.specs.stages.Fuel.{leftOf}
 use mathlib.Core.Path.{sym}
 use borrow.Author.Needs.{needs}
 use Rattle.lent.proofs.fuel.get.Statement.{statement}

@@ -1,7 +1,7 @@
 -- `lent::operate::place` meets its contract. Assumes nothing.
 use mathlib.Core.Path.{ap, _∙_}
 use Rattle.lent.specs.declared.operate.Placed.{Placed}
-use Rattle.lent.specs.Places.{placing, placingOf, place}
+use Rattle.lent.specs.stages.Places.{placing, placingOf, place}
 use borrow.Author.Needs.{needs}
 use Rattle.lent.proofs.operate.place.Statement.{statement}
 use Rattle.lent.proofs.operate.place.Tie as tie

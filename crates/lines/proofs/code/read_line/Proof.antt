@@ -1,6 +1,6 @@
 -- `lines::code::read_line` meets its contract. Assumes nothing.
-use borrow.Author.Needs.{needs}
 use Rattle.lines.specs.Code.{readLine}
+use borrow.Author.Needs.{needs}
 use Rattle.lines.proofs.code.read_line.Statement.{statement}
 use Rattle.lines.proofs.code.read_line.Tie as tie
 

@@ -1,5 +1,5 @@
 -- `lines::session::first_line` meets its contract. Assumes nothing.
-use mathlib.Core.Path.{_≡_, refl, ap, _∙_}
+use mathlib.Core.Path.{refl, ap, _∙_}
 use mathlib.Core.Bool.{true}
 use Prim.Native.Nat.{_-_, _/_}
 use native.Mathlib.Omega.{arith}
@@ -7,7 +7,9 @@ use denote.Ref.{now}
 use lib.ListN.{length}
 use borrow.Author.Needs.{needs}
 use Rattle.types.specs.Raw.{rawBytes}
-use Rattle.lines.specs.Progress.{heldOn, progressed}
+use Rattle.lines.specs.AnswerLine.{answerBytes}
+use Rattle.lines.specs.Session.{heldOn}
+use Rattle.lines.specs.Progress.{progressed}
 use Rattle.lines.specs.declared.session.Progress.{Progress}
 use Rattle.lines.proofs.Runs.{turned-line, run-stop, run-full, first-on}
 use Rattle.lines.proofs.session.first_line.Statement.{statement}
@@ -23,7 +25,7 @@ returns : tie.Need-returns
 returns c =
     let a = c .before .before .before .before .before .before .before .args in
     let h = heldOn (a .start) true (now (a .bytes)) (now (a .cells)) (now (a .items)) in
-    let room = (length (now (a .out)) - a .put) / 37 in
+    let room = (length (now (a .out)) - a .put) / answerBytes in
     let stop = c .stopped .ensures in
     record {
       is = ap (λ (p : Progress). progressed p (now (a .bytes)) (now (a .cells)) (now (a .items)) (now (a .out))) stop
@@ -42,7 +44,7 @@ returns-2 c =
     let s = c .before .before .before .before .before .before .before .before .before in
     let a = s .args in
     let h = heldOn (a .start) true (now (a .bytes)) (now (a .cells)) (now (a .items)) in
-    let room = (length (now (a .out)) - a .put) / 37 in
+    let room = (length (now (a .out)) - a .put) / answerBytes in
     let stop = c .stopped2 .ensures in
     record {
       is = ap (λ (p : Progress). progressed p (now (a .bytes)) (now (a .cells)) (now (a .items)) (now (a .out))) stop
@@ -63,6 +65,9 @@ part-read-by-table-end c = search needs
 read-by-table-requires : tie.Need-read-by-table-requires
 read-by-table-requires c κs = search needs
 
+operation-of-requires : tie.Need-operation-of-requires
+operation-of-requires c κs = search needs
+
 turn-requires : tie.Need-turn-requires
 turn-requires c κs = search needs
 
@@ -72,19 +77,19 @@ put-answer-requires c κs = search needs
 add-more-lines : tie.Need-add-more-lines
 add-more-lines c =
     let near = c .before .before .before .before .before .before .before .before .before .before .before .before .before .before in
-    let d = near .before .before .before .before .before .before .before .before in
+    let d = near .before .before .before .before .before .before .before .before .before in
     omega (arith, d .if2 .left, d .before .before .before .before .before .before .before .before .good .1 .1 .1 .1 .1 .0 .0)
 
 add-more-lines-2 : tie.Need-add-more-lines-2
 add-more-lines-2 c =
     let near = c .before .before .before .before .before .before .before .before .before .before .before .before .before .before in
-    let d = near .before .before .before .before .before .before .before .before .before .before in
+    let d = near .before .before .before .before .before .before .before .before .before .before .before in
     omega (arith, d .if1 .left, d .before .before .before .before .before .before .good .1 .1 .1 .1 .1 .1 .0 .0)
 
 more-lines-requires : tie.Need-more-lines-requires
 more-lines-requires c κs =
     let near = c .before .before .before .before .before .before .before .before .before .before .before .before .before .before in
-    let d = near .before .before .before .before .before .before .before .before in
+    let d = near .before .before .before .before .before .before .before .before .before in
     let s = d .before .before .before .before .before .before .before .before in
     (s .pre .0, omega (arith, d .if2 .left), omega (arith, d .before .before .if1 .left, c .before .before .before .before .before .out .given))
 
@@ -115,12 +120,12 @@ returns-3 : tie.Need-returns-3
 returns-3 c =
     let wrote = c .before .before .before .before .before .before .before .before .before .before .before .before .before .before .before in
     let y = wrote .before .before .before .before .before .before .before .before .before .before in
-    let d = y .before .before .before .before .before .before in
+    let d = y .before .before .before .before .before .before .before in
     let s = d .before .before .before .before .before .before .before .before in
     let a = s .args in
     let h = heldOn (a .start) true (now (a .bytes)) (now (a .cells)) (now (a .items)) in
-    first-on rawBytes h (a .from) (a .put) _ (now (a .input)) (now (a .out)) _ _ _ (d .before .before .if1 .left) (s .pre .1) (d .before .find-lf .ensures)
-    (d .if2 .left) (turned-line h _ (y .before .before .before .before .read-by-table .ensures) (y .turn .ensures))
+    first-on h (a .from) (a .put) _ (now (a .input)) (now (a .out)) _ _ _ (d .before .before .if1 .left) (s .pre .1) (d .before .find-lf .ensures)
+    (d .if2 .left) (turned-line h _ (y .before .before .before .before .before .read-by-table .ensures) (y .before .before .before .before .operation-of .ensures) (y .turn .ensures))
     (wrote .put-answer .ensures) (c .before .before .before .before .before .before .before .before .more-lines .ensures)
 
 pub first-line-spec : {M : Type 1} → statement M
@@ -137,6 +142,7 @@ first-line-spec =
     part-read-by-table-start
     part-read-by-table-end
     read-by-table-requires
+    operation-of-requires
     turn-requires
     put-answer-requires
     add-more-lines

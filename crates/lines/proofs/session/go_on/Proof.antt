@@ -1,4 +1,3 @@
-use Rattle.types.specs.Raw.{rawBytes}
 use Rattle.lines.proofs.Runs.{go-closed}
 use borrow.Author.Needs.{needs}
 use Rattle.lines.proofs.session.go_on.Statement.{statement}
@@ -23,7 +22,7 @@ same-length-4 : tie.Need-same-length-4
 same-length-4 c = search needs
 
 returns : tie.Need-returns
-returns c = go-closed rawBytes _ _ _ _ (c .before .before .before .before .before .before .before .before .before .whole-lines .ensures) (c .close .ensures)
+returns c = go-closed _ _ _ _ (c .before .before .before .before .before .before .before .before .before .whole-lines .ensures) (c .close .ensures)
 
 pub go-on-spec : {M : Type 1} → statement M
 go-on-spec =

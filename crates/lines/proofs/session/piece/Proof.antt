@@ -1,6 +1,6 @@
 use mathlib.Core.Path.{refl}
 use mathlib.Core.Bool.{true, false}
-use Rattle.lines.specs.Digits.{digitTable}
+use Rattle.lines.specs.stages.Digits.{digitTable}
 use Rattle.lines.proofs.Runs.{by-skip}
 use borrow.Author.Needs.{needs}
 use Rattle.lines.proofs.session.piece.Statement.{statement}

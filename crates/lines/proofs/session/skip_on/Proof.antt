@@ -20,6 +20,9 @@ returns-2 c =
     let a = c .before .before .before .before .before .before .before .before .before .args in
     skip-none rawBytes (heldBy (a .session) (now (a .bytes)) (now (a .cells)) (now (a .items))) _ (now (a .input)) (now (a .out)) (c .before .before .if1 .left) (c .before .find-lf .ensures) (c .if2 .taken)
 
+refused-requires : tie.Need-refused-requires
+refused-requires c κs = search needs
+
 put-answer-requires : tie.Need-put-answer-requires
 put-answer-requires c κs = search needs
 
@@ -46,10 +49,10 @@ same-length-4 c = search needs
 
 returns-3 : tie.Need-returns-3
 returns-3 c =
-    let d = c .before .before .before .before .before .before .before .before .before .before .before .before .before .before .before .before .before .before .before in
+    let d = c .before .before .before .before .before .before .before .before .before .before .before .before .before .before .before .before .before .before .before .before in
     let a = d .before .before .before .before .before .before .before .before .before .args in
-    skip-closed rawBytes (heldBy (a .session) (now (a .bytes)) (now (a .cells)) (now (a .items))) _ (now (a .input)) (now (a .out)) _ _ (d .before .before .if1 .left)
-    (d .before .find-lf .ensures) (d .if2 .left) (c .before .before .before .before .before .before .before .before .before .before .before .before .before .before .before .before .put-answer .ensures) (c .before .before .before .before .before .before .before .before .before .whole-lines .ensures) (c .close .ensures)
+    skip-closed (heldBy (a .session) (now (a .bytes)) (now (a .cells)) (now (a .items))) _ (now (a .input)) (now (a .out)) _ _ (d .before .before .if1 .left)
+    (d .before .find-lf .ensures) (d .if2 .left) (rw (c .before .before .before .before .before .before .before .before .before .before .before .before .before .before .before .before .before .before .before .refused .ensures) at (c .before .before .before .before .before .before .before .before .before .before .before .before .before .before .before .before .put-answer .ensures)) (c .before .before .before .before .before .before .before .before .before .whole-lines .ensures) (c .close .ensures)
 
 pub skip-on-spec : {M : Type 1} → statement M
 skip-on-spec =
@@ -58,6 +61,7 @@ skip-on-spec =
     returns
     find-lf-requires
     returns-2
+    refused-requires
     put-answer-requires
     add-whole-lines
     whole-lines-requires

@@ -23,7 +23,7 @@ same-length-4 c = search needs
 returns : tie.Need-returns
 returns c =
     let d = c .before .before .before .before .before .before .before .before in
-    by-begun _ true _ _ _ _ _ _ _ _ (d .before .before .before .before .before .if1 .taken) (d .first-line .ensures)
+    by-begun _ true _ _ _ _ _ _ _ (d .before .before .before .before .before .if1 .taken) (d .first-line .ensures)
 
 more-lines-requires : tie.Need-more-lines-requires
 more-lines-requires c κs = search needs
@@ -43,7 +43,7 @@ same-length-8 c = search needs
 returns-2 : tie.Need-returns-2
 returns-2 c =
     let d = c .before .before .before .before .before .before .before .before in
-    by-begun _ false _ _ _ _ _ _ _ _ (d .before .before .before .before .before .if1 .left) (d .more-lines .ensures)
+    by-begun _ false _ _ _ _ _ _ _ (d .before .before .before .before .before .if1 .left) (d .more-lines .ensures)
 
 pub whole-lines-spec : {M : Type 1} → statement M
 whole-lines-spec =

@@ -1,4 +1,4 @@
--- `super::fields::digits_of` meets its contract. Assumes nothing.
+-- `machine::fields::digits_of` meets its contract. Assumes nothing.
 use Rattle.machine.proofs.Digits.{digit-more, digits-end, nothing-after}
 use Rattle.machine.specs.Operation.{digitsOf}
 use mathlib.Core.Path.{_≡_, refl, _∙_}

@@ -1,4 +1,4 @@
--- `super::fields::hand_leading` meets its contract. Assumes nothing.
+-- `machine::fields::hand_leading` meets its contract. Assumes nothing.
 use Prim.Native.Nat.{ℕ, _-_}
 use lib.ListN.{length, take}
 use Rattle.machine.proofs.Digits.{take-all}

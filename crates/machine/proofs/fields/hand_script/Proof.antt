@@ -1,10 +1,10 @@
--- `super::fields::hand_script` meets its contract. Assumes nothing.
+-- `machine::fields::hand_script` meets its contract. Assumes nothing.
+use mathlib.Core.Path.{ap, _∙_}
 use lib.ListN.{take}
 use Prim.Native.Nat.{ℕ}
 use mathlib.Core.List.{List}
-use mathlib.Core.Path.{ap, _∙_}
-use borrow.Author.Needs.{needs}
 use Rattle.types.specs.Limiter.{handOver}
+use borrow.Author.Needs.{needs}
 use Rattle.machine.proofs.fields.hand_script.Statement.{statement}
 use Rattle.machine.proofs.fields.hand_script.Tie as tie
 
@@ -17,7 +17,7 @@ hand-leading-requires c κs = search needs
 returns : tie.Need-returns
 returns c =
     let a = c .before .before .args in
-    c .hand-leading .ensures ∙ ap (λ (l : List ℕ). handOver (a .limiter) (take (a .count) l)) (c .before .digits-of .ensures)
+    c .hand-leading .ensures ∙ ap (λ (l : List ℕ). handOver (a .limiter) (take (a .script .count) l)) (c .before .digits-of .ensures)
 
 pub hand-script-spec : {M : Type 1} → statement M
 hand-script-spec = tie.close (tie.spec digits-of-requires hand-leading-requires returns)

@@ -1,6 +1,6 @@
--- `super::fields::init_fields` meets its contract. Assumes nothing.
-use Rattle.machine.specs.Operation.{initFields}
+-- `machine::fields::init_fields` meets its contract. Assumes nothing.
 use Rattle.types.proofs.Picks.{cases}
+use Rattle.machine.specs.Operation.{initFields}
 use Rattle.machine.proofs.fields.init_fields.Statement.{statement}
 use Rattle.machine.proofs.fields.init_fields.Tie as tie
 

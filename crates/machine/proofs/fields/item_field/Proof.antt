@@ -1,4 +1,4 @@
--- `super::fields::item_field` meets its contract. Assumes nothing.
+-- `machine::fields::item_field` meets its contract. Assumes nothing.
 use Rattle.machine.specs.Operation.{itemField}
 use Rattle.types.proofs.Picks.{cases}
 use Rattle.machine.proofs.fields.item_field.Statement.{statement}

@@ -1,41 +1,36 @@
--- `super::fields::item_fields` meets its contract. Assumes nothing.
-use borrow.Author.Tests.{le-leb, not-true, not-false}
-use Rattle.types.proofs.Picks.{both-left, both-right, both-then, cases}
+-- `machine::fields::item_fields` meets its contract. Assumes nothing.
 use mathlib.Core.Path.{sym, _∙_}
+use Rattle.types.proofs.Picks.{both-left, both-right, both-then, cases}
+use borrow.Author.Tests.{le-leb, not-true, not-false}
 use Rattle.machine.specs.Operation.{itemFields}
-use Rattle.types.proofs.Picks.{cases}
 use borrow.Author.Needs.{needs}
 use Rattle.machine.proofs.fields.item_fields.Statement.{statement}
 use Rattle.machine.proofs.fields.item_fields.Tie as tie
 
 returns : tie.Need-returns
 unfolding itemFields
-returns c =
-    search cases
+returns c = search cases
 
 item-field-requires : tie.Need-item-field-requires
 item-field-requires c κs = search needs
 
 returns-2 : tie.Need-returns-2
 unfolding itemFields
-returns-2 c =
-    sym (both-right _ _ (both-left _ _ (sym (c .before .item-field .ensures) ∙ not-true _ (c .if2 .taken))))
+returns-2 c = sym (both-right _ _ (both-left _ _ (sym (c .before .item-field .ensures) ∙ not-true _ (c .if2 .taken))))
 
 item-field-requires-2 : tie.Need-item-field-requires-2
 item-field-requires-2 c κs = search needs
 
 returns-3 : tie.Need-returns-3
 unfolding itemFields
-returns-3 c =
-    sym (both-right _ _ (both-right _ _ (both-left _ _ (sym (c .before .item-field2 .ensures) ∙ not-true _ (c .if3 .taken)))))
+returns-3 c = sym (both-right _ _ (both-right _ _ (both-left _ _ (sym (c .before .item-field2 .ensures) ∙ not-true _ (c .if3 .taken)))))
 
 item-field-requires-3 : tie.Need-item-field-requires-3
 item-field-requires-3 c κs = search needs
 
 returns-4 : tie.Need-returns-4
 unfolding itemFields
-returns-4 c =
-    sym (both-right _ _ (both-right _ _ (both-right _ _ (both-left _ _ (sym (c .before .item-field3 .ensures) ∙ not-true _ (c .if4 .taken))))))
+returns-4 c = sym (both-right _ _ (both-right _ _ (both-right _ _ (both-left _ _ (sym (c .before .item-field3 .ensures) ∙ not-true _ (c .if4 .taken))))))
 
 item-field-requires-4 : tie.Need-item-field-requires-4
 item-field-requires-4 c κs = search needs

@@ -1,4 +1,4 @@
--- `super::fields::leading` meets its contract. Assumes nothing.
+-- `machine::fields::leading` meets its contract. Assumes nothing.
 use Prim.Native.Nat.{_+_}
 use denote.Ref.{now}
 use Rattle.machine.proofs.Digits.{leading-bad, leading-more, leading-end}

@@ -1,4 +1,4 @@
--- `super::fields::most` meets its contract. Assumes nothing.
+-- `machine::fields::most` meets its contract. Assumes nothing.
 use Rattle.machine.specs.Operation.{mostOf}
 use Rattle.types.proofs.Picks.{cases}
 use Rattle.machine.proofs.fields.most.Statement.{statement}

@@ -1,16 +1,15 @@
--- `super::fields::script_fields` meets its contract. Assumes nothing.
-use Rattle.machine.specs.Operation.{scriptFields, leading}
-use borrow.Author.Tests.{le-leb}
-use Rattle.types.proofs.Picks.{both-then, cases}
+-- `machine::fields::script_fields` meets its contract. Assumes nothing.
 use mathlib.Core.Path.{sym, ap, _∙_}
+use Rattle.types.proofs.Picks.{both-then, cases}
+use borrow.Author.Tests.{le-leb}
+use Rattle.machine.specs.Operation.{scriptFields, leading}
 use borrow.Author.Needs.{needs}
 use Rattle.machine.proofs.fields.script_fields.Statement.{statement}
 use Rattle.machine.proofs.fields.script_fields.Tie as tie
 
 returns : tie.Need-returns
 unfolding scriptFields
-returns c =
-    search cases
+returns c = search cases
 
 digits-of-requires : tie.Need-digits-of-requires
 digits-of-requires c κs = search needs
@@ -24,7 +23,7 @@ leading-requires c κs = search needs
 returns-2 : tie.Need-returns-2
 unfolding scriptFields
 returns-2 c =
-    c .leading .ensures ∙ ap (leading (c .before .before .before .before .args .count)) (c .before .before .digits-of .ensures) ∙ sym (both-then _ _ (le-leb _ 16 (c .before .before .before .if1 .left)))
+    c .leading .ensures ∙ ap (leading (c .before .before .before .before .before .args .script .count)) (c .before .before .digits-of .ensures) ∙ sym (both-then _ _ (le-leb _ 16 (c .before .before .before .if1 .left)))
 
 pub script-fields-spec : {M : Type 1} → statement M
 script-fields-spec =

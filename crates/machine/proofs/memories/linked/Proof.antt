@@ -1,9 +1,9 @@
 -- `machine::memories::linked` meets its contract. Assumes nothing.
+use mathlib.Core.Path.{refl, ap, _∙_}
+use mathlib.Core.Bool.{Bool}
 use Rattle.types.specs.Answer.{accept}
 use Rattle.types.specs.Pick.{pick}
-use mathlib.Core.Bool.{Bool}
-use Rattle.machine.specs.Step.{linked}
-use mathlib.Core.Path.{refl, ap, _∙_}
+use Rattle.machine.specs.Memories.{linked}
 use borrow.Author.Needs.{needs}
 use Rattle.machine.proofs.memories.linked.Statement.{statement}
 use Rattle.machine.proofs.memories.linked.Tie as tie
@@ -22,13 +22,11 @@ link-number-requires c κs = search needs
 
 returns : tie.Need-returns
 unfolding linked
-returns c =
-    rw (c .before .wanted .given .1) refl
+returns c = rw (c .before .wanted .given .1) refl
 
 returns-2 : tie.Need-returns-2
 unfolding linked
-returns-2 c =
-    rw (c .before .before .before .wanted2 .given .1) (c .link-number .ensures ∙ ap (λ (b : Bool). accept (pick b 1 0)) (c .before .is-subtype-of .ensures))
+returns-2 c = rw (c .before .before .before .wanted2 .given .1) (c .link-number .ensures ∙ ap (λ (b : Bool). accept (pick b 1 0)) (c .before .is-subtype-of .ensures))
 
 pub linked-spec : {M : Type 1} → statement M
 linked-spec =

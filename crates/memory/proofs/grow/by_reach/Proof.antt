@@ -1,6 +1,7 @@
 -- `memory::grow::by_reach` meets its contract. Assumes nothing.
-use Rattle.memory.proofs.Stages.{grown-as}
-use Rattle.memory.specs.GrowStages.{byReach}
+use mathlib.Core.Path.{refl}
+use Rattle.types.proofs.Dones.{done-as}
+use Rattle.memory.specs.stages.Grow.{byReach}
 use borrow.Author.Needs.{needs}
 use Rattle.memory.proofs.grow.by_reach.Statement.{statement}
 use Rattle.memory.proofs.grow.by_reach.Tie as tie
@@ -19,7 +20,7 @@ grow-to-requires c κs = c .before .before .before .before .before .pre _ (c .be
 
 returns : tie.Need-returns
 unfolding byReach
-returns c = rw (c .before .enum-told .given .1) (grown-as _ (c .refused .ensures))
+returns c = rw (c .before .enum-told .given .1) (done-as (c .refused .ensures) refl)
 
 same-length : tie.Need-same-length
 same-length c = search needs

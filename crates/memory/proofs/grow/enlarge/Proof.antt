@@ -1,5 +1,5 @@
 -- `memory::grow::enlarge` meets its contract. Assumes nothing.
-use Rattle.memory.specs.GrowStages.{enlargedBy}
+use Rattle.memory.specs.stages.Grow.{enlargedBy}
 use borrow.Author.Needs.{needs}
 use Rattle.memory.proofs.grow.enlarge.Statement.{statement}
 use Rattle.memory.proofs.grow.enlarge.Tie as tie

@@ -1,6 +1,7 @@
 -- `memory::grow::enlarge_by` meets its contract. Assumes nothing.
-use Rattle.memory.proofs.Stages.{grown-as}
-use Rattle.memory.specs.GrowStages.{enlargedBy}
+use mathlib.Core.Path.{refl}
+use Rattle.types.proofs.Dones.{done-as}
+use Rattle.memory.specs.stages.Grow.{enlargedBy}
 use borrow.Author.Needs.{needs}
 use Rattle.memory.proofs.grow.enlarge_by.Statement.{statement}
 use Rattle.memory.proofs.grow.enlarge_by.Tie as tie
@@ -19,7 +20,7 @@ enlarge-requires c κs = c .before .before .before .before .pre (c .before .enum
 
 returns : tie.Need-returns
 unfolding enlargedBy
-returns c = rw (c .before .before .permit .given .1) (grown-as _ (c .answered-with .ensures))
+returns c = rw (c .before .before .permit .given .1) (done-as (c .answered-with .ensures) refl)
 
 same-length : tie.Need-same-length
 same-length c = search needs

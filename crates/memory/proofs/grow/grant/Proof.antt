@@ -1,5 +1,5 @@
 -- `memory::grow::grant` meets its contract. Assumes nothing.
-use Rattle.memory.specs.GrowStages.{grantOf}
+use Rattle.memory.specs.stages.Grow.{grantOf}
 use borrow.Author.Needs.{needs}
 use Rattle.memory.proofs.grow.grant.Statement.{statement}
 use Rattle.memory.proofs.grow.grant.Tie as tie

@@ -1,6 +1,6 @@
 -- `memory::grow::grow_sound` meets its contract. Assumes nothing.
 use Rattle.memory.proofs.Stages.{stage}
-use Rattle.memory.specs.GrowStages.{growSound}
+use Rattle.memory.specs.stages.Grow.{growSound}
 use borrow.Author.Needs.{needs}
 use Rattle.memory.proofs.grow.grow_sound.Statement.{statement}
 use Rattle.memory.proofs.grow.grow_sound.Tie as tie

@@ -1,6 +1,6 @@
 -- `memory::grow::grow_to` meets its contract. Assumes nothing.
 use Rattle.memory.proofs.Growths.{granted-room}
-use Rattle.memory.specs.GrowStages.{growTo}
+use Rattle.memory.specs.stages.Grow.{growTo}
 use borrow.Author.Needs.{needs}
 use Rattle.memory.proofs.grow.grow_to.Statement.{statement}
 use Rattle.memory.proofs.grow.grow_to.Tie as tie

@@ -1,6 +1,7 @@
 -- `memory::new::by_size` meets its contract. Assumes nothing.
-use Rattle.memory.proofs.Stages.{created-as}
-use Rattle.memory.specs.NewStages.{bySize}
+use mathlib.Core.Path.{refl}
+use Rattle.types.proofs.Dones.{done-as}
+use Rattle.memory.specs.stages.New.{bySize}
 use borrow.Author.Needs.{needs}
 use Rattle.memory.proofs.new.by_size.Statement.{statement}
 use Rattle.memory.proofs.new.by_size.Tie as tie
@@ -19,7 +20,7 @@ make-sized-requires c κs = search needs
 
 returns : tie.Need-returns
 unfolding bySize
-returns c = rw (c .before .enum-told .given .1) (created-as _ (c .no-memory .ensures))
+returns c = rw (c .before .enum-told .given .1) (done-as (c .no-memory .ensures) refl)
 
 same-length : tie.Need-same-length
 same-length c = search needs

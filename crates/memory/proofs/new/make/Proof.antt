@@ -1,5 +1,5 @@
 -- `memory::new::make` meets its contract. Assumes nothing.
-use Rattle.memory.specs.NewStages.{madeBy}
+use Rattle.memory.specs.stages.New.{madeBy}
 use borrow.Author.Needs.{needs}
 use Rattle.memory.proofs.new.make.Statement.{statement}
 use Rattle.memory.proofs.new.make.Tie as tie

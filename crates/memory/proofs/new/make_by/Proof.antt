@@ -1,6 +1,7 @@
 -- `memory::new::make_by` meets its contract. Assumes nothing.
-use Rattle.memory.proofs.Stages.{created-as}
-use Rattle.memory.specs.NewStages.{madeBy}
+use mathlib.Core.Path.{refl}
+use Rattle.types.proofs.Dones.{done-as}
+use Rattle.memory.specs.stages.New.{madeBy}
 use borrow.Author.Needs.{needs}
 use Rattle.memory.proofs.new.make_by.Statement.{statement}
 use Rattle.memory.proofs.new.make_by.Tie as tie
@@ -19,7 +20,7 @@ make-requires c κs = c .before .before .before .before .pre (c .before .enum-to
 
 returns : tie.Need-returns
 unfolding madeBy
-returns c = rw (c .before .before .permit .given .1) (created-as _ (c .no-memory .ensures))
+returns c = rw (c .before .before .permit .given .1) (done-as (c .no-memory .ensures) refl)
 
 same-length : tie.Need-same-length
 same-length c = search needs

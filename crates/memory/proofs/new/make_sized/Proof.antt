@@ -1,6 +1,6 @@
 -- `memory::new::make_sized` meets its contract. Assumes nothing.
 use Rattle.memory.proofs.Growths.{created-room}
-use Rattle.memory.specs.NewStages.{madeOf}
+use Rattle.memory.specs.stages.New.{madeOf}
 use borrow.Author.Needs.{needs}
 use Rattle.memory.proofs.new.make_sized.Statement.{statement}
 use Rattle.memory.proofs.new.make_sized.Tie as tie
@@ -9,7 +9,7 @@ grant-creation-requires : tie.Need-grant-creation-requires
 grant-creation-requires c κs = search needs
 
 make-by-requires : tie.Need-make-by-requires
-make-by-requires c κs = created-room _ _ _ _ _ _ (c .before .before .grant-creation .ensures) (c .before .before .before .before .pre)
+make-by-requires c κs = created-room _ _ _ _ _ _ (c .before .before .grant-creation .ensures) (c .before .before .before .before .before .pre)
 
 same-length : tie.Need-same-length
 same-length c = search needs

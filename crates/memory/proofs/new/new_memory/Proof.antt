@@ -1,5 +1,5 @@
 -- `memory::new::new_memory` meets its contract. Assumes nothing.
-use Rattle.memory.proofs.Stages.{created-as}
+use Rattle.types.proofs.Dones.{done-as}
 use Rattle.memory.proofs.Readings.{new-goes, new-stops}
 use Rattle.types.proofs.Picks.{known-test}
 use Rattle.types.proofs.Spans.{within-is}
@@ -26,7 +26,7 @@ no-memory-requires c κs = search needs
 
 returns-2 : tie.Need-returns-2
 unfolding inside
-returns-2 c = search (new-stops, known-test, created-as)
+returns-2 c = search (new-stops, known-test, done-as)
 
 pub new-memory-spec : {M : Type 1} → statement M
 new-memory-spec =

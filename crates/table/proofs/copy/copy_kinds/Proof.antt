@@ -1,6 +1,6 @@
 -- `table::copy::copy_kinds` meets its contract. Assumes nothing.
 use Rattle.table.proofs.Exits.{exits}
-use Rattle.table.specs.Stages.{copyKinds}
+use Rattle.table.specs.stages.Spans.{copyKinds}
 use borrow.Author.Needs.{needs}
 use Rattle.table.proofs.copy.copy_kinds.Statement.{statement}
 use Rattle.table.proofs.copy.copy_kinds.Tie as tie
@@ -8,8 +8,8 @@ use Rattle.table.proofs.copy.copy_kinds.Tie as tie
 element-matches-requires : tie.Need-element-matches-requires
 element-matches-requires c κs = search needs
 
-copy-span-requires : tie.Need-copy-span-requires
-copy-span-requires c κs = search needs
+copy-bounds-requires : tie.Need-copy-bounds-requires
+copy-bounds-requires c κs = search needs
 
 same-length : tie.Need-same-length
 same-length c = search needs
@@ -30,7 +30,7 @@ copy-kinds-spec =
     tie.close
     (tie.spec
     element-matches-requires
-    copy-span-requires
+    copy-bounds-requires
     same-length
     returns
     not-spanned-requires

@@ -1,6 +1,6 @@
 -- `table::fill::fill_kind` meets its contract. Assumes nothing.
 use Rattle.table.proofs.Outcomes.{goes-within}
-use Rattle.table.specs.Stages.{fillKind}
+use Rattle.table.specs.stages.Spans.{fillKind}
 use borrow.Author.Needs.{needs}
 use Rattle.table.proofs.fill.fill_kind.Statement.{statement}
 use Rattle.table.proofs.fill.fill_kind.Tie as tie

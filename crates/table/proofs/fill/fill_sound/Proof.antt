@@ -1,6 +1,6 @@
 -- `table::fill::fill_sound` meets its contract. Assumes nothing.
 use Rattle.table.proofs.Exits.{exits}
-use Rattle.table.specs.Stages.{fillSound}
+use Rattle.table.specs.stages.Spans.{fillSound}
 use borrow.Author.Needs.{needs}
 use Rattle.table.proofs.fill.fill_sound.Statement.{statement}
 use Rattle.table.proofs.fill.fill_sound.Tie as tie

@@ -1,6 +1,6 @@
 -- `table::grow::enlarge` meets its contract. Assumes nothing.
 use Rattle.table.proofs.Exits.{exits}
-use Rattle.table.specs.Stages.{enlargedBy}
+use Rattle.table.specs.stages.Grow.{enlargedBy}
 use borrow.Author.Needs.{needs}
 use Rattle.table.proofs.grow.enlarge.Statement.{statement}
 use Rattle.table.proofs.grow.enlarge.Tie as tie

@@ -1,6 +1,6 @@
 -- `table::grow::enlarge_by` meets its contract. Assumes nothing.
-use Rattle.table.proofs.Exits.{grown-as}
-use Rattle.table.specs.Stages.{enlargedBy}
+use Rattle.types.proofs.Dones.{done-as}
+use Rattle.table.specs.stages.Grow.{enlargedBy}
 use borrow.Author.Needs.{needs}
 use mathlib.Core.Path.{refl}
 use Rattle.table.proofs.grow.enlarge_by.Statement.{statement}
@@ -20,7 +20,7 @@ enlarge-requires c κs = c .before .before .before .before .pre (c .before .enum
 
 returns : tie.Need-returns
 unfolding enlargedBy
-returns c = rw (c .before .before .permit .given .1) (grown-as (c .answered-with .ensures) refl)
+returns c = rw (c .before .before .permit .given .1) (done-as (c .answered-with .ensures) refl)
 
 same-length : tie.Need-same-length
 same-length c = search needs

@@ -1,5 +1,5 @@
 -- `table::grow::grant` meets its contract. Assumes nothing.
-use Rattle.table.specs.Stages.{grantOf}
+use Rattle.table.specs.stages.Grow.{grantOf}
 use borrow.Author.Needs.{needs}
 use Rattle.table.proofs.grow.grant.Statement.{statement}
 use Rattle.table.proofs.grow.grant.Tie as tie

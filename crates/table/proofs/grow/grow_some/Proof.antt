@@ -1,7 +1,8 @@
 -- `table::grow::grow_some` meets its contract. Assumes nothing.
-use Rattle.table.proofs.Exits.{exits, grown-as}
+use Rattle.table.proofs.Exits.{exits}
+use Rattle.types.proofs.Dones.{done-as}
 use Rattle.table.proofs.Growths.{grows-past}
-use Rattle.table.specs.Stages.{growSome}
+use Rattle.table.specs.stages.Grow.{growSome}
 use borrow.Author.Needs.{needs}
 use mathlib.Core.Path.{refl}
 use Rattle.table.proofs.grow.grow_some.Statement.{statement}
@@ -15,7 +16,7 @@ refused-requires c κs = search needs
 
 returns : tie.Need-returns
 unfolding growSome
-returns c = grows-past _ _ (c .before .before .before .before .before .args .table .ty .index) _ _ (c .before .if1 .taken) (grown-as (c .refused .ensures) refl)
+returns c = grows-past _ _ (c .before .before .before .before .before .args .table .ty .index) _ _ (c .before .if1 .taken) (done-as (c .refused .ensures) refl)
 
 add-size : tie.Need-add-size
 add-size c = search needs

@@ -1,6 +1,6 @@
 -- `table::grow::grow_sound` meets its contract. Assumes nothing.
 use Rattle.table.proofs.Exits.{exits}
-use Rattle.table.specs.Stages.{growSound}
+use Rattle.table.specs.stages.Grow.{growSound}
 use borrow.Author.Needs.{needs}
 use Rattle.table.proofs.grow.grow_sound.Statement.{statement}
 use Rattle.table.proofs.grow.grow_sound.Tie as tie

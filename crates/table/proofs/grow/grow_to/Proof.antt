@@ -1,6 +1,6 @@
 -- `table::grow::grow_to` meets its contract. Assumes nothing.
 use Rattle.table.proofs.Growths.{growth-room}
-use Rattle.table.specs.Stages.{growTo}
+use Rattle.table.specs.stages.Grow.{growTo}
 use borrow.Author.Needs.{needs}
 use Rattle.table.proofs.grow.grow_to.Statement.{statement}
 use Rattle.table.proofs.grow.grow_to.Tie as tie

@@ -1,6 +1,6 @@
 -- `table::init::init_kinds` meets its contract. Assumes nothing.
 use Rattle.table.proofs.Exits.{exits}
-use Rattle.table.specs.Stages.{initKinds}
+use Rattle.table.specs.stages.Spans.{initKinds}
 use borrow.Author.Needs.{needs}
 use Rattle.table.proofs.init.init_kinds.Statement.{statement}
 use Rattle.table.proofs.init.init_kinds.Tie as tie
@@ -8,8 +8,8 @@ use Rattle.table.proofs.init.init_kinds.Tie as tie
 element-matches-requires : tie.Need-element-matches-requires
 element-matches-requires c κs = search needs
 
-init-span-requires : tie.Need-init-span-requires
-init-span-requires c κs = search needs
+init-bounds-requires : tie.Need-init-bounds-requires
+init-bounds-requires c κs = search needs
 
 same-length : tie.Need-same-length
 same-length c = search needs
@@ -30,7 +30,7 @@ init-kinds-spec =
     tie.close
     (tie.spec
     element-matches-requires
-    init-span-requires
+    init-bounds-requires
     same-length
     returns
     not-spanned-requires

@@ -1,5 +1,5 @@
 -- `table::init::init_some` meets its contract. Assumes nothing.
-use Rattle.table.specs.Stages.{initSome}
+use Rattle.table.specs.stages.Spans.{initSome}
 use borrow.Author.Needs.{needs}
 use Rattle.table.proofs.init.init_some.Statement.{statement}
 use Rattle.table.proofs.init.init_some.Tie as tie

@@ -1,6 +1,6 @@
 -- `table::new::by_kind` meets its contract. Assumes nothing.
 use Rattle.table.proofs.Exits.{exits}
-use Rattle.table.specs.Stages.{byKind}
+use Rattle.table.specs.stages.New.{byKind}
 use borrow.Author.Needs.{needs}
 use Rattle.table.proofs.new.by_kind.Statement.{statement}
 use Rattle.table.proofs.new.by_kind.Tie as tie

@@ -1,6 +1,6 @@
 -- `table::new::by_type` meets its contract. Assumes nothing.
-use Rattle.table.proofs.Exits.{created-as}
-use Rattle.table.specs.Stages.{byType}
+use Rattle.types.proofs.Dones.{done-as}
+use Rattle.table.specs.stages.New.{byType}
 use borrow.Author.Needs.{needs}
 use mathlib.Core.Path.{refl}
 use Rattle.table.proofs.new.by_type.Statement.{statement}
@@ -20,7 +20,7 @@ by-kind-requires c κs = search needs
 
 returns : tie.Need-returns
 unfolding byType
-returns c = rw (c .before .before .built .given .1) (created-as (c .no-table .ensures) refl)
+returns c = rw (c .before .before .built .given .1) (done-as (c .no-table .ensures) refl)
 
 same-length : tie.Need-same-length
 same-length c = search needs

@@ -1,6 +1,6 @@
 -- `table::new::make` meets its contract. Assumes nothing.
 use Rattle.table.proofs.Exits.{exits}
-use Rattle.table.specs.Stages.{madeBy}
+use Rattle.table.specs.stages.New.{madeBy}
 use borrow.Author.Needs.{needs}
 use Rattle.table.proofs.new.make.Statement.{statement}
 use Rattle.table.proofs.new.make.Tie as tie

@@ -1,6 +1,6 @@
 -- `table::new::make_by` meets its contract. Assumes nothing.
-use Rattle.table.proofs.Exits.{created-as}
-use Rattle.table.specs.Stages.{madeBy}
+use Rattle.types.proofs.Dones.{done-as}
+use Rattle.table.specs.stages.New.{madeBy}
 use borrow.Author.Needs.{needs}
 use mathlib.Core.Path.{refl}
 use Rattle.table.proofs.new.make_by.Statement.{statement}
@@ -20,7 +20,7 @@ make-requires c κs = c .before .before .before .before .pre (c .before .enum-to
 
 returns : tie.Need-returns
 unfolding madeBy
-returns c = rw (c .before .before .permit .given .1) (created-as (c .no-table .ensures) refl)
+returns c = rw (c .before .before .permit .given .1) (done-as (c .no-table .ensures) refl)
 
 same-length : tie.Need-same-length
 same-length c = search needs

@@ -1,6 +1,6 @@
 -- `table::new::make_granted` meets its contract. Assumes nothing.
 use Rattle.table.proofs.Growths.{creation-room}
-use Rattle.table.specs.Stages.{madeOf}
+use Rattle.table.specs.stages.New.{madeOf}
 use borrow.Author.Needs.{needs}
 use Rattle.table.proofs.new.make_granted.Statement.{statement}
 use Rattle.table.proofs.new.make_granted.Tie as tie

@@ -1,7 +1,6 @@
 -- `table::new::new_table` meets its contract. Assumes nothing.
 use Rattle.table.proofs.Exits.{exits}
 use Rattle.table.proofs.Sounds.{tested-buffer}
-use Rattle.table.specs.Stages.{newStaged}
 use Rattle.table.proofs.Readings.{new-reads}
 use borrow.Author.Needs.{needs}
 use Rattle.table.proofs.new.new_table.Statement.{statement}
@@ -17,14 +16,12 @@ same-length : tie.Need-same-length
 same-length c = search needs
 
 returns : tie.Need-returns
-unfolding newStaged
 returns c = rw new-reads (search exits)
 
 no-table-requires : tie.Need-no-table-requires
 no-table-requires c κs = search needs
 
 returns-2 : tie.Need-returns-2
-unfolding newStaged
 returns-2 c = rw new-reads (search exits)
 
 pub new-table-spec : {M : Type 1} → statement M

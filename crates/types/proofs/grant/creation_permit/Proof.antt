@@ -1,5 +1,5 @@
 -- `super::grant::creation_permit` meets its contract. Assumes nothing.
-use Rattle.types.specs.Grant.{creationPermit}
+use Rattle.types.specs.stages.Grant.{creationPermit}
 use borrow.Author.Needs.{needs}
 use Rattle.types.proofs.grant.creation_permit.Statement.{statement}
 use Rattle.types.proofs.grant.creation_permit.Tie as tie

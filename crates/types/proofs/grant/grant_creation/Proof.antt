@@ -1,5 +1,5 @@
 -- `super::grant::grant_creation` meets its contract. Assumes nothing.
-use Rattle.types.specs.Grant.{grantCreation}
+use Rattle.types.specs.stages.Grant.{grantCreation}
 use borrow.Author.Needs.{needs}
 use Rattle.types.proofs.grant.grant_creation.Statement.{statement}
 use Rattle.types.proofs.grant.grant_creation.Tie as tie

@@ -1,5 +1,5 @@
 -- `super::grant::grant_growth` meets its contract. Assumes nothing.
-use Rattle.types.specs.Grant.{grantGrowth}
+use Rattle.types.specs.stages.Grant.{grantGrowth}
 use borrow.Author.Needs.{needs}
 use Rattle.types.proofs.grant.grant_growth.Statement.{statement}
 use Rattle.types.proofs.grant.grant_growth.Tie as tie

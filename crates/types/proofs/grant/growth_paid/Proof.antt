@@ -1,5 +1,5 @@
 -- `super::grant::growth_paid` meets its contract. Assumes nothing.
-use Rattle.types.specs.Grant.{growthPaid}
+use Rattle.types.specs.stages.Grant.{growthPaid}
 use borrow.Author.Needs.{needs}
 use Rattle.types.proofs.grant.growth_paid.Statement.{statement}
 use Rattle.types.proofs.grant.growth_paid.Tie as tie

@@ -1,5 +1,5 @@
 -- `super::grant::growth_permit` meets its contract. Assumes nothing.
-use Rattle.types.specs.Grant.{growthPermit}
+use Rattle.types.specs.stages.Grant.{growthPermit}
 use borrow.Author.Needs.{needs}
 use Rattle.types.proofs.grant.growth_permit.Statement.{statement}
 use Rattle.types.proofs.grant.growth_permit.Tie as tie

@@ -1,5 +1,5 @@
 -- `super::grant::tell` meets its contract. Assumes nothing.
-use Rattle.types.specs.Grant.{told}
+use Rattle.types.specs.stages.Grant.{told}
 use borrow.Author.Needs.{needs}
 use Rattle.types.proofs.grant.tell.Statement.{statement}
 use Rattle.types.proofs.grant.tell.Tie as tie

@@ -30,7 +30,7 @@ same-length-4 c = search needs
 
 returns : tie.Need-returns
 returns c =
-    told-from _ _ _ _ (c .before .before .tell .ensures) (c .before .before .before .before .before .before .before .before .before .before .before .before .turn .ensures) (c .before .before .before .before .before .before .before .before .before .before .before .before .before .before .before .before .operation-of .ensures) (c .before .before .before .before .before .before .before .before .before .before .before .before .before .before .before .before .before .machine-from .ensures)
+    told-from _ _ (c .before .before .tell .ensures) (c .before .before .before .before .before .before .before .before .before .before .before .before .turn .ensures) (c .before .before .before .before .before .before .before .before .before .before .before .before .before .before .before .before .operation-of .ensures) (c .before .before .before .before .before .before .before .before .before .before .before .before .before .before .before .before .before .machine-from .ensures)
 
 pub operate-on-spec : {M : Type 1} → statement M
 operate-on-spec =

@@ -1,6 +1,7 @@
 -- `yshankelt::whole::ysh_operate` meets its contract. Assumes nothing.
 use mathlib.Core.Path.{sym, _∙_}
 use denote.Ref.{now}
+use Rattle.machine.specs.Machine.{buffers}
 use Rattle.types.proofs.Picks.{pick-false}
 use borrow.Author.Tests.{not-true, not-false}
 use Rattle.yshankelt.specs.Whole.{operateOf}
@@ -40,7 +41,7 @@ same-length-5 c = search needs
 returns-2 : tie.Need-returns-2
 returns-2 c =
     let a = c .before .before .before .before .before .before .before .before .before .before .before .before .before .before .before .before .before .before .before .before .before .before .before .before .args in
-    operate-in (now (a .words)) (now (a .bytes)) (now (a .cells)) (now (a .items)) (a .code) (now (a .fields)) (now (a .value)) (now (a .fuel)) (c .before .before .before .before .before .before .before .before .operate-on .ensures)
+    operate-in (now (a .words)) (buffers (now (a .bytes)) (now (a .cells)) (now (a .items))) (now (a .value)) (now (a .fuel)) (c .before .before .before .before .before .before .before .before .operate-on .ensures)
     (c .before .before .before .before .before .before .before .before .before .before .before .before .before .before .before .line-from .ensures) (sym (c .before .before .before .before .before .before .before .before .before .before .before .before .before .before .before .before .before .in-form .ensures) ∙ not-false _ (c .before .before .before .before .before .before .before .before .before .before .before .before .before .before .before .before .if1 .left))
 
 pub ysh-operate-spec : {M : Type 1} → statement M

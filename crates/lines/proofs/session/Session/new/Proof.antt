@@ -1,4 +1,4 @@
-use mathlib.Core.Path.{_≡_, refl, sym, ap, _∙_}
+use mathlib.Core.Path.{ap}
 use mathlib.Core.Bool.{true, false}
 use Rattle.machine.specs.declared.records.Machine.{Machine}
 use Rattle.lines.specs.declared.session.Session.{Session}

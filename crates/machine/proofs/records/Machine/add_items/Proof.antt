@@ -1,15 +1,17 @@
 -- `machine::records::Machine::add_items` meets its contract. Assumes nothing.
-use Rattle.table.specs.Element.{newSegment}
-use Rattle.machine.specs.Operation.{kindOf}
-use Rattle.machine.specs.Step.{done, segmentMadeOn, newSegmentOn}
-use Rattle.types.specs.Pick.{both}
-use lib.ListN.{length}
-use lib.Dec.{leb, ltb}
-use Prim.Native.Nat.{ℕ, _-_}
+use mathlib.Core.Path.{sym, ap, _∙_}
+use Rattle.types.proofs.Picks.{pick-true, pick-false}
+use Rattle.types.specs.Done.{done}
 use Rattle.machine.specs.declared.outcome.Outcome.{Outcome}
 use denote.Ref.{now}
-use Rattle.types.proofs.Picks.{pick-true, pick-false}
-use mathlib.Core.Path.{sym, ap, _∙_}
+use Prim.Native.Nat.{ℕ, _-_}
+use lib.Dec.{leb, ltb}
+use lib.ListN.{length}
+use Rattle.types.specs.Pick.{both}
+use Rattle.types.proofs.Picks.{both-1}
+use borrow.Author.Tests.{ltb-true}
+use Rattle.table.specs.Element.{newSegment}
+use Rattle.machine.specs.Segments.{segmentMade, newSegmentOn}
 use borrow.Author.Needs.{needs}
 use Rattle.machine.proofs.records.Machine.add_items.Statement.{statement}
 use Rattle.machine.proofs.records.Machine.add_items.Tie as tie
@@ -24,7 +26,9 @@ finds-room-requires : tie.Need-finds-room-requires
 finds-room-requires c κs = search needs
 
 make-segment-requires : tie.Need-make-segment-requires
-make-segment-requires c κs = search needs
+make-segment-requires c κs =
+    let a = c .before .before .before .before .before .before .args in
+    ltb-true (a .self .counts .segments) 8 (both-1 _ _ (sym (c .before .before .finds-room .ensures) ∙ c .before .if1 .taken))
 
 same-length : tie.Need-same-length
 same-length c = search needs
@@ -34,12 +38,8 @@ unfolding newSegmentOn
 returns c =
     let a = c .before .before .before .before .before .before .before .before .before .args in
     c .before .before .make-segment .ensures
-    ∙ ap (λ (s : ℕ). segmentMadeOn (a .self) (newSegment (kindOf (a .kind)) s (now (a .items)) (now (a .given)))) (c .before .before .before .before .before .before .next-item .ensures)
-    ∙ sym
-    (pick-true _ _ _
-    (ap (λ (s : ℕ). both (ltb (a .self .counts .segments) 8) (leb (length (now (a .given))) (length (now (a .items)) - s))) (sym (c .before .before .before .before .before .before .next-item .ensures))
-    ∙ sym (c .before .before .before .before .before .finds-room .ensures)
-    ∙ c .before .before .before .before .if1 .taken))
+    ∙ ap (λ (s : ℕ). segmentMade (a .self) (newSegment (a .element) s (now (a .items)) (now (a .given)))) (c .before .before .before .before .before .before .next-item .ensures)
+    ∙ sym (pick-true _ _ _ (ap (λ (s : ℕ). both (ltb (a .self .counts .segments) 8) (leb (length (now (a .given))) (length (now (a .items)) - s))) (sym (c .before .before .before .before .before .before .next-item .ensures)) ∙ sym (c .before .before .before .before .before .finds-room .ensures) ∙ c .before .before .before .before .if1 .taken))
 
 refuses-requires : tie.Need-refuses-requires
 refuses-requires c κs = search needs
@@ -49,11 +49,7 @@ unfolding newSegmentOn
 returns-2 c =
     let a = c .before .before .before .before .before .before .args in
     ap (λ (o : Outcome). done o (now (a .items))) (c .refuses .ensures)
-    ∙ sym
-    (pick-false _ _ _
-    (ap (λ (s : ℕ). both (ltb (a .self .counts .segments) 8) (leb (length (now (a .given))) (length (now (a .items)) - s))) (sym (c .before .before .before .next-item .ensures))
-    ∙ sym (c .before .before .finds-room .ensures)
-    ∙ c .before .if1 .left))
+    ∙ sym (pick-false _ _ _ (ap (λ (s : ℕ). both (ltb (a .self .counts .segments) 8) (leb (length (now (a .given))) (length (now (a .items)) - s))) (sym (c .before .before .before .next-item .ensures)) ∙ sym (c .before .before .finds-room .ensures) ∙ c .before .if1 .left))
 
 pub add-items-spec : {M : Type 1} → statement M
 add-items-spec =

@@ -17,32 +17,14 @@ put-memory-requires c κs = search needs
 enum-known-change-2 : tie.Need-enum-known-change-2
 enum-known-change-2 c = search needs
 
-add-memory-requires : tie.Need-add-memory-requires
-add-memory-requires c κs = search needs
+put-table-requires : tie.Need-put-table-requires
+put-table-requires c κs = search needs
 
 enum-known-change-3 : tie.Need-enum-known-change-3
 enum-known-change-3 c = search needs
 
-put-table-requires : tie.Need-put-table-requires
-put-table-requires c κs = search needs
-
-enum-known-change-4 : tie.Need-enum-known-change-4
-enum-known-change-4 c = search needs
-
-add-table-requires : tie.Need-add-table-requires
-add-table-requires c κs = search needs
-
-enum-known-change-5 : tie.Need-enum-known-change-5
-enum-known-change-5 c = search needs
-
 put-segment-requires : tie.Need-put-segment-requires
 put-segment-requires c κs = search needs
-
-enum-known-change-6 : tie.Need-enum-known-change-6
-enum-known-change-6 c = search needs
-
-add-segment-requires : tie.Need-add-segment-requires
-add-segment-requires c κs = search needs
 
 returns : tie.Need-returns
 unfolding changed
@@ -54,23 +36,11 @@ returns-2 c = rw (c .before .before .change .given .1) (c .put-memory .ensures)
 
 returns-3 : tie.Need-returns-3
 unfolding changed
-returns-3 c = rw (c .before .before .change2 .given .1) (c .add-memory .ensures)
+returns-3 c = rw (c .before .before .change2 .given .1) (c .put-table .ensures)
 
 returns-4 : tie.Need-returns-4
 unfolding changed
-returns-4 c = rw (c .before .before .change3 .given .1) (c .put-table .ensures)
-
-returns-5 : tie.Need-returns-5
-unfolding changed
-returns-5 c = rw (c .before .before .change4 .given .1) (c .add-table .ensures)
-
-returns-6 : tie.Need-returns-6
-unfolding changed
-returns-6 c = rw (c .before .before .change5 .given .1) (c .put-segment .ensures)
-
-returns-7 : tie.Need-returns-7
-unfolding changed
-returns-7 c = rw (c .before .before .change6 .given .1) (c .add-segment .ensures)
+returns-4 c = rw (c .before .before .change3 .given .1) (c .put-segment .ensures)
 
 pub changed-spec : {M : Type 1} → statement M
 changed-spec =
@@ -80,19 +50,10 @@ changed-spec =
     enum-known-change
     put-memory-requires
     enum-known-change-2
-    add-memory-requires
-    enum-known-change-3
     put-table-requires
-    enum-known-change-4
-    add-table-requires
-    enum-known-change-5
+    enum-known-change-3
     put-segment-requires
-    enum-known-change-6
-    add-segment-requires
     returns
     returns-2
     returns-3
-    returns-4
-    returns-5
-    returns-6
-    returns-7)
+    returns-4)

@@ -1,13 +1,13 @@
 -- `machine::records::Machine::copy_known` meets its contract. Assumes nothing.
-use Rattle.table.specs.Copy.{copyTable, copyWithin}
-use Rattle.types.specs.Raw.{rawBytes}
-use Rattle.machine.specs.Machine.{tableAt}
-use Rattle.machine.specs.Step.{spannedOn, copyKnown}
-use Rattle.table.specs.declared.table.Table.{Table}
-use denote.Ref.{now}
-use borrow.Author.Tests.{eq-eqb, ne-eqb}
-use Rattle.types.proofs.Picks.{pick-true, pick-false}
 use mathlib.Core.Path.{sym, ap, _∙_}
+use Rattle.types.proofs.Picks.{pick-true, pick-false}
+use borrow.Author.Tests.{eq-eqb, ne-eqb}
+use denote.Ref.{now}
+use Rattle.table.specs.declared.table.Table.{Table}
+use Rattle.types.specs.Raw.{rawBytes}
+use Rattle.table.specs.Copy.{copyTable, copyWithin}
+use Rattle.machine.specs.Machine.{tableAt}
+use Rattle.machine.specs.Tables.{spannedDone, copyKnown}
 use borrow.Author.Needs.{needs}
 use Rattle.machine.proofs.records.Machine.copy_known.Statement.{statement}
 use Rattle.machine.proofs.records.Machine.copy_known.Tie as tie
@@ -24,9 +24,9 @@ same-length c = search needs
 returns : tie.Need-returns
 unfolding copyKnown
 returns c =
-    let a = c .before .before .before .before .before .before .before .before .before .args in
+    let a = c .before .before .before .before .before .before .before .args in
     c .before .before .copy-one .ensures
-    ∙ ap (λ (x : Table). spannedOn (a .self .limiter) (copyWithin rawBytes x (now (a .cells)) (a .to) (a .from) (a .len) (a .self .fuel))) (c .before .before .before .before .before .before .before .table-at .ensures)
+    ∙ ap (λ (x : Table). spannedDone (a .self) (copyWithin rawBytes x (now (a .cells)) (a .span) (a .self .fuel))) (c .before .before .before .before .before .table-at .ensures)
     ∙ sym (pick-true _ _ _ (eq-eqb _ _ (c .before .before .before .before .if1 .taken)))
 
 table-at-requires-2 : tie.Need-table-at-requires-2
@@ -41,10 +41,10 @@ same-length-2 c = search needs
 returns-2 : tie.Need-returns-2
 unfolding copyKnown
 returns-2 c =
-    let a = c .before .before .before .before .before .before .before .before .before .before .args in
+    let a = c .before .before .before .before .before .before .before .before .args in
     c .before .before .copy-two .ensures
-    ∙ ap (λ (x : Table). spannedOn (a .self .limiter) (copyTable rawBytes x (c .before .before .before .before .table-at2 .result) (now (a .cells)) (a .to) (a .from) (a .len) (a .self .fuel))) (c .before .before .before .before .before .before .before .before .table-at .ensures)
-    ∙ ap (λ (x : Table). spannedOn (a .self .limiter) (copyTable rawBytes (tableAt (a .self) (a .into)) x (now (a .cells)) (a .to) (a .from) (a .len) (a .self .fuel))) (c .before .before .before .before .table-at2 .ensures)
+    ∙ ap (λ (x : Table). spannedDone (a .self) (copyTable rawBytes x (c .before .before .before .before .table-at2 .result) (now (a .cells)) (a .span) (a .self .fuel))) (c .before .before .before .before .before .before .table-at .ensures)
+    ∙ ap (λ (x : Table). spannedDone (a .self) (copyTable rawBytes (tableAt (a .self) (a .into)) x (now (a .cells)) (a .span) (a .self .fuel))) (c .before .before .before .before .table-at2 .ensures)
     ∙ sym (pick-false _ _ _ (ne-eqb _ _ (c .before .before .before .before .before .if1 .left)))
 
 pub copy-known-spec : {M : Type 1} → statement M

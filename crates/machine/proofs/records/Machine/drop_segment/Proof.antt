@@ -1,11 +1,11 @@
 -- `machine::records::Machine::drop_segment` meets its contract. Assumes nothing.
-use Rattle.machine.specs.declared.outcome.Change.the-variants as change
-use Rattle.table.specs.Element.{dropped}
-use Rattle.types.specs.Answer.{accept}
-use Rattle.machine.specs.Step.{dropOn}
-use Rattle.table.specs.declared.element.ElementSegment.{ElementSegment}
-use Rattle.machine.proofs.Laws.{unknown, known}
 use mathlib.Core.Path.{ap, _∙_}
+use Rattle.machine.proofs.Laws.{unknown, known}
+use Rattle.types.specs.Answer.{accept}
+use Rattle.table.specs.Element.{dropped}
+use Rattle.table.specs.declared.element.ElementSegment.{ElementSegment}
+use Rattle.machine.specs.declared.outcome.Change.the-variants as change
+use Rattle.machine.specs.Segments.{dropOn}
 use borrow.Author.Needs.{needs}
 use Rattle.machine.proofs.records.Machine.drop_segment.Statement.{statement}
 use Rattle.machine.proofs.records.Machine.drop_segment.Tie as tie
@@ -16,7 +16,8 @@ refuses-requires c κs = search needs
 returns : tie.Need-returns
 unfolding dropOn
 returns c =
-    unknown _ (c .before .before .before .args .number) (c .before .before .before .args .self .counts .segments) (c .before .if1 .taken) (c .refuses .ensures)
+    let a = c .before .before .before .args in
+    unknown _ (a .number) (a .self .counts .segments) (c .before .if1 .taken) (c .refuses .ensures)
 
 segment-at-requires : tie.Need-segment-at-requires
 segment-at-requires c κs = search needs
@@ -27,8 +28,10 @@ drop-items-requires c κs = search needs
 returns-2 : tie.Need-returns-2
 unfolding dropOn
 returns-2 c =
-    known _ (c .before .before .before .before .before .before .args .number) (c .before .before .before .before .before .before .args .self .counts .segments) (c .before .before .before .before .if1 .left)
-    (ap (λ (x : ElementSegment). record { answer = accept 0; change = change.Segment (c .before .before .before .before .before .before .args .number) x; fuel = c .before .before .before .before .before .before .args .self .fuel; limiter = c .before .before .before .before .before .before .args .self .limiter }) (c .before .before .drop-items .ensures ∙ ap dropped (c .before .before .before .segment-at .ensures)))
+    let a = c .before .before .before .before .before .before .before .args in
+    known _ (a .number) (a .self .counts .segments) (c .before .before .before .before .before .if1 .left)
+    (ap (λ (x : ElementSegment). record { answer = accept 0; change = change.Segment (a .number) x; counts = a .self .counts; fuel = a .self .fuel; limiter = a .self .limiter })
+    (c .before .before .before .drop-items .ensures ∙ ap dropped (c .before .before .before .before .segment-at .ensures)))
 
 pub drop-segment-spec : {M : Type 1} → statement M
 drop-segment-spec =

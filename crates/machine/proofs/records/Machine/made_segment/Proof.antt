@@ -1,6 +1,6 @@
 -- `machine::records::Machine::made_segment` meets its contract. Assumes nothing.
-use Rattle.machine.specs.Step.{madeSegment}
 use mathlib.Core.Path.{refl}
+use Rattle.machine.specs.Segments.{madeSegment}
 use borrow.Author.Needs.{needs}
 use Rattle.machine.proofs.records.Machine.made_segment.Statement.{statement}
 use Rattle.machine.proofs.records.Machine.made_segment.Tie as tie
@@ -14,16 +14,17 @@ keeps-requires c κs = search needs
 enum-known-made-2 : tie.Need-enum-known-made-2
 enum-known-made-2 c = search needs
 
+add-t13 : tie.Need-add-t13
+add-t13 c = search needs
+
 returns : tie.Need-returns
 unfolding madeSegment
-returns c =
-    rw (c .before .before .made .given .1) (c .keeps .ensures)
+returns c = rw (c .before .before .made .given .1) (c .keeps .ensures)
 
 returns-2 : tie.Need-returns-2
 unfolding madeSegment
-returns-2 c =
-    rw (c .before .made2 .given .1) refl
+returns-2 c = rw (c .before .before .made2 .given .1) refl
 
 pub made-segment-spec : {M : Type 1} → statement M
 made-segment-spec =
-    tie.close (tie.spec enum-known-made keeps-requires enum-known-made-2 returns returns-2)
+    tie.close (tie.spec enum-known-made keeps-requires enum-known-made-2 add-t13 returns returns-2)

@@ -1,15 +1,17 @@
 -- `machine::records::Machine::new_memory` meets its contract. Assumes nothing.
-use Rattle.memory.specs.New.{newMemory}
-use Rattle.machine.specs.Operation.{yes, limitsOf, exponentOf}
-use Rattle.machine.specs.Step.{done, madeOn, newMemoryOn}
-use Rattle.types.specs.Pick.{both}
-use lib.ListN.{length}
-use lib.Dec.{leb, ltb}
-use Prim.Native.Nat.{ℕ, _-_}
+use mathlib.Core.Path.{sym, ap, _∙_}
+use Rattle.types.proofs.Picks.{pick-true, pick-false}
+use Rattle.types.specs.Done.{done}
 use Rattle.machine.specs.declared.outcome.Outcome.{Outcome}
 use denote.Ref.{now}
-use Rattle.types.proofs.Picks.{pick-true, pick-false}
-use mathlib.Core.Path.{sym, ap, _∙_}
+use Prim.Native.Nat.{ℕ, _-_}
+use lib.Dec.{leb, ltb}
+use lib.ListN.{length}
+use Rattle.types.specs.Pick.{both}
+use Rattle.types.proofs.Picks.{both-1}
+use borrow.Author.Tests.{ltb-true}
+use Rattle.memory.specs.New.{newMemory}
+use Rattle.machine.specs.Memories.{memoryMade, newMemoryOn}
 use borrow.Author.Needs.{needs}
 use Rattle.machine.proofs.records.Machine.new_memory.Statement.{statement}
 use Rattle.machine.proofs.records.Machine.new_memory.Tie as tie
@@ -24,7 +26,9 @@ finds-room-requires : tie.Need-finds-room-requires
 finds-room-requires c κs = search needs
 
 make-memory-requires : tie.Need-make-memory-requires
-make-memory-requires c κs = search needs
+make-memory-requires c κs =
+    let a = c .before .before .before .before .before .args in
+    ltb-true (a .self .counts .memories) 8 (both-1 _ _ (sym (c .before .before .finds-room .ensures) ∙ c .before .if1 .taken))
 
 same-length : tie.Need-same-length
 same-length c = search needs
@@ -34,12 +38,8 @@ unfolding newMemoryOn
 returns c =
     let a = c .before .before .before .before .before .before .before .before .args in
     c .before .before .make-memory .ensures
-    ∙ ap (λ (s : ℕ). madeOn (a .self) (newMemory (yes (a .wide)) (limitsOf (a .bounded) (a .minimum) (a .maximum)) (exponentOf (a .exponent)) s (a .room) (now (a .bytes)) (a .self .limiter))) (c .before .before .before .before .before .before .next-byte .ensures)
-    ∙ sym
-    (pick-true _ _ _
-    (ap (λ (s : ℕ). both (ltb (a .self .counts .memories) 8) (leb (a .room) (length (now (a .bytes)) - s))) (sym (c .before .before .before .before .before .before .next-byte .ensures))
-    ∙ sym (c .before .before .before .before .before .finds-room .ensures)
-    ∙ c .before .before .before .before .if1 .taken))
+    ∙ ap (λ (s : ℕ). memoryMade (a .self) (newMemory (a .wanted) s (a .room) (now (a .bytes)) (a .self .limiter))) (c .before .before .before .before .before .before .next-byte .ensures)
+    ∙ sym (pick-true _ _ _ (ap (λ (s : ℕ). both (ltb (a .self .counts .memories) 8) (leb (a .room) (length (now (a .bytes)) - s))) (sym (c .before .before .before .before .before .before .next-byte .ensures)) ∙ sym (c .before .before .before .before .before .finds-room .ensures) ∙ c .before .before .before .before .if1 .taken))
 
 refuses-requires : tie.Need-refuses-requires
 refuses-requires c κs = search needs
@@ -49,11 +49,7 @@ unfolding newMemoryOn
 returns-2 c =
     let a = c .before .before .before .before .before .args in
     ap (λ (o : Outcome). done o (now (a .bytes))) (c .refuses .ensures)
-    ∙ sym
-    (pick-false _ _ _
-    (ap (λ (s : ℕ). both (ltb (a .self .counts .memories) 8) (leb (a .room) (length (now (a .bytes)) - s))) (sym (c .before .before .before .next-byte .ensures))
-    ∙ sym (c .before .before .finds-room .ensures)
-    ∙ c .before .if1 .left))
+    ∙ sym (pick-false _ _ _ (ap (λ (s : ℕ). both (ltb (a .self .counts .memories) 8) (leb (a .room) (length (now (a .bytes)) - s))) (sym (c .before .before .before .next-byte .ensures)) ∙ sym (c .before .before .finds-room .ensures) ∙ c .before .if1 .left))
 
 pub new-memory-spec : {M : Type 1} → statement M
 new-memory-spec =

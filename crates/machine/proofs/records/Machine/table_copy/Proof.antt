@@ -1,10 +1,11 @@
 -- `machine::records::Machine::table_copy` meets its contract. Assumes nothing.
-use Rattle.machine.specs.Step.{done, copyOn}
-use Rattle.machine.specs.declared.outcome.Outcome.{Outcome}
-use denote.Ref.{now}
-use borrow.Author.Tests.{lt-ltb, le-ltb}
-use Rattle.types.proofs.Picks.{pick-true, pick-false, both-true, both-left, both-right}
 use mathlib.Core.Path.{sym, ap, _∙_}
+use Rattle.types.proofs.Picks.{pick-true, pick-false, both-left, both-right, both-true}
+use borrow.Author.Tests.{lt-ltb, le-ltb}
+use denote.Ref.{now}
+use Rattle.types.specs.Done.{done}
+use Rattle.machine.specs.declared.outcome.Outcome.{Outcome}
+use Rattle.machine.specs.Tables.{copyOn}
 use borrow.Author.Needs.{needs}
 use Rattle.machine.proofs.records.Machine.table_copy.Statement.{statement}
 use Rattle.machine.proofs.records.Machine.table_copy.Tie as tie

@@ -1,15 +1,17 @@
 -- `machine::records::Machine::table_init` meets its contract. Assumes nothing.
-use Rattle.table.specs.Init.{initTable}
-use Rattle.types.specs.Raw.{rawBytes}
-use Rattle.machine.specs.Machine.{tableAt}
-use Rattle.machine.specs.Step.{done, spannedOn, initOn}
-use Rattle.table.specs.declared.element.ElementSegment.{ElementSegment}
-use Rattle.table.specs.declared.table.Table.{Table}
-use Rattle.machine.specs.declared.outcome.Outcome.{Outcome}
-use denote.Ref.{now}
-use borrow.Author.Tests.{lt-ltb, le-ltb}
-use Rattle.types.proofs.Picks.{pick-true, pick-false, both-true, both-left, both-right}
 use mathlib.Core.Path.{sym, ap, _∙_}
+use Rattle.types.proofs.Picks.{pick-true, pick-false, both-left, both-right, both-true}
+use borrow.Author.Tests.{lt-ltb, le-ltb}
+use denote.Ref.{now}
+use Rattle.types.specs.Done.{done}
+use Rattle.machine.specs.declared.outcome.Outcome.{Outcome}
+use Rattle.table.specs.declared.table.Table.{Table}
+use Rattle.types.specs.Raw.{rawBytes}
+use Rattle.table.specs.Init.{initTable}
+use Rattle.table.specs.declared.element.ElementSegment.{ElementSegment}
+use Rattle.machine.specs.Machine.{tableAt}
+use Rattle.machine.specs.Tables.{spannedDone}
+use Rattle.machine.specs.Segments.{initOn}
 use borrow.Author.Needs.{needs}
 use Rattle.machine.proofs.records.Machine.table_init.Statement.{statement}
 use Rattle.machine.proofs.records.Machine.table_init.Tie as tie
@@ -45,11 +47,11 @@ same-length c = search needs
 returns-3 : tie.Need-returns-3
 unfolding initOn
 returns-3 c =
-    let a = c .before .before .before .before .before .before .before .before .before .before .before .before .before .before .args in
+    let a = c .before .before .before .before .before .before .before .before .before .before .before .before .args in
     c .before .before .init-one .ensures
-    ∙ ap (λ (x : Table). spannedOn (a .self .limiter) (initTable rawBytes x (c .before .before .before .before .before .before .segment-at .result) (now (a .cells)) (now (a .items)) (a .to) (a .from) (a .len) (a .self .fuel))) (c .before .before .before .before .before .before .before .table-at .ensures)
-    ∙ ap (λ (x : ElementSegment). spannedOn (a .self .limiter) (initTable rawBytes (tableAt (a .self) (a .number)) x (now (a .cells)) (now (a .items)) (a .to) (a .from) (a .len) (a .self .fuel))) (c .before .before .before .before .before .before .segment-at .ensures)
-    ∙ sym (pick-true _ _ _ (both-true _ _ (lt-ltb _ _ (c .before .before .before .before .before .before .before .before .before .before .if1 .left)) (lt-ltb _ _ (c .before .before .before .before .before .before .before .before .if2 .left))))
+    ∙ ap (λ (x : Table). spannedDone (a .self) (initTable rawBytes x (c .before .before .before .before .segment-at .result) (now (a .cells)) (now (a .items)) (a .span) (a .self .fuel))) (c .before .before .before .before .before .table-at .ensures)
+    ∙ ap (λ (x : ElementSegment). spannedDone (a .self) (initTable rawBytes (tableAt (a .self) (a .number)) x (now (a .cells)) (now (a .items)) (a .span) (a .self .fuel))) (c .before .before .before .before .segment-at .ensures)
+    ∙ sym (pick-true _ _ _ (both-true _ _ (lt-ltb _ _ (c .before .before .before .before .before .before .before .before .if1 .left)) (lt-ltb _ _ (c .before .before .before .before .before .before .if2 .left))))
 
 pub table-init-spec : {M : Type 1} → statement M
 table-init-spec =

@@ -1,5 +1,5 @@
 -- `memory::memory::Memory::grow` meets its contract. Assumes nothing.
-use Rattle.memory.proofs.Stages.{grown-as}
+use Rattle.types.proofs.Dones.{done-as}
 use Rattle.memory.proofs.Readings.{grow-goes, grow-stops}
 use Rattle.types.proofs.Picks.{known-test}
 use borrow.Author.Needs.{needs}
@@ -22,7 +22,7 @@ refused-requires : tie.Need-refused-requires
 refused-requires c κs = search needs
 
 returns-2 : tie.Need-returns-2
-returns-2 c = search (grow-stops, known-test, grown-as)
+returns-2 c = search (grow-stops, known-test, done-as)
 
 pub grow-spec : {M : Type 1} → statement M
 grow-spec =

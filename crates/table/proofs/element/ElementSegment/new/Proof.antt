@@ -1,12 +1,13 @@
 -- `table::element::ElementSegment::new` meets its contract. Assumes nothing.
-use Rattle.table.proofs.Exits.{exits, left-not, made-as}
+use Rattle.table.proofs.Exits.{exits, left-not}
+use Rattle.types.proofs.Dones.{done-as}
 use Rattle.table.proofs.Puts.{cut-all}
 use Rattle.table.proofs.Sounds.{tested-buffer}
 use Rattle.table.specs.Element.{newSegment}
 use Rattle.types.specs.Span.{over}
 use borrow.Author.Needs.{needs}
 use borrow.Author.Tests.{not-false}
-use mathlib.Core.Path.{_∙_, ap}
+use mathlib.Core.Path.{refl, _∙_, ap}
 use native.Mathlib.Omega.{arith}
 use Rattle.table.proofs.element.ElementSegment.new.Statement.{statement}
 use Rattle.table.proofs.element.ElementSegment.new.Tie as tie
@@ -26,7 +27,7 @@ same-length c = search needs
 
 returns-2 : tie.Need-returns-2
 unfolding newSegment
-returns-2 c = left-not _ _ (c .before .before .before .before .before .sound-buffer .ensures) (c .before .before .before .before .if1 .left) (made-as (c .before .before .init-cells .ensures ∙ ap (over _ _) (cut-all _)))
+returns-2 c = left-not _ _ (c .before .before .before .before .before .sound-buffer .ensures) (c .before .before .before .before .if1 .left) (done-as refl (c .before .before .init-cells .ensures ∙ ap (over _ _) (cut-all _)))
 
 pub new-spec : {M : Type 1} → statement M
 new-spec =

@@ -1,7 +1,6 @@
 -- `table::table::Table::copy` meets its contract. Assumes nothing.
 use Rattle.table.proofs.Exits.{exits}
 use Rattle.table.proofs.Sounds.{tested-two}
-use Rattle.table.specs.Stages.{copyStaged}
 use Rattle.table.proofs.Readings.{copy-reads}
 use borrow.Author.Needs.{needs}
 use Rattle.table.proofs.table.Table.copy.Statement.{statement}
@@ -17,14 +16,12 @@ same-length : tie.Need-same-length
 same-length c = search needs
 
 returns : tie.Need-returns
-unfolding copyStaged
 returns c = rw copy-reads (search exits)
 
 not-spanned-requires : tie.Need-not-spanned-requires
 not-spanned-requires c κs = search needs
 
 returns-2 : tie.Need-returns-2
-unfolding copyStaged
 returns-2 c = rw copy-reads (search exits)
 
 pub copy-spec : {M : Type 1} → statement M

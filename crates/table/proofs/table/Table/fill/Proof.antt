@@ -1,7 +1,6 @@
 -- `table::table::Table::fill` meets its contract. Assumes nothing.
 use Rattle.table.proofs.Exits.{exits}
 use Rattle.table.proofs.Sounds.{tested-within}
-use Rattle.table.specs.Stages.{fillStaged}
 use Rattle.table.proofs.Readings.{fill-reads}
 use borrow.Author.Needs.{needs}
 use Rattle.table.proofs.table.Table.fill.Statement.{statement}
@@ -17,14 +16,12 @@ same-length : tie.Need-same-length
 same-length c = search needs
 
 returns : tie.Need-returns
-unfolding fillStaged
 returns c = rw fill-reads (search exits)
 
 not-spanned-requires : tie.Need-not-spanned-requires
 not-spanned-requires c κs = search needs
 
 returns-2 : tie.Need-returns-2
-unfolding fillStaged
 returns-2 c = rw fill-reads (search exits)
 
 pub fill-spec : {M : Type 1} → statement M

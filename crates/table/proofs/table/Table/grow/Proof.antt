@@ -1,7 +1,6 @@
 -- `table::table::Table::grow` meets its contract. Assumes nothing.
 use Rattle.table.proofs.Exits.{exits}
 use Rattle.table.proofs.Sounds.{tested-room}
-use Rattle.table.specs.Stages.{growStaged}
 use Rattle.table.proofs.Readings.{grow-reads}
 use borrow.Author.Needs.{needs}
 use Rattle.table.proofs.table.Table.grow.Statement.{statement}
@@ -17,14 +16,12 @@ same-length : tie.Need-same-length
 same-length c = search needs
 
 returns : tie.Need-returns
-unfolding growStaged
 returns c = rw grow-reads (search exits)
 
 refused-requires : tie.Need-refused-requires
 refused-requires c κs = search needs
 
 returns-2 : tie.Need-returns-2
-unfolding growStaged
 returns-2 c = rw grow-reads (search exits)
 
 pub grow-spec : {M : Type 1} → statement M

@@ -1,7 +1,6 @@
 -- `table::table::Table::init` meets its contract. Assumes nothing.
 use Rattle.table.proofs.Exits.{exits}
 use Rattle.table.proofs.Sounds.{tested-pair}
-use Rattle.table.specs.Stages.{initStaged}
 use Rattle.table.proofs.Readings.{init-reads}
 use borrow.Author.Needs.{needs}
 use Rattle.table.proofs.table.Table.init.Statement.{statement}
@@ -17,14 +16,12 @@ same-length : tie.Need-same-length
 same-length c = search needs
 
 returns : tie.Need-returns
-unfolding initStaged
 returns c = rw init-reads (search exits)
 
 not-spanned-requires : tie.Need-not-spanned-requires
 not-spanned-requires c κs = search needs
 
 returns-2 : tie.Need-returns-2
-unfolding initStaged
 returns-2 c = rw init-reads (search exits)
 
 pub init-spec : {M : Type 1} → statement M

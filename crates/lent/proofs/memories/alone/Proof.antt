@@ -1,0 +1,21 @@
+-- `lent::memories::alone` meets its contract. Assumes nothing.
+use mathlib.Core.Path.{ap}
+use Rattle.machine.specs.Machine.{freshMachine}
+use Rattle.machine.specs.declared.records.Machine.{Machine}
+use Rattle.lent.specs.stages.Growth.{memoriesAlone}
+use borrow.Author.Needs.{needs}
+use Rattle.lent.proofs.memories.alone.Statement.{statement}
+use Rattle.lent.proofs.memories.alone.Tie as tie
+
+new-requires : tie.Need-new-requires
+new-requires c κs = search needs
+
+returns : tie.Need-returns
+unfolding memoriesAlone freshMachine
+returns c =
+    let a = c .before .before .before .before .args in
+    ap {B = Machine} (λ (m : Machine). record { memories = a .memories; tables = m .tables; segments = m .segments; counts = record { memories = a .count; tables = 0; segments = 0 }; fuel = a .fuel; limiter = a .limiter })
+    (c .before .before .new .ensures)
+
+pub alone-spec : {M : Type 1} → statement M
+alone-spec = tie.close (tie.spec new-requires returns)

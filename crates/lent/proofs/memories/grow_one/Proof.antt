@@ -1,0 +1,19 @@
+-- `lent::memories::grow_one` meets its contract. Assumes nothing.
+use mathlib.Core.Path.{ap}
+use Rattle.lent.specs.stages.Growth.{memoryBack}
+use borrow.Author.Needs.{needs}
+use Rattle.lent.proofs.memories.grow_one.Statement.{statement}
+use Rattle.lent.proofs.memories.grow_one.Tie as tie
+
+grow-requires : tie.Need-grow-requires
+grow-requires c κs = search needs
+
+same-length : tie.Need-same-length
+same-length c = search needs
+
+returns : tie.Need-returns
+unfolding memoryBack
+returns c = ap (memoryBack _) (c .before .before .before .before .before .grow .ensures)
+
+pub grow-one-spec : {M : Type 1} → statement M
+grow-one-spec = tie.close (tie.spec grow-requires same-length returns)

@@ -1,0 +1,54 @@
+-- `lines::write::segment_back` meets its contract. Assumes nothing.
+use Rattle.lines.proofs.BackLaws.{back-0, back-1, back-2, back-3, back-4}
+use borrow.Author.Needs.{needs}
+use Rattle.lines.proofs.write.segment_back.Statement.{statement}
+use Rattle.lines.proofs.write.segment_back.Tie as tie
+
+kind-number-requires : tie.Need-kind-number-requires
+kind-number-requires c κs = search needs
+
+fielded-requires : tie.Need-fielded-requires
+fielded-requires c κs = search needs
+
+fielded-requires-2 : tie.Need-fielded-requires-2
+fielded-requires-2 c κs = search needs
+
+fielded-requires-3 : tie.Need-fielded-requires-3
+fielded-requires-3 c κs = search needs
+
+fielded-requires-4 : tie.Need-fielded-requires-4
+fielded-requires-4 c κs = search needs
+
+fielded-requires-5 : tie.Need-fielded-requires-5
+fielded-requires-5 c κs = search needs
+
+returns : tie.Need-returns
+returns c = back-0 _ _ _ _ (c .before .match .keys1) (c .before .before .kind-number .ensures) (c .fielded .ensures)
+
+returns-2 : tie.Need-returns-2
+returns-2 c = back-1 _ _ _ _ (c .before .match .keys2) (c .before .before .kind-number .ensures) (c .fielded2 .ensures)
+
+returns-3 : tie.Need-returns-3
+returns-3 c = back-2 _ _ _ _ (c .before .match .keys3) (c .before .before .kind-number .ensures) (c .fielded3 .ensures)
+
+returns-4 : tie.Need-returns-4
+returns-4 c = back-3 _ _ _ _ (c .before .match .keys4) (c .before .before .kind-number .ensures) (c .fielded4 .ensures)
+
+returns-5 : tie.Need-returns-5
+returns-5 c = let r = c .before .match .rest in back-4 _ _ _ _ (r .0 .0 .0 .1) (r .0 .0 .1) (r .0 .1) (r .1) (c .before .before .kind-number .ensures) (c .fielded5 .ensures)
+
+pub segment-back-spec : {M : Type 1} → statement M
+segment-back-spec =
+    tie.close
+    (tie.spec
+    kind-number-requires
+    fielded-requires
+    fielded-requires-2
+    fielded-requires-3
+    fielded-requires-4
+    fielded-requires-5
+    returns
+    returns-2
+    returns-3
+    returns-4
+    returns-5)

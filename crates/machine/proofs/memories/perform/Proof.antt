@@ -1,0 +1,99 @@
+-- `machine::memories::perform` meets its contract. Assumes nothing.
+use Rattle.machine.specs.Memories.{performMemory}
+use borrow.Author.Needs.{needs}
+use Rattle.machine.proofs.memories.perform.Statement.{statement}
+use Rattle.machine.proofs.memories.perform.Tie as tie
+
+enum-known-op : tie.Need-enum-known-op
+enum-known-op c = search needs
+
+grow-requires : tie.Need-grow-requires
+grow-requires c κs = search needs
+
+enum-told : tie.Need-enum-told
+enum-told c = search needs
+
+size-requires : tie.Need-size-requires
+size-requires c κs = search needs
+
+keep-requires : tie.Need-keep-requires
+keep-requires c κs = search needs
+
+enum-known-op-2 : tie.Need-enum-known-op-2
+enum-known-op-2 c = search needs
+
+load-requires : tie.Need-load-requires
+load-requires c κs = search needs
+
+keep-requires-2 : tie.Need-keep-requires-2
+keep-requires-2 c κs = search needs
+
+enum-known-op-3 : tie.Need-enum-known-op-3
+enum-known-op-3 c = search needs
+
+store-requires : tie.Need-store-requires
+store-requires c κs = search needs
+
+enum-known-op-4 : tie.Need-enum-known-op-4
+enum-known-op-4 c = search needs
+
+link-requires : tie.Need-link-requires
+link-requires c κs = search needs
+
+keep-requires-3 : tie.Need-keep-requires-3
+keep-requires-3 c κs = search needs
+
+same-length : tie.Need-same-length
+same-length c = search needs
+
+returns : tie.Need-returns
+unfolding performMemory
+returns c = rw (c .before .before .before .before .before .op .given .1) (c .before .before .grow .ensures)
+
+returns-2 : tie.Need-returns-2
+unfolding performMemory
+returns-2 c = rw (c .before .before .enum-told .given .1) cc
+
+same-length-2 : tie.Need-same-length-2
+same-length-2 c = search needs
+
+returns-3 : tie.Need-returns-3
+unfolding performMemory
+returns-3 c = rw (c .before .before .before .before .op2 .given .1) cc
+
+same-length-3 : tie.Need-same-length-3
+same-length-3 c = search needs
+
+returns-4 : tie.Need-returns-4
+unfolding performMemory
+returns-4 c = rw (c .before .before .before .before .before .op3 .given .1) (c .before .before .store .ensures)
+
+returns-5 : tie.Need-returns-5
+unfolding performMemory
+returns-5 c = rw (c .before .before .before .op4 .given .1) cc
+
+pub perform-spec : {M : Type 1} → statement M
+perform-spec =
+    tie.close
+    (tie.spec
+    enum-known-op
+    grow-requires
+    enum-told
+    size-requires
+    keep-requires
+    enum-known-op-2
+    load-requires
+    keep-requires-2
+    enum-known-op-3
+    store-requires
+    enum-known-op-4
+    link-requires
+    keep-requires-3
+    same-length
+    returns
+    returns-2
+    same-length-2
+    returns-3
+    same-length-3
+    returns-4
+    returns-5)

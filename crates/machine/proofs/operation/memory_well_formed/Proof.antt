@@ -1,0 +1,60 @@
+-- `machine::operation::memory_well_formed` meets its contract. Assumes nothing.
+use mathlib.Core.Path.{refl}
+use Rattle.machine.specs.Operation.{memoryWellFormed}
+use borrow.Author.Needs.{needs}
+use Rattle.machine.proofs.operation.memory_well_formed.Statement.{statement}
+use Rattle.machine.proofs.operation.memory_well_formed.Tie as tie
+
+enum-told : tie.Need-enum-told
+enum-told c = search needs
+
+enum-told-2 : tie.Need-enum-told-2
+enum-told-2 c = search needs
+
+enum-told-3 : tie.Need-enum-told-3
+enum-told-3 c = search needs
+
+enum-known-op : tie.Need-enum-known-op
+enum-known-op c = search needs
+
+store-fields-requires : tie.Need-store-fields-requires
+store-fields-requires c κs = search needs
+
+enum-told-4 : tie.Need-enum-told-4
+enum-told-4 c = search needs
+
+returns : tie.Need-returns
+unfolding memoryWellFormed
+returns c = rw (c .enum-told .given .1) refl
+
+returns-2 : tie.Need-returns-2
+unfolding memoryWellFormed
+returns-2 c = rw (c .enum-told2 .given .1) refl
+
+returns-3 : tie.Need-returns-3
+unfolding memoryWellFormed
+returns-3 c = rw (c .enum-told3 .given .1) refl
+
+returns-4 : tie.Need-returns-4
+unfolding memoryWellFormed
+returns-4 c = rw (c .before .before .op .given .1) (c .store-fields .ensures)
+
+returns-5 : tie.Need-returns-5
+unfolding memoryWellFormed
+returns-5 c = rw (c .enum-told4 .given .1) refl
+
+pub memory-well-formed-spec : {M : Type 1} → statement M
+memory-well-formed-spec =
+    tie.close
+    (tie.spec
+    enum-told
+    enum-told-2
+    enum-told-3
+    enum-known-op
+    store-fields-requires
+    enum-told-4
+    returns
+    returns-2
+    returns-3
+    returns-4
+    returns-5)
