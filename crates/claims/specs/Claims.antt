@@ -81,7 +81,7 @@ pub record Claims : Type 0 where
       → operate-reads.Post κs a x s
       → stepped (x .answer) (x .machine) (now (s .1 .0)) (now (s .1 .1 .0)) (now (s .1 .1 .1 .0))
       ≡ step rawBytes (a .0) (buffers (now (a .1 .0)) (now (a .1 .1 .0)) (now (a .1 .1 .1 .0))) (a .1 .1 .1 .1 .0)
-  -- The same of one operation on records in lent lists and lent fuel.
+  -- The same of `operate_kept`, which runs an operation through records in lent lists and lent fuel.
   pub lent-is-step : (κs : Lfts 3) (a : Dens κs lent-kinds.ps) (x : resT lent-kinds.r κs .Denot) (s : AtExit (endedOf 3 lent-kinds.ps lent-kinds.r) κs)
       → lent-reads.Post κs a x s
       → stepped (x .answer) (x .machine) (now (s .1 .0)) (now (s .1 .1 .0)) (now (s .1 .1 .1 .0))

@@ -1,4 +1,4 @@
--- What the code of a session gives back for a piece, beside the buffers that it is lent.
+-- Document 01, "Operation lines", a session in pieces: what is given back for one, beside the buffers that are lent.
 use Prim.Native.Nat.{ℕ}
 use mathlib.Core.Bool.{Bool}
 use mathlib.Core.List.{List}

@@ -1,4 +1,4 @@
--- What an operation line can say: fields below 2^64, an absent maximum 0, an exponent of at most 255, and of a segment at most 4 items, zeros past them.
+-- Document 01, "Operation lines", what a line can say: fields below 2^64, an absent maximum 0, an exponent of at most 255, and of a segment at most 4 items, zeros past them.
 use Prim.Native.Nat.{ℕ, _^_, _<_, _≤_}
 use mathlib.Core.Path.{_≡_}
 use mathlib.Core.Bool.{true, false}
