@@ -1,13 +1,7 @@
 -- Document 01, "The machine": an operation's answer depends on the instances that it names, and on others only through fuel, script, room, numbers and segments.
-use Prim.Native.Nat.{ℕ, _-_}
-use mathlib.Core.Path.{_≡_}
-use lib.ListN.{length}
-use Rattle.types.specs.Span.{cut}
-use Rattle.machine.specs.Machine.{Buffers, memoryAt, tableAt, nextByte, nextCell}
-use Rattle.machine.specs.Step.{Stepped}
-use Rattle.machine.specs.declared.records.Machine.{Machine}
-use Rattle.machine.specs.declared.operation.Operation.{Operation}
-use Rattle.machine.specs.declared.operation.Operation.the-variants as op
+use Rattle.types.specs.Prelude.{ℕ, _-_, _≡_, length}
+use Rattle.types.specs.Names.{cut}
+use Rattle.machine.specs.Names.{Buffers, memoryAt, tableAt, nextByte, nextCell, Stepped, Machine, Operation}
 
 -- a memory of two machines: its type, room, size and bytes, wherever it stands
 pub record SameMemory (m : Machine) (b : Buffers) (m′ : Machine) (b′ : Buffers) (i : ℕ) : Type 0 where
@@ -35,15 +29,15 @@ pub record SameRest (m : Machine) (b : Buffers) (m′ : Machine) (b′ : Buffers
 
 -- the instances that an operation names are the same: of a copy both tables
 unfoldable pub SameNamed : Machine → Buffers → Machine → Buffers → Operation → Type 0
-SameNamed m b m′ b′ (op.Fuel o) = Unit
-SameNamed m b m′ b′ (op.NewMemory room wanted) = Unit
-SameNamed m b m′ b′ (op.Memory number o) = SameMemory m b m′ b′ number
-SameNamed m b m′ b′ (op.NewTable room wanted initial) = Unit
-SameNamed m b m′ b′ (op.Table number o) = SameTable m b m′ b′ number
-SameNamed m b m′ b′ (op.TableCopy into source span) = SameTable m b m′ b′ into × SameTable m b m′ b′ source
-SameNamed m b m′ b′ (op.TableInit table segment span) = SameTable m b m′ b′ table
-SameNamed m b m′ b′ (op.DropSegment segment) = Unit
-SameNamed m b m′ b′ (op.NewSegment element items) = Unit
+SameNamed m b m′ b′ (Operation.Fuel o) = Unit
+SameNamed m b m′ b′ (Operation.NewMemory room wanted) = Unit
+SameNamed m b m′ b′ (Operation.Memory number o) = SameMemory m b m′ b′ number
+SameNamed m b m′ b′ (Operation.NewTable room wanted initial) = Unit
+SameNamed m b m′ b′ (Operation.Table number o) = SameTable m b m′ b′ number
+SameNamed m b m′ b′ (Operation.TableCopy into source span) = SameTable m b m′ b′ into × SameTable m b m′ b′ source
+SameNamed m b m′ b′ (Operation.TableInit table segment span) = SameTable m b m′ b′ table
+SameNamed m b m′ b′ (Operation.DropSegment segment) = Unit
+SameNamed m b m′ b′ (Operation.NewSegment element items) = Unit
 
 -- two outcomes that a host cannot tell apart: answer, fuel and script
 pub record SameOutcome (s s′ : Stepped) : Type 0 where

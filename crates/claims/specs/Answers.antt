@@ -1,17 +1,10 @@
 -- Document 01, "Numbers given back": an answer is either a value or a refusal with its number; amounts other than for 7 are 0.
-use Prim.Native.Nat.{ℕ}
-use mathlib.Core.Bool.{Bool, true, false}
-use mathlib.Core.List.{List, [], _∷_}
-use lib.Dec.{eqb, leb}
-use Rattle.types.specs.Pick.{pick, both}
-use Rattle.types.specs.Answer.{numberOf}
-use Rattle.types.specs.declared.answer.Refusal.{Refusal}
-use Rattle.types.specs.declared.answer.Answer.{Answer}
-use Rattle.types.specs.declared.answer.Answer.the-variants as answer
+use Rattle.types.specs.Prelude.{ℕ, Bool, true, false, List, [], _∷_, eqb, leb}
+use Rattle.types.specs.Names.{pick, both, numberOf, Refusal, Answer}
 
 unfoldable pub accepted : Answer → Bool
-accepted (answer.Value v) = true
-accepted (answer.Refusal r) = false
+accepted (Answer.Value v) = true
+accepted (Answer.Refusal r) = false
 
 -- the list's refusals are numbered 1 to 19, and only 7 has an amount
 unfoldable pub listed : Refusal → Bool
@@ -19,8 +12,8 @@ listed r = both (both (leb 1 (r .number)) (leb (r .number) 19)) (pick (eqb (r .n
 
 -- a value, or a refusal of the list
 unfoldable pub valueOrListed : Answer → Bool
-valueOrListed (answer.Value v) = true
-valueOrListed (answer.Refusal r) = listed r
+valueOrListed (Answer.Value v) = true
+valueOrListed (Answer.Refusal r) = listed r
 
 -- no answer of a list has this number
 unfoldable pub never : ℕ → List Answer → Bool

@@ -1,25 +1,8 @@
 -- Demand 3, and document 01, "Fuel": an accepted growth, fill, copy or init writes its whole byte length; a refused one nothing.
-use Prim.Native.Nat.{ℕ, _+_, _-_, _*_}
-use mathlib.Core.Bool.{true, false}
-use mathlib.Core.List.{List, [], _∷_}
-use lib.Dec.{eqb}
-use lib.ListN.{replicate}
-use Rattle.types.specs.Pick.{pick, both}
-use Rattle.types.specs.declared.fuel.FuelCosts.{FuelCosts}
-use Rattle.machine.specs.Machine.{Buffers, buffers, noLimits}
-use Rattle.machine.specs.Step.{step}
-use Rattle.machine.specs.declared.records.Machine.{Machine}
-use Rattle.machine.specs.declared.operation.Operation.{Operation}
-use Rattle.machine.specs.declared.operation.Operation.the-variants as op
-use Rattle.machine.specs.declared.operation.FuelOp.the-variants as fuel
-use Rattle.machine.specs.declared.operation.MemoryOp.the-variants as memory
-use Rattle.machine.specs.declared.operation.TableOp.the-variants as table
-use Rattle.types.specs.Raw.{typedOf}
-use Rattle.types.specs.declared.raw.RefType.the-variants as ref
-use Rattle.types.specs.declared.raw.TypedRawRef.{TypedRawRef}
-use Rattle.types.specs.Fuel.{defaultCosts}
-use Rattle.claims.specs.Answers.{accepted}
-use Rattle.claims.specs.Metered.{meteringOf, meets, bytesOf, passes}
+use Rattle.types.specs.Prelude.{ℕ, _+_, _-_, _*_, true, false, List, [], _∷_, eqb, replicate}
+use Rattle.types.specs.Names.{pick, both, typedOf, defaultCosts, FuelCosts, RefType, TypedRawRef}
+use Rattle.machine.specs.Names.{Buffers, buffers, noLimits, step, Machine, Operation, FuelOp, MemoryOp, TableOp}
+use Rattle.claims.specs.{Answers.accepted, Metered.meteringOf, Metered.meets, Metered.bytesOf, Metered.passes}
 
 -- over a list of operations: the bytes written, F and K
 pub record Totals : Type 0 where
@@ -53,18 +36,18 @@ mostBytes b f k = b * f + (b - 1) * k
 
 -- the null reference to a function
 abbrev pub noFunction : TypedRawRef
-noFunction = typedOf (record { bits = 0 }) ref.Func
+noFunction = typedOf (record { bits = 0 }) RefType.Func
 
 -- a pass of n bytes: a growth by n pages of one byte, or a fill of length 0
 unfoldable pub pass : ℕ → Operation
-pass n = pick (eqb n 0) (op.Table 0 (table.Fill 0 noFunction 0)) (op.Memory 0 (memory.Grow n))
+pass n = pick (eqb n 0) (Operation.Table 0 (TableOp.Fill 0 noFunction 0)) (Operation.Memory 0 (MemoryOp.Grow n))
 
 -- a run that writes as many bytes as the bound allows: f units in the first pass, and each pass as long as its price allows
 unfoldable pub fullestRun : ℕ → ℕ → ℕ → List Operation
 fullestRun b f k =
-    op.Fuel (fuel.SetFuel f)
-    ∷ op.NewMemory (mostBytes b f k) (record { wide = true; limits = noLimits; exponent = 0 })
-    ∷ op.NewTable 0 (record { element = ref.Func; wide = false; limits = noLimits }) noFunction
+    Operation.Fuel (FuelOp.SetFuel f)
+    ∷ Operation.NewMemory (mostBytes b f k) (record { wide = true; limits = noLimits; exponent = 0 })
+    ∷ Operation.NewTable 0 (record { element = RefType.Func; wide = false; limits = noLimits }) noFunction
     ∷ pass (b * f + (b - 1))
     ∷ replicate (k - 1) (pass (b - 1))
 

@@ -1,29 +1,8 @@
 -- Document 01, "Checked by proof", P1 to P11: the definitions, computed, as one list with one claim.
-use Prim.Native.Nat.{ℕ, _+_, _-_, _*_, _^_}
-use mathlib.Core.Bool.{Bool, true, false}
-use mathlib.Core.List.{List, [], _∷_, _++_}
-use lib.Dec.{eqb, ltb}
-use lib.ListN.{replicate}
-use Rattle.types.specs.Pick.{pick, both}
-use Rattle.types.specs.Price.{price}
-use Rattle.types.specs.Answer.{numberOf, shownOf}
-use Rattle.types.specs.declared.answer.Answer.{Answer}
-use Rattle.types.specs.IndexType.{maxSize}
-use Rattle.types.specs.MemoryType.{buildMemory}
-use Rattle.types.specs.Raw.{rawBytes}
-use Rattle.types.specs.declared.index_ty.IndexType.the-variants.{I32}
-use Rattle.types.specs.declared.limits.Limits.{Limits}
-use Rattle.types.specs.declared.memory_ty.BuiltMemory.{BuiltMemory}
-use Rattle.types.specs.declared.memory_ty.BuiltMemory.the-variants.{Built, Refused}
-use Rattle.types.specs.declared.raw.RefType.the-variants as ref
-use Rattle.memory.specs.declared.access.LoadKind.the-variants as load
-use Rattle.memory.specs.declared.access.StoreKind.the-variants as store
-use Rattle.machine.specs.Machine.{buffers, freshMachine}
-use Rattle.machine.specs.Step.{run}
-use Rattle.machine.specs.declared.operation.Operation.{Operation}
-use Rattle.machine.specs.declared.operation.Operation.the-variants as op
-use Rattle.machine.specs.declared.operation.FuelOp.the-variants as fuel
-use Rattle.machine.specs.declared.operation.MemoryOp.the-variants as memory
+use Rattle.types.specs.Prelude.{ℕ, _+_, _-_, _*_, _^_, Bool, true, false, List, [], _∷_, _++_, eqb, ltb, replicate}
+use Rattle.types.specs.Names.{pick, both, price, numberOf, shownOf, maxSize, buildMemory, rawBytes, Answer, IndexType, Limits, BuiltMemory, RefType}
+use Rattle.memory.specs.Names.{LoadKind, StoreKind}
+use Rattle.machine.specs.Names.{buffers, freshMachine, run, Operation, FuelOp, MemoryOp}
 use Rattle.claims.specs.Bound.{noFunction, bytesPerUnit}
 
 -- every test of a list holds
@@ -33,8 +12,8 @@ allHold (b ∷ bs) = both b (allHold bs)
 
 -- the number that building a type gives
 unfoldable pub builtNumber : BuiltMemory → ℕ
-builtNumber (Built t) = 0
-builtNumber (Refused r) = r .number
+builtNumber (BuiltMemory.Built t) = 0
+builtNumber (BuiltMemory.Refused r) = r .number
 
 abbrev pub atLeast : ℕ → Limits
 atLeast n = record { minimum = n; bounded = false; maximum = 0 }
@@ -61,19 +40,19 @@ same (x ∷ xs) (y ∷ ys) = both (eqb x y) (same xs ys)
 -- a table of two cells and a segment of two items
 abbrev pub tableAndSegment : List Operation
 tableAndSegment =
-    op.NewTable 2 (record { element = ref.Func; wide = false; limits = atLeast 2 }) noFunction
-    ∷ op.NewSegment ref.Func (record { count = 2; first = 7; second = 8; third = 0; fourth = 0 })
+    Operation.NewTable 2 (record { element = RefType.Func; wide = false; limits = atLeast 2 }) noFunction
+    ∷ Operation.NewSegment RefType.Func (record { count = 2; first = 7; second = 8; third = 0; fourth = 0 })
     ∷ []
 
 -- an init of length 0
 abbrev pub init : ℕ → Operation
-init to = op.TableInit 0 0 (record { to = to; from = 0; len = 0 })
+init to = Operation.TableInit 0 0 (record { to = to; from = 0; len = 0 })
 
 -- a memory of one byte that holds ff
 abbrev pub byteFf : List Operation
 byteFf =
-    op.NewMemory 1 (record { wide = false; limits = atLeast 1; exponent = 0 })
-    ∷ op.Memory 0 (memory.Store store.I32To8 0 0 255)
+    Operation.NewMemory 1 (record { wide = false; limits = atLeast 1; exponent = 0 })
+    ∷ Operation.Memory 0 (MemoryOp.Store StoreKind.I32To8 0 0 255)
     ∷ []
 
 unfoldable pub cases : List Bool
@@ -94,16 +73,16 @@ cases =
     ∷ eqb (builtNumber (buildMemory false (upTo (2 ^ 32 + 1)) 0)) 1
     -- P6: 64-bit, exponent 16, minimum 2^48: valid type, creation gives 2
     ∷ eqb (builtNumber (buildMemory true (atLeast (2 ^ 48)) 16)) 0
-    ∷ same (answered 64 (op.NewMemory 0 (record { wide = true; limits = atLeast (2 ^ 48); exponent = 16 }) ∷ [])) (2 ∷ 0 ∷ [])
+    ∷ same (answered 64 (Operation.NewMemory 0 (record { wide = true; limits = atLeast (2 ^ 48); exponent = 16 }) ∷ [])) (2 ∷ 0 ∷ [])
     -- P7: init of length 0 at the size passes, one further 13
     ∷ same (answered 64 (tableAndSegment ++ (init 2 ∷ init 3 ∷ []))) (0 ∷ 0 ∷ 0 ∷ 0 ∷ 0 ∷ 0 ∷ 13 ∷ 0 ∷ [])
     -- P8: B 0, fuel 5: copy of length 0 gives 7 with 2^64-1, init of length 0 passes
-    ∷ same (answered 0 (op.Fuel (fuel.SetFuel 5) ∷ (tableAndSegment ++ (op.TableCopy 0 0 (record { to = 0; from = 0; len = 0 }) ∷ init 0 ∷ [])))) (0 ∷ 0 ∷ 0 ∷ 0 ∷ 0 ∷ 0 ∷ 7 ∷ (2 ^ 64 - 1) ∷ 0 ∷ 0 ∷ [])
+    ∷ same (answered 0 (Operation.Fuel (FuelOp.SetFuel 5) ∷ (tableAndSegment ++ (Operation.TableCopy 0 0 (record { to = 0; from = 0; len = 0 }) ∷ init 0 ∷ [])))) (0 ∷ 0 ∷ 0 ∷ 0 ∷ 0 ∷ 0 ∷ 7 ∷ (2 ^ 64 - 1) ∷ 0 ∷ 0 ∷ [])
     -- P9: byte ff: i32 from 8s is -1, i64 from 8u is 255
-    ∷ same (answered 64 (byteFf ++ (op.Memory 0 (memory.Load load.I32From8S 0 0) ∷ op.Memory 0 (memory.Load load.I64From8U 0 0) ∷ []))) (0 ∷ 0 ∷ 0 ∷ 0 ∷ 0 ∷ (2 ^ 32 - 1) ∷ 0 ∷ 255 ∷ [])
+    ∷ same (answered 64 (byteFf ++ (Operation.Memory 0 (MemoryOp.Load LoadKind.I32From8S 0 0) ∷ Operation.Memory 0 (MemoryOp.Load LoadKind.I64From8U 0 0) ∷ []))) (0 ∷ 0 ∷ 0 ∷ 0 ∷ 0 ∷ (2 ^ 32 - 1) ∷ 0 ∷ 255 ∷ [])
     -- P10: pointer 2^64-1, offset 1: 9
-    ∷ same (answered 64 (byteFf ++ (op.Memory 0 (memory.Load load.I32From8U (2 ^ 64 - 1) 1) ∷ []))) (0 ∷ 0 ∷ 0 ∷ 0 ∷ 9 ∷ 0 ∷ [])
+    ∷ same (answered 64 (byteFf ++ (Operation.Memory 0 (MemoryOp.Load LoadKind.I32From8U (2 ^ 64 - 1) 1) ∷ []))) (0 ∷ 0 ∷ 0 ∷ 0 ∷ 9 ∷ 0 ∷ [])
     -- P11: 32-bit table bound: 2^32-2 plus 1 passes, plus 2 gives 6
-    ∷ eqb (pick (ltb (2 ^ 32 - 2 + 1) (maxSize I32)) 0 6) 0
-    ∷ eqb (pick (ltb (2 ^ 32 - 2 + 2) (maxSize I32)) 0 6) 6
+    ∷ eqb (pick (ltb (2 ^ 32 - 2 + 1) (maxSize IndexType.I32)) 0 6) 0
+    ∷ eqb (pick (ltb (2 ^ 32 - 2 + 2) (maxSize IndexType.I32)) 0 6) 6
     ∷ []

@@ -1,41 +1,23 @@
 -- What the project promises, over any machine, any buffers and any operations, down to the bytes of a session. `claims` in proofs/Claims.antt is its one value.
-use Prim.Native.Nat.{ℕ, _+_, _-_, _^_, _≤_, _<_}
-use mathlib.Core.Path.{_≡_}
-use mathlib.Core.Bool.{Bool, true, false}
-use mathlib.Core.List.{List, []}
+use Rattle.types.specs.Prelude.{ℕ, _+_, _^_, _≤_, _<_, _≡_, Bool, true, false, List, [], length}
 use contract.Lifetimes.{Lfts}
 use borrow.Fn.Kinds.{Dens, resT, endedOf}
 use denote.Triple.Clauses.{AtExit}
 use denote.Ref.{now}
-use lib.ListN.{length}
-use Rattle.types.specs.declared.fuel.FuelCosts.{FuelCosts}
-use Rattle.types.specs.Raw.{rawBytes}
-use Rattle.machine.specs.Machine.{Buffers, buffers, freshMachine}
-use Rattle.machine.specs.Sound.{soundReferences, soundOver}
-use Rattle.machine.specs.Step.{stepped, step, run}
-use Rattle.machine.specs.Frame.{OthersStay, OnlySizes}
-use Rattle.machine.specs.declared.records.Machine.{Machine}
-use Rattle.machine.specs.declared.operation.Operation.{Operation}
+use Rattle.types.specs.Names.{rawBytes, FuelCosts}
+use Rattle.machine.specs.Names.{Buffers, buffers, freshMachine, soundReferences, soundOver, stepped, step, run, OthersStay, OnlySizes}
+use Rattle.machine.specs.Names.{Machine, Operation}
 use Rattle.machine.proofs.records.Machine.operate.Reads as operate-reads
 use Rattle.machine.proofs.records.Machine.operate.Kinds as operate-kinds
+use Rattle.lines.specs.{Code.readLine, Writing.writeLine, Sayable.Sayable, Session.Held, Session.linesOf, Session.session, Pieces.Feed}
+use Rattle.lines.specs.{Pieces.fedAll, Pieces.whole, declared.code.Read.Read}
+use Rattle.lines.proofs.Pieces.{started}
 use Rattle.lent.proofs.operate.operate_kept.Reads as lent-reads
 use Rattle.lent.proofs.operate.operate_kept.Kinds as lent-kinds
-use Rattle.lines.specs.Code.{readLine}
-use Rattle.lines.specs.Writing.{writeLine}
-use Rattle.lines.specs.Sayable.{Sayable}
-use Rattle.lines.specs.Session.{Held, linesOf, session}
-use Rattle.lines.specs.Pieces.{Feed, fedAll, whole}
-use Rattle.lines.proofs.Pieces.{started}
-use Rattle.lines.specs.declared.code.Read.the-variants as read
-use Rattle.claims.specs.Answers.{accepted, valueOrListed, never}
-use Rattle.claims.specs.Refused.{Leaves}
-use Rattle.claims.specs.Occasions.{acceptedWhen}
-use Rattle.claims.specs.Effects.{acceptedStep}
-use Rattle.claims.specs.Bound.{totals, mostBytes, fullestRun, zeros, bytesPerUnit}
-use Rattle.claims.specs.Ledger.{blank, limiterSays, book}
-use Rattle.claims.specs.Cases.{allHold, cases}
-use Rattle.claims.specs.Sessions.{readAll, replies, answersIn, sessionText}
-use Rattle.claims.specs.Alike.{SameRest, SameNamed, SameOutcome}
+use Rattle.claims.specs.{Answers.accepted, Answers.valueOrListed, Answers.never, Refused.Leaves, Occasions.acceptedWhen, Effects.acceptedStep}
+use Rattle.claims.specs.{Bound.totals, Bound.mostBytes, Bound.fullestRun, Bound.zeros, Bound.bytesPerUnit, Ledger.blank, Ledger.limiterSays}
+use Rattle.claims.specs.{Ledger.book, Cases.allHold, Cases.cases, Sessions.readAll, Sessions.replies, Sessions.answersIn}
+use Rattle.claims.specs.{Sessions.sessionText, Alike.SameRest, Alike.SameNamed, Alike.SameOutcome}
 
 -- R, the bytes that a reference counts, is a number of its own in every claim; the machine's is 4
 pub record Claims : Type 0 where
@@ -94,7 +76,7 @@ pub record Claims : Type 0 where
   pub any-cut : (r : ℕ) (h : Held) (xs : List Feed) → fedAll r (started h) xs .skip ≡ false → fedAll r (started h) xs .tail ≡ []
       → fedAll r (started h) xs .sent ≡ session r h (whole xs)
   -- An operation line is read as it is written, and in no other way.
-  pub read-write : (op : Operation) → Sayable op → readLine (writeLine op) ≡ read.Operation op
-  pub read-unique : (l : List ℕ) (op : Operation) → readLine l ≡ read.Operation op → l ≡ writeLine op
+  pub read-write : (op : Operation) → Sayable op → readLine (writeLine op) ≡ Read.Operation op
+  pub read-unique : (l : List ℕ) (op : Operation) → readLine l ≡ Read.Operation op → l ≡ writeLine op
   -- The worked cases P1 to P11 of document 01, computed.
   pub worked-cases : allHold cases ≡ true

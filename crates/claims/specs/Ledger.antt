@@ -1,23 +1,10 @@
 -- Demand 3's ledger: the amount last set and the charges since, from the operations, their answers and the limiter's alone.
-use Prim.Native.Nat.{ℕ, _+_, _-_, _*_, _^_}
-use mathlib.Core.Bool.{Bool, true}
-use mathlib.Core.List.{List, [], _∷_, _++_}
-use lib.Dec.{eqb, leb, ltb}
-use lib.ListN.{getD, set}
-use Rattle.types.specs.Pick.{pick, both}
-use Rattle.types.specs.Price.{price}
-use Rattle.types.specs.Answer.{numberOf}
-use Rattle.types.specs.Limiter.{saysOf}
-use Rattle.types.specs.declared.answer.Answer.{Answer}
-use Rattle.types.specs.Limits.{admitsOf}
-use Rattle.types.specs.declared.limits.Limits.{Limits}
-use Rattle.machine.specs.Machine.{Buffers, noLimits}
-use Rattle.machine.specs.Step.{step}
-use Rattle.machine.specs.declared.records.Machine.{Machine}
-use Rattle.machine.specs.declared.operation.Operation.{Operation}
-use Rattle.machine.specs.declared.operation.Operation.the-variants as op
+use Rattle.types.specs.Prelude.{ℕ, _+_, _-_, _*_, _^_, Bool, true, List, [], _∷_, _++_, eqb, leb, ltb, getD, set}
+use Rattle.types.specs.Names.{pick, both, price, numberOf, saysOf, admitsOf, Answer, Limits}
+use Rattle.machine.specs.Names.{Buffers, noLimits, step, Machine, Operation}
 use Rattle.claims.specs.Answers.{accepted}
-use Rattle.claims.specs.Metered.{Metering, Free, Sets, Charges, GrowsPages, GrowsCells, Spans, Inits, fuelMetering, memoryMetering, tableMetering, grants}
+use Rattle.claims.specs.Metered.{Metering, Free, Sets, Charges, GrowsPages, GrowsCells, Spans, Inits, fuelMetering, memoryMetering}
+use Rattle.claims.specs.Metered.{tableMetering, grants}
 
 -- what the accepted creations and growths say of a table: its limits as asked for, and its size
 pub record Row : Type 0 where
@@ -85,16 +72,16 @@ entryBy r b k (Inits len) a said = pick (both (ltb 0 len) (accepted a)) (charged
 
 -- the book after one operation: a creation adds the bytes of a page, or a table
 unfoldable pub entry : ℕ → ℕ → Book → Operation → Answer → ℕ → Book
-entry r b k (op.Fuel o) a said = entryBy r b k (fuelMetering o) a said
-entry r b k (op.NewMemory room wanted) a said = pick (accepted a) (withPages k (k .pages ++ (2 ^ (wanted .exponent) ∷ []))) k
-entry r b k (op.Memory number o) a said = entryBy r b k (memoryMetering number o) a said
-entry r b k (op.NewTable room wanted initial) a said =
+entry r b k (Operation.Fuel o) a said = entryBy r b k (fuelMetering o) a said
+entry r b k (Operation.NewMemory room wanted) a said = pick (accepted a) (withPages k (k .pages ++ (2 ^ (wanted .exponent) ∷ []))) k
+entry r b k (Operation.Memory number o) a said = entryBy r b k (memoryMetering number o) a said
+entry r b k (Operation.NewTable room wanted initial) a said =
     pick (accepted a) (withTables k (k .tables ++ (record { limits = wanted .limits; size = wanted .limits .minimum } ∷ []))) k
-entry r b k (op.Table number o) a said = entryBy r b k (tableMetering number o) a said
-entry r b k (op.TableCopy into source span) a said = entryBy r b k (Spans (span .len)) a said
-entry r b k (op.TableInit table segment span) a said = entryBy r b k (Inits (span .len)) a said
-entry r b k (op.DropSegment segment) a said = k
-entry r b k (op.NewSegment element items) a said = k
+entry r b k (Operation.Table number o) a said = entryBy r b k (tableMetering number o) a said
+entry r b k (Operation.TableCopy into source span) a said = entryBy r b k (Spans (span .len)) a said
+entry r b k (Operation.TableInit table segment span) a said = entryBy r b k (Inits (span .len)) a said
+entry r b k (Operation.DropSegment segment) a said = k
+entry r b k (Operation.NewSegment element items) a said = k
 
 -- the limiter's answers to the questions of a run's operations
 unfoldable pub limiterSays : ℕ → Machine → Buffers → List Operation → List ℕ

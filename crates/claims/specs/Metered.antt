@@ -1,24 +1,7 @@
 -- Document 01, "Fuel" and "First check wins": which operations meet the fuel step, the bytes and the price of each, and which pass it.
-use Prim.Native.Nat.{ℕ, _*_}
-use mathlib.Core.Bool.{Bool, true, false}
-use lib.Dec.{eqb, leb, ltb}
-use Rattle.types.specs.Pick.{pick, both}
-use Rattle.types.specs.Price.{price}
-use Rattle.types.specs.Answer.{numberOf}
-use Rattle.types.specs.Limiter.{noLimiter, saysOf}
-use Rattle.types.specs.MemoryType.{pageBytes}
-use Rattle.machine.specs.Machine.{Buffers, memoryAt}
-use Rattle.machine.specs.Outcome.{metered}
-use Rattle.machine.specs.Step.{step}
-use Rattle.machine.specs.declared.records.Machine.{Machine}
-use Rattle.machine.specs.declared.operation.Operation.{Operation}
-use Rattle.machine.specs.declared.operation.Operation.the-variants as op
-use Rattle.machine.specs.declared.operation.FuelOp.{FuelOp}
-use Rattle.machine.specs.declared.operation.FuelOp.the-variants as fuel
-use Rattle.machine.specs.declared.operation.MemoryOp.{MemoryOp}
-use Rattle.machine.specs.declared.operation.MemoryOp.the-variants as memory
-use Rattle.machine.specs.declared.operation.TableOp.{TableOp}
-use Rattle.machine.specs.declared.operation.TableOp.the-variants as table
+use Rattle.types.specs.Prelude.{ℕ, _*_, Bool, true, false, eqb, leb, ltb}
+use Rattle.types.specs.Names.{pick, both, price, numberOf, noLimiter, saysOf, pageBytes}
+use Rattle.machine.specs.Names.{Buffers, memoryAt, metered, step, Machine, Operation, FuelOp, MemoryOp, TableOp}
 use Rattle.claims.specs.Answers.{accepted}
 
 -- what an operation has to do with fuel
@@ -33,38 +16,38 @@ pub data Metering : Type 0 where
 
 -- of fuel and limiter
 unfoldable pub fuelMetering : FuelOp → Metering
-fuelMetering (fuel.SetFuel amount) = Sets amount
-fuelMetering fuel.GetFuel = Free
-fuelMetering (fuel.Charge units) = Charges units
-fuelMetering (fuel.SetLimiter script) = Free
+fuelMetering (FuelOp.SetFuel amount) = Sets amount
+fuelMetering FuelOp.GetFuel = Free
+fuelMetering (FuelOp.Charge units) = Charges units
+fuelMetering (FuelOp.SetLimiter script) = Free
 
 -- of one memory
 unfoldable pub memoryMetering : ℕ → MemoryOp → Metering
-memoryMetering i (memory.Grow pages) = GrowsPages i pages
-memoryMetering i memory.Size = Free
-memoryMetering i (memory.Load kind pointer offset) = Free
-memoryMetering i (memory.Store kind pointer offset bits) = Free
-memoryMetering i (memory.LinkCheck wanted) = Free
+memoryMetering i (MemoryOp.Grow pages) = GrowsPages i pages
+memoryMetering i MemoryOp.Size = Free
+memoryMetering i (MemoryOp.Load kind pointer offset) = Free
+memoryMetering i (MemoryOp.Store kind pointer offset bits) = Free
+memoryMetering i (MemoryOp.LinkCheck wanted) = Free
 
 -- of one table
 unfoldable pub tableMetering : ℕ → TableOp → Metering
-tableMetering i (table.Grow cells value) = GrowsCells i cells
-tableMetering i table.Size = Free
-tableMetering i (table.Get index) = Free
-tableMetering i (table.Set index value) = Free
-tableMetering i (table.Fill start value len) = Spans len
+tableMetering i (TableOp.Grow cells value) = GrowsCells i cells
+tableMetering i TableOp.Size = Free
+tableMetering i (TableOp.Get index) = Free
+tableMetering i (TableOp.Set index value) = Free
+tableMetering i (TableOp.Fill start value len) = Spans len
 
 -- of any operation
 unfoldable pub meteringOf : Operation → Metering
-meteringOf (op.Fuel o) = fuelMetering o
-meteringOf (op.NewMemory room wanted) = Free
-meteringOf (op.Memory number o) = memoryMetering number o
-meteringOf (op.NewTable room wanted initial) = Free
-meteringOf (op.Table number o) = tableMetering number o
-meteringOf (op.TableCopy into source span) = Spans (span .len)
-meteringOf (op.TableInit table segment span) = Inits (span .len)
-meteringOf (op.DropSegment segment) = Free
-meteringOf (op.NewSegment element items) = Free
+meteringOf (Operation.Fuel o) = fuelMetering o
+meteringOf (Operation.NewMemory room wanted) = Free
+meteringOf (Operation.Memory number o) = memoryMetering number o
+meteringOf (Operation.NewTable room wanted initial) = Free
+meteringOf (Operation.Table number o) = tableMetering number o
+meteringOf (Operation.TableCopy into source span) = Spans (span .len)
+meteringOf (Operation.TableInit table segment span) = Inits (span .len)
+meteringOf (Operation.DropSegment segment) = Free
+meteringOf (Operation.NewSegment element items) = Free
 
 -- growths, fills, copies and inits meet the fuel step, but for a growth by 0 and an init of length 0
 unfoldable pub meets : Metering → Bool

@@ -1,38 +1,10 @@
 -- Document 01, "First check wins", "Access" and "Types", read from the other side: when each operation is accepted.
-use Prim.Native.Nat.{ℕ, _+_, _-_, _^_}
-use mathlib.Core.Bool.{Bool, true}
-use lib.Dec.{eqb, leb, ltb}
-use lib.ListN.{length}
-use Rattle.types.specs.Pick.{pick, both}
-use Rattle.types.specs.Span.{inside}
-use Rattle.types.specs.Limiter.{saysOf, wellFormed}
-use Rattle.types.specs.IndexType.{maxSize}
-use Rattle.types.specs.Limits.{admitsOf}
-use Rattle.types.specs.MemoryType.{validExponent, validMemory}
-use Rattle.types.specs.TableType.{tableType, validTable, elementMatches}
-use Rattle.types.specs.declared.memory_ty.MemoryType.{MemoryType}
-use Rattle.types.specs.declared.table_ty.TableType.{TableType}
-use Rattle.memory.specs.Access.{widthBytes, loadWidth, storeWidth}
-use Rattle.memory.specs.Memory.{pagesOf}
-use Rattle.memory.specs.New.{wanted, leastBytes}
-use Rattle.memory.specs.Grow.{mayHave, grownSize}
-use Rattle.machine.specs.Machine.{Buffers, memoryAt, tableAt, segmentAt, nextByte, nextCell, nextItem}
-use Rattle.machine.specs.Sound.{soundOver}
-use Rattle.machine.specs.Operation as operation
-use Rattle.machine.specs.Operation.{scriptOf, itemsOf}
-use Rattle.types.specs.declared.memory_ty.WantedMemory.{WantedMemory}
-use Rattle.types.specs.declared.table_ty.WantedTable.{WantedTable}
-use Rattle.types.specs.declared.span.CopySpan.{CopySpan}
-use Rattle.types.specs.declared.raw.TypedRawRef.{TypedRawRef}
-use Rattle.machine.specs.declared.records.Machine.{Machine}
-use Rattle.machine.specs.declared.operation.Operation.{Operation}
-use Rattle.machine.specs.declared.operation.Operation.the-variants as op
-use Rattle.machine.specs.declared.operation.FuelOp.{FuelOp}
-use Rattle.machine.specs.declared.operation.FuelOp.the-variants as fuel
-use Rattle.machine.specs.declared.operation.MemoryOp.{MemoryOp}
-use Rattle.machine.specs.declared.operation.MemoryOp.the-variants as memory
-use Rattle.machine.specs.declared.operation.TableOp.{TableOp}
-use Rattle.machine.specs.declared.operation.TableOp.the-variants as table
+use Rattle.types.specs.Prelude.{ℕ, _+_, _-_, _^_, Bool, true, eqb, leb, ltb, length}
+use Rattle.types.specs.Names.{pick, both, inside, saysOf, wellFormed as wellFormedScript, maxSize, admitsOf, validExponent, validMemory, tableType}
+use Rattle.types.specs.Names.{validTable, elementMatches, MemoryType, TableType, WantedMemory, WantedTable, CopySpan, TypedRawRef}
+use Rattle.memory.specs.Names.{widthBytes, loadWidth, storeWidth, pagesOf, wanted, leastBytes, mayHave, grownSize}
+use Rattle.machine.specs.Names.{Buffers, memoryAt, tableAt, segmentAt, nextByte, nextCell, nextItem, soundOver, scriptOf, itemsOf, wellFormed}
+use Rattle.machine.specs.Names.{Machine, Operation, FuelOp, MemoryOp, TableOp}
 use Rattle.claims.specs.Metered.{GrowsPages, GrowsCells, Spans, Inits, priceFor, affords, grants}
 
 -- the number is one in use: of a memory, of a table, of a segment
@@ -69,10 +41,10 @@ reaches m i pointer offset n = both (ltb (pointer + offset) (2 ^ 64)) (inside (p
 
 -- 01 to 04: metering is on, and a charge is there; a script is well formed
 unfoldable pub fuelOccasion : Machine → FuelOp → Bool
-fuelOccasion m (fuel.SetFuel amount) = m .fuel .enabled
-fuelOccasion m fuel.GetFuel = m .fuel .enabled
-fuelOccasion m (fuel.Charge units) = both (m .fuel .enabled) (leb units (m .fuel .remaining))
-fuelOccasion m (fuel.SetLimiter script) = wellFormed (scriptOf script)
+fuelOccasion m (FuelOp.SetFuel amount) = m .fuel .enabled
+fuelOccasion m FuelOp.GetFuel = m .fuel .enabled
+fuelOccasion m (FuelOp.Charge units) = both (m .fuel .enabled) (leb units (m .fuel .remaining))
+fuelOccasion m (FuelOp.SetLimiter script) = wellFormedScript (scriptOf script)
 
 -- 10: a number and the room are free, the type is valid, its minimum is below 2^64 bytes, the limiter grants it, and it fits the room
 unfoldable pub makesMemory : Machine → Buffers → ℕ → WantedMemory → Bool
@@ -90,11 +62,11 @@ growsMemory r m i n =
 
 -- 11 to 14 and 30, of a memory whose number is known
 unfoldable pub memoryOccasion : ℕ → Machine → ℕ → MemoryOp → Bool
-memoryOccasion r m i (memory.Grow pages) = growsMemory r m i pages
-memoryOccasion r m i memory.Size = true
-memoryOccasion r m i (memory.Load kind pointer offset) = reaches m i pointer offset (widthBytes (loadWidth kind))
-memoryOccasion r m i (memory.Store kind pointer offset bits) = reaches m i pointer offset (widthBytes (storeWidth kind))
-memoryOccasion r m i (memory.LinkCheck wanted) = validWanted wanted
+memoryOccasion r m i (MemoryOp.Grow pages) = growsMemory r m i pages
+memoryOccasion r m i MemoryOp.Size = true
+memoryOccasion r m i (MemoryOp.Load kind pointer offset) = reaches m i pointer offset (widthBytes (loadWidth kind))
+memoryOccasion r m i (MemoryOp.Store kind pointer offset bits) = reaches m i pointer offset (widthBytes (storeWidth kind))
+memoryOccasion r m i (MemoryOp.LinkCheck wanted) = validWanted wanted
 
 -- 20: a number and the room are free, type and initial reference are valid, the limiter grants it, and it fits the room
 unfoldable pub makesTable : Machine → Buffers → ℕ → WantedTable → TypedRawRef → Bool
@@ -118,11 +90,11 @@ ofKind m i v = elementMatches (tableAt m i .ty) (v .ty)
 
 -- 21 to 25, of a table whose number is known
 unfoldable pub tableOccasion : ℕ → Machine → ℕ → TableOp → Bool
-tableOccasion r m i (table.Grow cells value) = both (ofKind m i value) (growsTable r m i cells)
-tableOccasion r m i table.Size = true
-tableOccasion r m i (table.Get index) = ltb index (tableAt m i .size)
-tableOccasion r m i (table.Set index value) = both (ofKind m i value) (ltb index (tableAt m i .size))
-tableOccasion r m i (table.Fill start value len) =
+tableOccasion r m i (TableOp.Grow cells value) = both (ofKind m i value) (growsTable r m i cells)
+tableOccasion r m i TableOp.Size = true
+tableOccasion r m i (TableOp.Get index) = ltb index (tableAt m i .size)
+tableOccasion r m i (TableOp.Set index value) = both (ofKind m i value) (ltb index (tableAt m i .size))
+tableOccasion r m i (TableOp.Fill start value len) =
     both (ofKind m i value) (both (inside start len (tableAt m i .size)) (affords m (priceFor r m (Spans len))))
 
 -- 26: of one kind, inside both, and paid
@@ -143,17 +115,17 @@ inits r m i segment s =
 
 -- on a sound machine, with nothing said wrongly
 unfoldable pub occasion : ℕ → Machine → Buffers → Operation → Bool
-occasion r m b (op.Fuel o) = fuelOccasion m o
-occasion r m b (op.NewMemory room wanted) = makesMemory m b room wanted
-occasion r m b (op.Memory number o) = both (knownMemory m number) (memoryOccasion r m number o)
-occasion r m b (op.NewTable room wanted initial) = makesTable m b room wanted initial
-occasion r m b (op.Table number o) = both (knownTable m number) (tableOccasion r m number o)
-occasion r m b (op.TableCopy into source span) = copies r m into source span
-occasion r m b (op.TableInit table segment span) = inits r m table segment span
-occasion r m b (op.DropSegment segment) = knownSegment m segment
-occasion r m b (op.NewSegment element items) =
+occasion r m b (Operation.Fuel o) = fuelOccasion m o
+occasion r m b (Operation.NewMemory room wanted) = makesMemory m b room wanted
+occasion r m b (Operation.Memory number o) = both (knownMemory m number) (memoryOccasion r m number o)
+occasion r m b (Operation.NewTable room wanted initial) = makesTable m b room wanted initial
+occasion r m b (Operation.Table number o) = both (knownTable m number) (tableOccasion r m number o)
+occasion r m b (Operation.TableCopy into source span) = copies r m into source span
+occasion r m b (Operation.TableInit table segment span) = inits r m table segment span
+occasion r m b (Operation.DropSegment segment) = knownSegment m segment
+occasion r m b (Operation.NewSegment element items) =
     both (ltb (m .counts .segments) 8) (leb (length (itemsOf items)) (length (b .items) - nextItem m))
 
 -- nothing said wrongly, records and buffers sound, and the operation's own occasion
 abbrev pub acceptedWhen : ℕ → Machine → Buffers → Operation → Bool
-acceptedWhen r m b op = both (operation.wellFormed op) (both (soundOver m b) (occasion r m b op))
+acceptedWhen r m b op = both (wellFormed op) (both (soundOver m b) (occasion r m b op))

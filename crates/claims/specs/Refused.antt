@@ -1,13 +1,7 @@
 -- Document 01, "Numbers given back", and demand 1: what a refusal leaves, and the fuel that it takes.
-use Prim.Native.Nat.{ℕ}
-use mathlib.Core.Path.{_≡_}
-use Rattle.types.specs.Pick.{pick}
-use Rattle.types.specs.Fuel.{paid}
-use Rattle.machine.specs.Machine.{Buffers}
-use Rattle.machine.specs.Outcome.{metered}
-use Rattle.machine.specs.Step.{Stepped}
-use Rattle.machine.specs.declared.records.Machine.{Machine}
-use Rattle.machine.specs.declared.operation.Operation.{Operation}
+use Rattle.types.specs.Prelude.{ℕ, _≡_}
+use Rattle.types.specs.Names.{pick, paid}
+use Rattle.machine.specs.Names.{Buffers, metered, Stepped, Machine, Operation}
 use Rattle.claims.specs.Metered.{priceOf, paidRefusal}
 
 pub record Leaves (r : ℕ) (m : Machine) (b : Buffers) (op : Operation) (s : Stepped) : Type 0 where

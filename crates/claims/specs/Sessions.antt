@@ -1,18 +1,8 @@
 -- Document 01, "Operation lines": the bytes of a session, said by the operations that its lines say and by what a run of them answers.
-use Prim.Native.Nat.{ℕ}
-use mathlib.Core.List.{List, [], _∷_, _++_}
-use Rattle.types.specs.Answer.{refuse, accept}
-use Rattle.types.specs.declared.answer.Answer.{Answer}
-use Rattle.types.specs.declared.fuel.Fuel.{Fuel}
-use Rattle.machine.specs.Machine.{Buffers, freshMachine}
-use Rattle.machine.specs.Step.{step}
-use Rattle.machine.specs.declared.records.Machine.{Machine}
-use Rattle.machine.specs.declared.operation.Operation.{Operation}
-use Rattle.lines.specs.AnswerLine.{answerLine}
-use Rattle.lines.specs.Code.{readLine}
-use Rattle.lines.specs.Session.{costsOf}
-use Rattle.lines.specs.declared.code.Read.{Read}
-use Rattle.lines.specs.declared.code.Read.the-variants as read
+use Rattle.types.specs.Prelude.{ℕ, List, [], _∷_, _++_}
+use Rattle.types.specs.Names.{refuse, accept, Answer, Fuel}
+use Rattle.machine.specs.Names.{Buffers, freshMachine, step, Machine, Operation}
+use Rattle.lines.specs.{AnswerLine.answerLine, Code.readLine, Session.costsOf, declared.code.Read.Read}
 
 -- an answer, and the fuel after it
 pub record Reply : Type 0 where
@@ -39,9 +29,9 @@ readAll (l ∷ ls) = readLine l ∷ readAll ls
 -- the operations among what lines say
 unfoldable pub operationsIn : List Read → List Operation
 operationsIn [] = []
-operationsIn (read.Operation op ∷ xs) = op ∷ operationsIn xs
-operationsIn (read.Making metering copied ∷ xs) = operationsIn xs
-operationsIn (read.Malformed ∷ xs) = operationsIn xs
+operationsIn (Read.Operation op ∷ xs) = op ∷ operationsIn xs
+operationsIn (Read.Making metering copied ∷ xs) = operationsIn xs
+operationsIn (Read.Malformed ∷ xs) = operationsIn xs
 
 -- 18, with the fuel as it was
 abbrev pub eighteen : Fuel → Reply
@@ -50,10 +40,10 @@ eighteen f = record { answer = refuse 18 0; fuel = f }
 -- a reply a line: the operation's own, else 18
 unfoldable pub lined : Fuel → List Read → List Reply → List Reply
 lined f [] rs = []
-lined f (read.Operation op ∷ xs) [] = []
-lined f (read.Operation op ∷ xs) (x ∷ rs) = x ∷ lined (x .fuel) xs rs
-lined f (read.Making metering copied ∷ xs) rs = eighteen f ∷ lined f xs rs
-lined f (read.Malformed ∷ xs) rs = eighteen f ∷ lined f xs rs
+lined f (Read.Operation op ∷ xs) [] = []
+lined f (Read.Operation op ∷ xs) (x ∷ rs) = x ∷ lined (x .fuel) xs rs
+lined f (Read.Making metering copied ∷ xs) rs = eighteen f ∷ lined f xs rs
+lined f (Read.Malformed ∷ xs) rs = eighteen f ∷ lined f xs rs
 
 -- the answer lines of replies
 unfoldable pub replyText : List Reply → List ℕ
@@ -67,7 +57,7 @@ runText r m b xs = replyText (lined (m .fuel) xs (replies r m b (operationsIn xs
 -- a session's: the first line alone can make the machine anew
 unfoldable pub sessionText : ℕ → Machine → Buffers → List Read → List ℕ
 sessionText r m b [] = []
-sessionText r m b (read.Operation op ∷ xs) = runText r m b (read.Operation op ∷ xs)
-sessionText r m b (read.Making metering copied ∷ xs) =
+sessionText r m b (Read.Operation op ∷ xs) = runText r m b (Read.Operation op ∷ xs)
+sessionText r m b (Read.Making metering copied ∷ xs) =
     answerLine (accept 0) (freshMachine metering (costsOf copied) .fuel) ++ runText r (freshMachine metering (costsOf copied)) b xs
-sessionText r m b (read.Malformed ∷ xs) = runText r m b (read.Malformed ∷ xs)
+sessionText r m b (Read.Malformed ∷ xs) = runText r m b (Read.Malformed ∷ xs)

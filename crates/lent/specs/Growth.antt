@@ -1,12 +1,6 @@
 -- Document 01, "Where each form goes": one record of a lent list is read and grown, and its new size stored; fuel and limiter are lent too.
-use Prim.Native.Nat.{ℕ}
-use mathlib.Core.Bool.{Bool}
-use mathlib.Core.List.{List}
-use Rattle.types.specs.Pick.{unless}
-use Rattle.types.specs.Answer.{refuse}
-use Rattle.types.specs.declared.answer.Answer.{Answer}
-use Rattle.types.specs.declared.fuel.Fuel.{Fuel}
-use Rattle.types.specs.declared.limiter.Limiter.{Limiter}
+use Rattle.types.specs.Prelude.{ℕ, Bool, List}
+use Rattle.types.specs.Names.{unless, refuse, Answer, Fuel, Limiter}
 
 -- what is lent to a growth: the list of records, the buffer behind them, the fuel record and the limiter
 pub record Lending (A : Type 0) : Type 0 where

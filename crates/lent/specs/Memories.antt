@@ -1,15 +1,8 @@
 -- Document 01, "The machine": memories stand in a lent list of records. The record of one is read and grown, and its size stored.
-use Prim.Native.Nat.{ℕ}
-use mathlib.Core.Bool.{Bool}
-use lib.Dec.{ltb}
-use lib.ListN.{length, getD, set}
-use Rattle.types.specs.Done.{Done}
-use Rattle.memory.specs.Memory.{soundMemory}
-use Rattle.memory.specs.Grow.{growMemory}
-use Rattle.memory.specs.declared.memory.Memory.{Memory}
-use Rattle.memory.specs.declared.grow.GrownMemory.{GrownMemory}
-use Rattle.machine.specs.Machine.{noMemory, memoryEnd}
-use Rattle.machine.specs.Sound.{soundList}
+use Rattle.types.specs.Prelude.{ℕ, Bool, ltb, length, getD, set}
+use Rattle.types.specs.Names.{Done}
+use Rattle.memory.specs.Names.{soundMemory, growMemory, Memory, GrownMemory}
+use Rattle.machine.specs.Names.{noMemory, memoryEnd, soundList}
 use Rattle.lent.specs.Growth.{Lending, lending, Grew, grew, growAt}
 
 -- 8 places at least, and the first n records are sound memories whose rooms follow each other

@@ -1,21 +1,9 @@
 -- Document 01, "The machine": records stand in lent lists, and the fuel record is lent and charged where it stands. One operation on all that is lent.
-use Prim.Native.Nat.{ℕ}
-use mathlib.Core.Bool.{Bool}
-use mathlib.Core.List.{List, _++_}
-use lib.Dec.{leb}
-use lib.ListN.{length, take, drop}
-use Rattle.types.specs.Pick.{unless, both}
-use Rattle.types.specs.Answer.{refuse}
-use Rattle.types.specs.declared.answer.Answer.{Answer}
-use Rattle.types.specs.declared.fuel.Fuel.{Fuel}
-use Rattle.memory.specs.declared.memory.Memory.{Memory}
-use Rattle.table.specs.declared.table.Table.{Table}
-use Rattle.table.specs.declared.element.ElementSegment.{ElementSegment}
-use Rattle.machine.specs.Machine.{Buffers}
-use Rattle.machine.specs.Operation.{wellFormed}
-use Rattle.machine.specs.Step.{step}
-use Rattle.machine.specs.declared.records.Machine.{Machine}
-use Rattle.machine.specs.declared.operation.Operation.{Operation}
+use Rattle.types.specs.Prelude.{ℕ, Bool, List, _++_, leb, length, take, drop}
+use Rattle.types.specs.Names.{unless, both, refuse, Answer, Fuel}
+use Rattle.memory.specs.Names.{Memory}
+use Rattle.table.specs.Names.{Table, ElementSegment}
+use Rattle.machine.specs.Names.{Buffers, wellFormed, step, Machine, Operation}
 use Rattle.lent.specs.declared.operate.Standing.{Standing}
 
 -- what is lent beside the buffers: three lists of records, the numbers in use with the limiter, and the fuel record

@@ -1,19 +1,9 @@
 -- Document 01, "The machine": tables stand in a lent list of records. The record of one is read and grown, and its size stored.
 -- R, the bytes that a reference counts, is the first argument of a growth.
-use Prim.Native.Nat.{ℕ}
-use mathlib.Core.Bool.{Bool}
-use lib.Dec.{leb, ltb}
-use lib.ListN.{length, getD, set}
-use Rattle.types.specs.Numbers.{word32}
-use Rattle.types.specs.Pick.{both}
-use Rattle.types.specs.Done.{Done}
-use Rattle.types.specs.declared.raw.TypedRawRef.{TypedRawRef}
-use Rattle.table.specs.Table.{soundTable}
-use Rattle.table.specs.Grow.{growTable}
-use Rattle.table.specs.declared.table.Table.{Table}
-use Rattle.table.specs.declared.grow.GrownTable.{GrownTable}
-use Rattle.machine.specs.Machine.{noTable, tableEnd}
-use Rattle.machine.specs.Sound.{soundList}
+use Rattle.types.specs.Prelude.{ℕ, Bool, leb, ltb, length, getD, set}
+use Rattle.types.specs.Names.{word32, both, Done, TypedRawRef}
+use Rattle.table.specs.Names.{soundTable, growTable, Table, GrownTable}
+use Rattle.machine.specs.Names.{noTable, tableEnd, soundList}
 use Rattle.lent.specs.Growth.{Lending, lending, Grew, grew, growAt}
 
 -- at most 2^32 cells, 8 places at least, and the first n records are sound tables whose rooms follow each other

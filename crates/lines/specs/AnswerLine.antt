@@ -1,17 +1,7 @@
 -- Document 01, "Operation lines": an answer line has the number, the value or amount, and the fuel left, in hexadecimal.
-use Prim.Native.Nat.{ℕ}
-use mathlib.Core.Bool.{Bool, true, false}
-use mathlib.Core.List.{List, [], _∷_, _++_}
-use lib.Dec.{ltb}
-use lib.ListN.{length}
-use Rattle.types.specs.Pick.{pick}
-use Rattle.types.specs.Span.{over}
-use Rattle.types.specs.Done.{Done, done}
-use Rattle.types.specs.Answer.{numberOf, shownOf}
-use Rattle.types.specs.declared.answer.Answer.{Answer}
-use Rattle.types.specs.declared.fuel.Fuel.{Fuel}
-use Rattle.lines.specs.Hex.{hexText}
-use Rattle.lines.specs.Line.{space, lf}
+use Rattle.types.specs.Prelude.{ℕ, Bool, true, false, List, [], _∷_, _++_, ltb, length}
+use Rattle.types.specs.Names.{pick, over, Done, done, numberOf, shownOf, Answer, Fuel}
+use Rattle.lines.specs.{Hex.hexText, Line.space, Line.lf}
 
 -- the three columns of an answer line
 unfoldable pub answerText : ℕ → ℕ → ℕ → List ℕ

@@ -1,21 +1,8 @@
 -- Document 01, "Operation lines": what the numbers of fields stand for, their ranges, and the way back.
-use Prim.Native.Nat.{ℕ, _^_, min}
-use mathlib.Core.Bool.{Bool, true, false}
-use mathlib.Core.List.{List, [], _∷_}
-use lib.Dec.{eqb, leb, ltb}
-use lib.ListN.{getD}
-use Rattle.types.specs.Pick.{pick, both}
-use Rattle.types.specs.Raw.{typedOf}
-use Rattle.types.specs.declared.limits.Limits.{Limits}
-use Rattle.types.specs.declared.raw.RefType.{RefType}
+use Rattle.types.specs.Prelude.{ℕ, _^_, min, Bool, true, false, List, [], _∷_, eqb, leb, ltb, getD}
+use Rattle.types.specs.Names.{pick, both, typedOf, Limits, RefType, TypedRawRef, WantedMemory, WantedTable}
 use Rattle.types.specs.declared.raw.RefType.the-variants.{Func, Extern}
-use Rattle.types.specs.declared.raw.TypedRawRef.{TypedRawRef}
-use Rattle.memory.specs.declared.access.LoadKind.{LoadKind}
-use Rattle.memory.specs.declared.access.LoadKind.the-variants as load
-use Rattle.memory.specs.declared.access.StoreKind.{StoreKind}
-use Rattle.memory.specs.declared.access.StoreKind.the-variants as store
-use Rattle.types.specs.declared.memory_ty.WantedMemory.{WantedMemory}
-use Rattle.types.specs.declared.table_ty.WantedTable.{WantedTable}
+use Rattle.memory.specs.Names.{LoadKind, StoreKind}
 
 -- a yes/no field or an element kind is 0 or 1
 abbrev pub binary : ℕ → Bool
@@ -75,23 +62,23 @@ segmentRanges kind count = both (leb count 4) (binary kind)
 -- load kinds from 0 on: i32, i64, f32, f64, i32 from 8s, 8u, 16s, 16u, i64 from 8s, 8u, 16s, 16u, 32s, 32u
 abbrev pub loadKinds : List LoadKind
 loadKinds =
-    load.I32 ∷ load.I64 ∷ load.F32 ∷ load.F64
-    ∷ load.I32From8S ∷ load.I32From8U ∷ load.I32From16S ∷ load.I32From16U
-    ∷ load.I64From8S ∷ load.I64From8U ∷ load.I64From16S ∷ load.I64From16U ∷ load.I64From32S ∷ load.I64From32U ∷ []
+    LoadKind.I32 ∷ LoadKind.I64 ∷ LoadKind.F32 ∷ LoadKind.F64
+    ∷ LoadKind.I32From8S ∷ LoadKind.I32From8U ∷ LoadKind.I32From16S ∷ LoadKind.I32From16U
+    ∷ LoadKind.I64From8S ∷ LoadKind.I64From8U ∷ LoadKind.I64From16S ∷ LoadKind.I64From16U ∷ LoadKind.I64From32S ∷ LoadKind.I64From32U ∷ []
 
 -- the load kind of a number up to 13
 unfoldable pub loadKindOf : ℕ → LoadKind
-loadKindOf n = getD loadKinds n load.I64From32U
+loadKindOf n = getD loadKinds n LoadKind.I64From32U
 
 -- store kinds from 0 on: i32, i64, f32, f64, i32 to 8, 16, i64 to 8, 16, 32
 abbrev pub storeKinds : List StoreKind
 storeKinds =
-    store.I32 ∷ store.I64 ∷ store.F32 ∷ store.F64
-    ∷ store.I32To8 ∷ store.I32To16 ∷ store.I64To8 ∷ store.I64To16 ∷ store.I64To32 ∷ []
+    StoreKind.I32 ∷ StoreKind.I64 ∷ StoreKind.F32 ∷ StoreKind.F64
+    ∷ StoreKind.I32To8 ∷ StoreKind.I32To16 ∷ StoreKind.I64To8 ∷ StoreKind.I64To16 ∷ StoreKind.I64To32 ∷ []
 
 -- the store kind of a number up to 8
 unfoldable pub storeKindOf : ℕ → StoreKind
-storeKindOf n = getD storeKinds n store.I64To32
+storeKindOf n = getD storeKinds n StoreKind.I64To32
 
 -- the way back: the number of a yes or no
 abbrev pub flag : Bool → ℕ
@@ -105,32 +92,32 @@ kindNumber Extern = 1
 
 -- of a load kind
 abbrev pub loadNumber : LoadKind → ℕ
-loadNumber load.I32 = 0
-loadNumber load.I64 = 1
-loadNumber load.F32 = 2
-loadNumber load.F64 = 3
-loadNumber load.I32From8S = 4
-loadNumber load.I32From8U = 5
-loadNumber load.I32From16S = 6
-loadNumber load.I32From16U = 7
-loadNumber load.I64From8S = 8
-loadNumber load.I64From8U = 9
-loadNumber load.I64From16S = 10
-loadNumber load.I64From16U = 11
-loadNumber load.I64From32S = 12
-loadNumber load.I64From32U = 13
+loadNumber LoadKind.I32 = 0
+loadNumber LoadKind.I64 = 1
+loadNumber LoadKind.F32 = 2
+loadNumber LoadKind.F64 = 3
+loadNumber LoadKind.I32From8S = 4
+loadNumber LoadKind.I32From8U = 5
+loadNumber LoadKind.I32From16S = 6
+loadNumber LoadKind.I32From16U = 7
+loadNumber LoadKind.I64From8S = 8
+loadNumber LoadKind.I64From8U = 9
+loadNumber LoadKind.I64From16S = 10
+loadNumber LoadKind.I64From16U = 11
+loadNumber LoadKind.I64From32S = 12
+loadNumber LoadKind.I64From32U = 13
 
 -- of a store kind
 abbrev pub storeNumber : StoreKind → ℕ
-storeNumber store.I32 = 0
-storeNumber store.I64 = 1
-storeNumber store.F32 = 2
-storeNumber store.F64 = 3
-storeNumber store.I32To8 = 4
-storeNumber store.I32To16 = 5
-storeNumber store.I64To8 = 6
-storeNumber store.I64To16 = 7
-storeNumber store.I64To32 = 8
+storeNumber StoreKind.I32 = 0
+storeNumber StoreKind.I64 = 1
+storeNumber StoreKind.F32 = 2
+storeNumber StoreKind.F64 = 3
+storeNumber StoreKind.I32To8 = 4
+storeNumber StoreKind.I32To16 = 5
+storeNumber StoreKind.I64To8 = 6
+storeNumber StoreKind.I64To16 = 7
+storeNumber StoreKind.I64To32 = 8
 
 -- the fields of a reference
 abbrev pub referenceFields : TypedRawRef → List ℕ

@@ -1,16 +1,8 @@
 -- Document 01, "Operation lines": a two-digit code, then fields of 16 digits, each behind a single space.
-use Prim.Native.Nat.{ℕ, zero, suc, _+_}
-use mathlib.Core.Bool.{true, false}
-use mathlib.Core.List.{List, [], _∷_, _++_}
-use lib.Dec.{eqb, ltb}
-use lib.ListN.{length, drop, getD, replicate}
-use Rattle.types.specs.Pick.{pick}
-use Rattle.types.specs.Span.{over}
-use Rattle.types.specs.Done.{Done, done}
+use Rattle.types.specs.Prelude.{ℕ, zero, suc, _+_, true, false, List, [], _∷_, _++_, eqb, ltb, length, drop, getD, replicate}
+use Rattle.types.specs.Names.{pick, over, Done, done}
 use Rattle.lines.specs.Hex.{hexFrom, hexText}
-use Rattle.lines.specs.declared.field.Field.{Field}
-use Rattle.lines.specs.declared.field.Field.the-variants.{Value, Bad}
-use Rattle.lines.specs.declared.line.Line.{Line}
+use Rattle.lines.specs.declared.{field.Field.Field, line.Line.Line}
 
 -- a space stands before each field, and LF ends a line
 abbrev pub space : ℕ
@@ -35,8 +27,8 @@ then v (some l) = some (v ∷ l)
 
 -- a field, and what follows it
 unfoldable pub thenField : Field → Got → Got
-thenField Bad g = none
-thenField (Value v) g = then v g
+thenField Field.Bad g = none
+thenField (Field.Value v) g = then v g
 
 -- nothing follows the last field
 unfoldable pub ended : List ℕ → Got
@@ -64,8 +56,8 @@ filled code n list (some l) = record { good = true; code = code; count = n + len
 
 -- a code, and fields behind it
 unfoldable pub coded : Field → Got → Line
-coded Bad g = noLine
-coded (Value code) g = filled code 0 (replicate 8 0) g
+coded Field.Bad g = noLine
+coded (Field.Value code) g = filled code 0 (replicate 8 0) g
 
 -- a text as a line's numbers
 unfoldable pub lineOf : List ℕ → Line

@@ -1,13 +1,8 @@
 -- Document 01, "Operation lines": a session whose input comes in pieces. A piece is what was left of the last one and the bytes that came in.
 -- A line of over 160 characters is malformed; what of it no piece can hold is passed over, and it has one answer.
-use Prim.Native.Nat.{ℕ, zero, suc, _+_}
-use mathlib.Core.Bool.{Bool, true, false}
-use mathlib.Core.List.{List, [], _∷_, _++_}
-use lib.Dec.{ltb, leb, eqb}
-use lib.ListN.{length, take, drop}
-use Rattle.types.specs.Pick.{pick}
-use Rattle.lines.specs.Line.{lf, longest}
-use Rattle.lines.specs.Session.{Held, malformed, turnOf, textOf, session}
+use Rattle.types.specs.Prelude.{ℕ, zero, suc, _+_, Bool, true, false, List, [], _∷_, _++_, ltb, leb, eqb, length, take, drop}
+use Rattle.types.specs.Names.{pick}
+use Rattle.lines.specs.{Line.lf, Line.longest, Session.Held, Session.malformed, Session.turnOf, Session.textOf, Session.session}
 
 -- the bytes before the first LF
 unfoldable pub lfAt : List ℕ → ℕ

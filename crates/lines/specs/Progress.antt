@@ -1,14 +1,9 @@
 -- Document 01, "Operation lines", a session in pieces: what is given back for one, beside the buffers that are lent.
-use Prim.Native.Nat.{ℕ}
-use mathlib.Core.Bool.{Bool}
-use mathlib.Core.List.{List}
-use lib.ListN.{length}
-use Rattle.types.specs.Span.{over}
-use Rattle.machine.specs.Machine.{Buffers, buffers}
-use Rattle.lines.specs.Session.{Held, heldOn}
-use Rattle.lines.specs.Pieces.{Run}
-use Rattle.lines.specs.declared.session.Session.{Session}
-use Rattle.lines.specs.declared.session.Progress.{Progress}
+use Rattle.types.specs.Prelude.{ℕ, Bool, List, length}
+use Rattle.types.specs.Names.{over}
+use Rattle.machine.specs.Names.{Buffers, buffers}
+use Rattle.lines.specs.{Session.Held, Session.heldOn, Pieces.Run}
+use Rattle.lines.specs.declared.session.{Session.Session, Progress.Progress}
 
 -- a session on three buffers
 abbrev pub heldBy : Session → List ℕ → List ℕ → List ℕ → Held

@@ -1,15 +1,7 @@
 -- Document 01, "Operation lines", what a line can say: fields below 2^64, an absent maximum 0, an exponent of at most 255, and of a segment at most 4 items, zeros past them.
-use Prim.Native.Nat.{ℕ, _^_, _<_, _≤_}
-use mathlib.Core.Path.{_≡_}
-use mathlib.Core.Bool.{true, false}
-use mathlib.Core.List.{List, [], _∷_}
-use Rattle.types.specs.declared.limits.Limits.{Limits}
-use Rattle.machine.specs.Operation.{itemFields}
-use Rattle.types.specs.declared.memory_ty.WantedMemory.{WantedMemory}
-use Rattle.machine.specs.declared.operation.MemoryOp.{MemoryOp}
-use Rattle.machine.specs.declared.operation.MemoryOp.the-variants as memory
-use Rattle.machine.specs.declared.operation.Operation.{Operation}
-use Rattle.machine.specs.declared.operation.Operation.the-variants as op
+use Rattle.types.specs.Prelude.{ℕ, _^_, _<_, _≤_, _≡_, true, false, List, [], _∷_}
+use Rattle.types.specs.Names.{Limits, WantedMemory}
+use Rattle.machine.specs.Names.{itemFields, MemoryOp, Operation}
 use Rattle.lines.specs.Writing.{fieldsBack}
 
 -- numbers that fields of 16 digits hold
@@ -27,23 +19,23 @@ MemorySaid t = (t .exponent ≤ 255) × LimitsSaid (t .limits)
 
 -- of one memory, what its fields' numbers can stand for
 unfoldable pub MemoryOpSaid : MemoryOp → Type 0
-MemoryOpSaid (memory.Grow pages) = Unit
-MemoryOpSaid memory.Size = Unit
-MemoryOpSaid (memory.Load kind pointer offset) = Unit
-MemoryOpSaid (memory.Store kind pointer offset bits) = Unit
-MemoryOpSaid (memory.LinkCheck wanted) = MemorySaid wanted
+MemoryOpSaid (MemoryOp.Grow pages) = Unit
+MemoryOpSaid MemoryOp.Size = Unit
+MemoryOpSaid (MemoryOp.Load kind pointer offset) = Unit
+MemoryOpSaid (MemoryOp.Store kind pointer offset bits) = Unit
+MemoryOpSaid (MemoryOp.LinkCheck wanted) = MemorySaid wanted
 
 -- of any operation
 unfoldable pub Said : Operation → Type 0
-Said (op.Fuel o) = Unit
-Said (op.NewMemory room wanted) = MemorySaid wanted
-Said (op.Memory number o) = MemoryOpSaid o
-Said (op.NewTable room wanted initial) = LimitsSaid (wanted .limits)
-Said (op.Table number o) = Unit
-Said (op.TableCopy into source span) = Unit
-Said (op.TableInit table segment span) = Unit
-Said (op.DropSegment segment) = Unit
-Said (op.NewSegment element items) = itemFields items ≡ true
+Said (Operation.Fuel o) = Unit
+Said (Operation.NewMemory room wanted) = MemorySaid wanted
+Said (Operation.Memory number o) = MemoryOpSaid o
+Said (Operation.NewTable room wanted initial) = LimitsSaid (wanted .limits)
+Said (Operation.Table number o) = Unit
+Said (Operation.TableCopy into source span) = Unit
+Said (Operation.TableInit table segment span) = Unit
+Said (Operation.DropSegment segment) = Unit
+Said (Operation.NewSegment element items) = itemFields items ≡ true
 
 -- what a line can say
 unfoldable pub Sayable : Operation → Type 0

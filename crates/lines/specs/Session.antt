@@ -1,20 +1,8 @@
 -- Document 01, "Operation lines": a session, from the bytes that go in to the bytes that come out.
-use Prim.Native.Nat.{ℕ}
-use mathlib.Core.Bool.{Bool, false}
-use mathlib.Core.List.{List, [], _∷_, _++_}
-use lib.Dec.{eqb}
-use Rattle.types.specs.Pick.{pick}
-use Rattle.types.specs.Answer.{refuse, accept}
-use Rattle.types.specs.Fuel.{defaultCosts}
-use Rattle.types.specs.declared.answer.Answer.{Answer}
-use Rattle.types.specs.declared.fuel.FuelCosts.{FuelCosts}
-use Rattle.machine.specs.Machine.{Buffers, buffers, freshMachine}
-use Rattle.machine.specs.Step.{Stepped, step}
-use Rattle.machine.specs.declared.records.Machine.{Machine}
-use Rattle.machine.specs.declared.operation.Operation.{Operation}
-use Rattle.lines.specs.Line.{lf}
-use Rattle.lines.specs.Code.{readLine}
-use Rattle.lines.specs.AnswerLine.{answerLine}
+use Rattle.types.specs.Prelude.{ℕ, Bool, false, List, [], _∷_, _++_, eqb}
+use Rattle.types.specs.Names.{pick, refuse, accept, defaultCosts, Answer, FuelCosts}
+use Rattle.machine.specs.Names.{Buffers, buffers, freshMachine, Stepped, step, Machine, Operation}
+use Rattle.lines.specs.{Line.lf, Code.readLine, AnswerLine.answerLine}
 use Rattle.lines.specs.declared.code.Read.{Read}
 use Rattle.lines.specs.declared.code.Read.the-variants as read
 

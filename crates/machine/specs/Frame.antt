@@ -1,16 +1,10 @@
 -- Document 01, "The machine": an operation changes cells and size of one instance at most (in a table copy, the destination).
-use Prim.Native.Nat.{ℕ, _<_}
-use mathlib.Core.Path.{_≡_}
-use mathlib.Core.Logic.{_⊎_}
-use Rattle.types.specs.Span.{cut}
-use Rattle.memory.specs.Memory as of-memory
-use Rattle.table.specs.Table as of-table
-use Rattle.table.specs.Element.{dropped}
-use Rattle.machine.specs.Machine.{Buffers, memoryAt, tableAt, segmentAt}
-use Rattle.machine.specs.Step.{Stepped}
-use Rattle.machine.specs.declared.records.Machine.{Machine}
-use Rattle.machine.specs.declared.operation.Operation.{Operation}
-use Rattle.machine.specs.declared.operation.Operation.the-variants as op
+use Rattle.types.specs.Prelude.{ℕ, _<_, _≡_, _⊎_}
+use Rattle.types.specs.Names.{cut}
+use Rattle.memory.specs.Names.{resized as resizedMemory}
+use Rattle.table.specs.Names.{resized as resizedTable, dropped}
+use Rattle.machine.specs.{Machine.Buffers, Machine.memoryAt, Machine.tableAt, Machine.segmentAt, Step.Stepped}
+use Rattle.machine.specs.declared.{records.Machine.Machine, operation.Operation.Operation}
 
 -- the instance that an operation may change: the one it names or makes
 pub data Target : Type 0 where
@@ -21,15 +15,15 @@ pub data Target : Type 0 where
   NewItems : Target
 
 unfoldable pub targetOf : Machine → Operation → Target
-targetOf m (op.Fuel o) = None
-targetOf m (op.NewMemory room wanted) = InMemory (m .counts .memories)
-targetOf m (op.Memory number o) = InMemory number
-targetOf m (op.NewTable room wanted initial) = InTable (m .counts .tables)
-targetOf m (op.Table number o) = InTable number
-targetOf m (op.TableCopy into source span) = InTable into
-targetOf m (op.TableInit table segment span) = InTable table
-targetOf m (op.DropSegment segment) = InSegment segment
-targetOf m (op.NewSegment element items) = NewItems
+targetOf m (Operation.Fuel o) = None
+targetOf m (Operation.NewMemory room wanted) = InMemory (m .counts .memories)
+targetOf m (Operation.Memory number o) = InMemory number
+targetOf m (Operation.NewTable room wanted initial) = InTable (m .counts .tables)
+targetOf m (Operation.Table number o) = InTable number
+targetOf m (Operation.TableCopy into source span) = InTable into
+targetOf m (Operation.TableInit table segment span) = InTable table
+targetOf m (Operation.DropSegment segment) = InSegment segment
+targetOf m (Operation.NewSegment element items) = NewItems
 
 -- every instance but the target has its record and the cells of its room as before; items change only where a segment is made
 pub record OthersStay (m : Machine) (b : Buffers) (op : Operation) (s : Stepped) : Type 0 where
@@ -46,6 +40,6 @@ pub record OthersStay (m : Machine) (b : Buffers) (op : Operation) (s : Stepped)
 
 -- no operation changes more of a record in use than its size: type, kind, place, room and places stay
 pub record OnlySizes (m : Machine) (s : Stepped) : Type 0 where
-  pub memory : (i : ℕ) → i < m .counts .memories → memoryAt (s .machine) i ≡ of-memory.resized (memoryAt m i) (memoryAt (s .machine) i .size)
-  pub table : (i : ℕ) → i < m .counts .tables → tableAt (s .machine) i ≡ of-table.resized (tableAt m i) (tableAt (s .machine) i .size)
+  pub memory : (i : ℕ) → i < m .counts .memories → memoryAt (s .machine) i ≡ resizedMemory (memoryAt m i) (memoryAt (s .machine) i .size)
+  pub table : (i : ℕ) → i < m .counts .tables → tableAt (s .machine) i ≡ resizedTable (tableAt m i) (tableAt (s .machine) i .size)
   pub segment : (i : ℕ) → i < m .counts .segments → (segmentAt (s .machine) i ≡ segmentAt m i) ⊎ (segmentAt (s .machine) i ≡ dropped (segmentAt m i))

@@ -8,3 +8,4 @@ pub mod Tables
 pub mod Segments
 pub mod Step
 pub mod Frame
+pub mod Names

@@ -1,20 +1,8 @@
 -- Document 01, "The machine": its records by number, and where the next room starts.
-use Prim.Native.Nat.{ℕ, _+_, _-_}
-use mathlib.Core.Bool.{Bool, false}
-use mathlib.Core.List.{List}
-use lib.Dec.{eqb}
-use lib.ListN.{getD, replicate}
-use Rattle.types.specs.Pick.{pick}
-use Rattle.types.specs.Fuel.{newFuel}
-use Rattle.types.specs.Limiter.{noLimiter}
-use Rattle.types.specs.declared.fuel.FuelCosts.{FuelCosts}
-use Rattle.types.specs.declared.index_ty.IndexType.the-variants as index
-use Rattle.types.specs.declared.memory_ty.PageSize.the-variants as page
-use Rattle.types.specs.declared.raw.RefType.the-variants as ref
-use Rattle.types.specs.declared.limits.Limits.{Limits}
-use Rattle.memory.specs.declared.memory.Memory.{Memory}
-use Rattle.table.specs.declared.table.Table.{Table}
-use Rattle.table.specs.declared.element.ElementSegment.{ElementSegment}
+use Rattle.types.specs.Prelude.{ℕ, _+_, _-_, Bool, false, List, eqb, getD, replicate}
+use Rattle.types.specs.Names.{pick, newFuel, noLimiter, FuelCosts, IndexType, PageSize, RefType, Limits}
+use Rattle.memory.specs.Names.{Memory}
+use Rattle.table.specs.Names.{Table, ElementSegment}
 use Rattle.machine.specs.declared.records.Machine.{Machine}
 
 -- what stands where no instance does
@@ -23,14 +11,14 @@ noLimits = record { minimum = 0; bounded = false; maximum = 0 }
 
 abbrev pub noMemory : Memory
 noMemory =
-    record { ty = record { index = index.I32; page = page.One; limits = noLimits }; start = 0; room = 0; size = 0 }
+    record { ty = record { index = IndexType.I32; page = PageSize.One; limits = noLimits }; start = 0; room = 0; size = 0 }
 
 abbrev pub noTable : Table
 noTable =
-    record { ty = record { element = ref.Func; index = index.I32; limits = noLimits }; start = 0; room = 0; size = 0 }
+    record { ty = record { element = RefType.Func; index = IndexType.I32; limits = noLimits }; start = 0; room = 0; size = 0 }
 
 abbrev pub noSegment : ElementSegment
-noSegment = record { ty = ref.Func; start = 0; places = 0; size = 0 }
+noSegment = record { ty = RefType.Func; start = 0; places = 0; size = 0 }
 
 -- instances are numbered from 0 in order of creation
 abbrev pub memoryAt : Machine → ℕ → Memory

@@ -1,35 +1,10 @@
 -- Document 01, operations 10 to 14 and 30: memories. 16 is tested once, then an operation is one on the memory's own record.
-use Prim.Native.Nat.{ℕ, _-_}
-use mathlib.Core.List.{List}
-use lib.Dec.{leb, ltb}
-use lib.ListN.{length}
-use Rattle.types.specs.Pick.{pick, unless, both}
-use Rattle.types.specs.Done.{Done, done}
-use Rattle.types.specs.Answer.{accept}
-use Rattle.types.specs.declared.answer.Answer.{Answer}
-use Rattle.types.specs.declared.answer.Answer.the-variants as answer
-use Rattle.types.specs.declared.fuel.Fuel.{Fuel}
-use Rattle.types.specs.declared.limiter.Limiter.{Limiter}
-use Rattle.types.specs.MemoryType.{buildMemory, matchMemory}
-use Rattle.types.specs.declared.memory_ty.BuiltMemory.{BuiltMemory}
-use Rattle.types.specs.declared.memory_ty.BuiltMemory.the-variants as built
-use Rattle.types.specs.declared.memory_ty.MemoryType.{MemoryType}
-use Rattle.types.specs.declared.memory_ty.WantedMemory.{WantedMemory}
-use Rattle.memory.specs.Memory.{pagesOf, loadMemory, storeMemory}
-use Rattle.memory.specs.New.{newMemory}
-use Rattle.memory.specs.Grow.{growMemory}
-use Rattle.memory.specs.declared.memory.Memory.{Memory}
-use Rattle.memory.specs.declared.grow.GrownMemory.{GrownMemory}
-use Rattle.memory.specs.declared.new.MadeMemory.{MadeMemory}
-use Rattle.memory.specs.declared.new.MadeMemory.the-variants as made
-use Rattle.memory.specs.declared.new.CreatedMemory.{CreatedMemory}
-use Rattle.machine.specs.Machine.{memoryAt, nextByte}
-use Rattle.machine.specs.Outcome.{leaves, refused, oneMemoryMore}
-use Rattle.machine.specs.declared.records.Machine.{Machine}
-use Rattle.machine.specs.declared.outcome.Outcome.{Outcome}
-use Rattle.machine.specs.declared.outcome.Change.the-variants as change
-use Rattle.machine.specs.declared.operation.MemoryOp.{MemoryOp}
-use Rattle.machine.specs.declared.operation.MemoryOp.the-variants as op
+use Rattle.types.specs.Prelude.{ℕ, _-_, List, leb, ltb, length}
+use Rattle.types.specs.Names.{pick, unless, both, Done, done, accept, buildMemory, matchMemory}
+use Rattle.types.specs.Names.{Answer, Fuel, Limiter, BuiltMemory, MemoryType, WantedMemory}
+use Rattle.memory.specs.Names.{pagesOf, loadMemory, storeMemory, newMemory, growMemory, Memory, GrownMemory, MadeMemory, CreatedMemory}
+use Rattle.machine.specs.{Machine.memoryAt, Machine.nextByte, Outcome.leaves, Outcome.refused, Outcome.oneMemoryMore}
+use Rattle.machine.specs.declared.{records.Machine.Machine, outcome.Outcome.Outcome, outcome.Change.Change, operation.MemoryOp.MemoryOp}
 
 -- an answer that leaves a memory's record, fuel and limiter
 abbrev pub memoryKept : Memory → Fuel → Limiter → Answer → GrownMemory
@@ -37,8 +12,8 @@ memoryKept m f l a = record { answer = a; memory = m; fuel = f; limiter = l }
 
 -- 30: the wanted type is built (1), then 1 exactly when the declared type is its subtype, else 0
 unfoldable pub linked : MemoryType → BuiltMemory → Answer
-linked t (built.Refused r) = answer.Refusal r
-linked t (built.Built wanted) = accept (pick (matchMemory t wanted) 1 0)
+linked t (BuiltMemory.Refused r) = Answer.Refusal r
+linked t (BuiltMemory.Built wanted) = accept (pick (matchMemory t wanted) 1 0)
 
 unfoldable pub linkTo : Memory → WantedMemory → Answer
 linkTo m w = linked (m .ty) (buildMemory (w .wide) (w .limits) (w .exponent))
@@ -49,15 +24,15 @@ memoryStored m f l s = done (memoryKept m f l (s .out)) (s .cells)
 
 -- 11 to 14 and 30, on one memory's record
 unfoldable pub performMemory : Memory → List ℕ → Fuel → Limiter → MemoryOp → Done GrownMemory
-performMemory m bs f l (op.Grow pages) = growMemory m bs pages f l
-performMemory m bs f l op.Size = done (memoryKept m f l (accept (pagesOf m))) bs
-performMemory m bs f l (op.Load kind pointer offset) = done (memoryKept m f l (loadMemory kind m bs pointer offset)) bs
-performMemory m bs f l (op.Store kind pointer offset bits) = memoryStored m f l (storeMemory kind m bs pointer offset bits)
-performMemory m bs f l (op.LinkCheck wanted) = done (memoryKept m f l (linkTo m wanted)) bs
+performMemory m bs f l (MemoryOp.Grow pages) = growMemory m bs pages f l
+performMemory m bs f l MemoryOp.Size = done (memoryKept m f l (accept (pagesOf m))) bs
+performMemory m bs f l (MemoryOp.Load kind pointer offset) = done (memoryKept m f l (loadMemory kind m bs pointer offset)) bs
+performMemory m bs f l (MemoryOp.Store kind pointer offset bits) = memoryStored m f l (storeMemory kind m bs pointer offset bits)
+performMemory m bs f l (MemoryOp.LinkCheck wanted) = done (memoryKept m f l (linkTo m wanted)) bs
 
 -- the record goes back to its place
 abbrev pub memoryOut : Machine → ℕ → GrownMemory → Outcome
-memoryOut m i g = record { answer = g .answer; change = change.Memory i (g .memory); counts = m .counts; fuel = g .fuel; limiter = g .limiter }
+memoryOut m i g = record { answer = g .answer; change = Change.Memory i (g .memory); counts = m .counts; fuel = g .fuel; limiter = g .limiter }
 
 abbrev pub memoryDone : Machine → ℕ → Done GrownMemory → Done Outcome
 memoryDone m i d = done (memoryOut m i (d .out)) (d .cells)
@@ -70,11 +45,11 @@ onMemory m bs i o =
 
 -- 10: a creation answers the new number; a refused one takes neither number nor room
 unfoldable pub madeMemory : Machine → MadeMemory → Limiter → Outcome
-madeMemory m (made.Refused r) l = leaves m (answer.Refusal r) (m .fuel) l
-madeMemory m (made.Made r) l =
+madeMemory m (MadeMemory.Refused r) l = leaves m (Answer.Refusal r) (m .fuel) l
+madeMemory m (MadeMemory.Made r) l =
     record {
       answer = accept (m .counts .memories);
-      change = change.Memory (m .counts .memories) r;
+      change = Change.Memory (m .counts .memories) r;
       counts = oneMemoryMore (m .counts);
       fuel = m .fuel;
       limiter = l;

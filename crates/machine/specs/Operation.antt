@@ -1,21 +1,8 @@
 -- Document 01, "Operation lines": what an operation can still say wrongly where every field has its type (18).
-use Prim.Native.Nat.{ℕ, zero, suc, _-_, _/_, _%_, _^_}
-use mathlib.Core.Bool.{Bool, true, false}
-use mathlib.Core.List.{List, [], _∷_, _++_}
-use lib.Dec.{eqb, leb, ltb}
-use lib.ListN.{take}
-use Rattle.types.specs.Pick.{pick, both}
-use Rattle.types.specs.declared.span.CopySpan.{CopySpan}
-use Rattle.memory.specs.declared.access.StoreKind.{StoreKind}
-use Rattle.memory.specs.declared.access.StoreKind.the-variants as store
-use Rattle.machine.specs.declared.operation.Script.{Script}
-use Rattle.machine.specs.declared.operation.Items.{Items}
-use Rattle.machine.specs.declared.operation.FuelOp.{FuelOp}
-use Rattle.machine.specs.declared.operation.FuelOp.the-variants as fuel
-use Rattle.machine.specs.declared.operation.MemoryOp.{MemoryOp}
-use Rattle.machine.specs.declared.operation.MemoryOp.the-variants as memory
-use Rattle.machine.specs.declared.operation.Operation.{Operation}
-use Rattle.machine.specs.declared.operation.Operation.the-variants as op
+use Rattle.types.specs.Prelude.{ℕ, zero, suc, _-_, _/_, _%_, _^_, Bool, true, false, List, [], _∷_, _++_, eqb, leb, ltb, take}
+use Rattle.types.specs.Names.{pick, both, CopySpan}
+use Rattle.memory.specs.Names.{StoreKind}
+use Rattle.machine.specs.declared.operation.{Script.Script, Items.Items, FuelOp.FuelOp, MemoryOp.MemoryOp, Operation.Operation}
 
 -- the n hexadecimal digits of a number, the highest first
 unfoldable pub digitsOf : ℕ → ℕ → List ℕ
@@ -57,15 +44,15 @@ itemsOf i = take (i .count) (i .first ∷ i .second ∷ i .third ∷ i .fourth �
 
 -- store kinds whose value has 32 bits
 unfoldable pub narrowStore : StoreKind → Bool
-narrowStore store.I32 = true
-narrowStore store.I64 = false
-narrowStore store.F32 = true
-narrowStore store.F64 = false
-narrowStore store.I32To8 = true
-narrowStore store.I32To16 = true
-narrowStore store.I64To8 = false
-narrowStore store.I64To16 = false
-narrowStore store.I64To32 = false
+narrowStore StoreKind.I32 = true
+narrowStore StoreKind.I64 = false
+narrowStore StoreKind.F32 = true
+narrowStore StoreKind.F64 = false
+narrowStore StoreKind.I32To8 = true
+narrowStore StoreKind.I32To16 = true
+narrowStore StoreKind.I64To8 = false
+narrowStore StoreKind.I64To16 = false
+narrowStore StoreKind.I64To32 = false
 
 -- a 32-bit store's value stays below 2^32
 unfoldable pub storeFields : StoreKind → ℕ → Bool
@@ -77,27 +64,27 @@ initFields s = both (ltb (s .from) (2 ^ 32)) (ltb (s .len) (2 ^ 32))
 
 -- of fuel and limiter
 unfoldable pub fuelWellFormed : FuelOp → Bool
-fuelWellFormed (fuel.SetFuel amount) = true
-fuelWellFormed fuel.GetFuel = true
-fuelWellFormed (fuel.Charge units) = true
-fuelWellFormed (fuel.SetLimiter script) = scriptFields script
+fuelWellFormed (FuelOp.SetFuel amount) = true
+fuelWellFormed FuelOp.GetFuel = true
+fuelWellFormed (FuelOp.Charge units) = true
+fuelWellFormed (FuelOp.SetLimiter script) = scriptFields script
 
 -- of one memory
 unfoldable pub memoryWellFormed : MemoryOp → Bool
-memoryWellFormed (memory.Grow pages) = true
-memoryWellFormed memory.Size = true
-memoryWellFormed (memory.Load kind pointer offset) = true
-memoryWellFormed (memory.Store kind pointer offset bits) = storeFields kind bits
-memoryWellFormed (memory.LinkCheck wanted) = true
+memoryWellFormed (MemoryOp.Grow pages) = true
+memoryWellFormed MemoryOp.Size = true
+memoryWellFormed (MemoryOp.Load kind pointer offset) = true
+memoryWellFormed (MemoryOp.Store kind pointer offset bits) = storeFields kind bits
+memoryWellFormed (MemoryOp.LinkCheck wanted) = true
 
 -- the operation says nothing wrong
 unfoldable pub wellFormed : Operation → Bool
-wellFormed (op.Fuel o) = fuelWellFormed o
-wellFormed (op.NewMemory room wanted) = true
-wellFormed (op.Memory number o) = memoryWellFormed o
-wellFormed (op.NewTable room wanted initial) = true
-wellFormed (op.Table number o) = true
-wellFormed (op.TableCopy into source span) = true
-wellFormed (op.TableInit table segment span) = initFields span
-wellFormed (op.DropSegment segment) = true
-wellFormed (op.NewSegment element items) = itemFields items
+wellFormed (Operation.Fuel o) = fuelWellFormed o
+wellFormed (Operation.NewMemory room wanted) = true
+wellFormed (Operation.Memory number o) = memoryWellFormed o
+wellFormed (Operation.NewTable room wanted initial) = true
+wellFormed (Operation.Table number o) = true
+wellFormed (Operation.TableCopy into source span) = true
+wellFormed (Operation.TableInit table segment span) = initFields span
+wellFormed (Operation.DropSegment segment) = true
+wellFormed (Operation.NewSegment element items) = itemFields items

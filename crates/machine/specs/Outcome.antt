@@ -1,26 +1,13 @@
 -- Document 01, "The machine": an operation changes one record at most; what it gives back, and the machine after it.
-use Prim.Native.Nat.{ℕ, _+_}
-use mathlib.Core.List.{List}
-use lib.Dec.{ltb}
-use lib.ListN.{set}
-use Rattle.types.specs.Pick.{pick}
-use Rattle.types.specs.Done.{Done, done}
-use Rattle.types.specs.Answer.{refuse}
-use Rattle.types.specs.declared.answer.Answer.{Answer}
-use Rattle.types.specs.declared.fuel.Fuel.{Fuel}
-use Rattle.types.specs.declared.limiter.Limiter.{Limiter}
-use Rattle.memory.specs.declared.memory.Memory.{Memory}
-use Rattle.table.specs.declared.table.Table.{Table}
-use Rattle.table.specs.declared.element.ElementSegment.{ElementSegment}
-use Rattle.machine.specs.declared.records.Machine.{Machine}
-use Rattle.machine.specs.declared.records.Counts.{Counts}
-use Rattle.machine.specs.declared.outcome.Outcome.{Outcome}
-use Rattle.machine.specs.declared.outcome.Change.{Change}
-use Rattle.machine.specs.declared.outcome.Change.the-variants as change
+use Rattle.types.specs.Prelude.{ℕ, _+_, List, ltb, set}
+use Rattle.types.specs.Names.{pick, Done, done, refuse, Answer, Fuel, Limiter}
+use Rattle.memory.specs.Names.{Memory}
+use Rattle.table.specs.Names.{Table, ElementSegment}
+use Rattle.machine.specs.declared.{records.Machine.Machine, records.Counts.Counts, outcome.Outcome.Outcome, outcome.Change.Change}
 
 -- an answer that changes no record, with the fuel and the limiter after it
 abbrev pub leaves : Machine → Answer → Fuel → Limiter → Outcome
-leaves m a f l = record { answer = a; change = change.Nothing; counts = m .counts; fuel = f; limiter = l }
+leaves m a f l = record { answer = a; change = Change.Nothing; counts = m .counts; fuel = f; limiter = l }
 
 -- an answer that leaves fuel and limiter too
 abbrev pub keeps : Machine → Answer → Outcome
@@ -45,10 +32,10 @@ withSegments m rs =
 
 -- the record at a place is another; past the eighth place there is none
 unfoldable pub changed : Change → Machine → Machine
-changed change.Nothing m = m
-changed (change.Memory i r) m = pick (ltb i 8) (withMemories m (set (m .memories) i r)) m
-changed (change.Table i r) m = pick (ltb i 8) (withTables m (set (m .tables) i r)) m
-changed (change.Segment i r) m = pick (ltb i 8) (withSegments m (set (m .segments) i r)) m
+changed Change.Nothing m = m
+changed (Change.Memory i r) m = pick (ltb i 8) (withMemories m (set (m .memories) i r)) m
+changed (Change.Table i r) m = pick (ltb i 8) (withTables m (set (m .tables) i r)) m
+changed (Change.Segment i r) m = pick (ltb i 8) (withSegments m (set (m .segments) i r)) m
 
 -- the same records with other numbers, fuel and limiter
 abbrev pub standing : Machine → Counts → Fuel → Limiter → Machine

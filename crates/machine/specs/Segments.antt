@@ -1,24 +1,10 @@
 -- Document 01, operations 27 to 29: segments. R, the bytes that a reference counts, is the first argument of an init.
-use Prim.Native.Nat.{ℕ, _-_}
-use mathlib.Core.List.{List}
-use lib.Dec.{leb, ltb}
-use lib.ListN.{length}
-use Rattle.types.specs.Pick.{unless, both}
-use Rattle.types.specs.Done.{Done, done}
-use Rattle.types.specs.Answer.{refuse, accept}
-use Rattle.types.specs.declared.answer.Answer.the-variants as answer
-use Rattle.types.specs.declared.raw.RefType.{RefType}
-use Rattle.types.specs.declared.span.CopySpan.{CopySpan}
-use Rattle.table.specs.Init.{initTable}
-use Rattle.table.specs.Element.{dropped, newSegment}
-use Rattle.table.specs.declared.element.MadeSegment.{MadeSegment}
-use Rattle.table.specs.declared.element.MadeSegment.the-variants as made
-use Rattle.machine.specs.Machine.{tableAt, segmentAt, nextItem}
-use Rattle.machine.specs.Outcome.{keeps, refused, oneSegmentMore}
+use Rattle.types.specs.Prelude.{ℕ, _-_, List, leb, ltb, length}
+use Rattle.types.specs.Names.{unless, both, Done, done, refuse, accept, Answer, RefType, CopySpan}
+use Rattle.table.specs.Names.{initTable, dropped, newSegment, MadeSegment}
+use Rattle.machine.specs.{Machine.tableAt, Machine.segmentAt, Machine.nextItem, Outcome.keeps, Outcome.refused, Outcome.oneSegmentMore}
 use Rattle.machine.specs.Tables.{spannedDone}
-use Rattle.machine.specs.declared.records.Machine.{Machine}
-use Rattle.machine.specs.declared.outcome.Outcome.{Outcome}
-use Rattle.machine.specs.declared.outcome.Change.the-variants as change
+use Rattle.machine.specs.declared.{records.Machine.Machine, outcome.Outcome.Outcome, outcome.Change.Change}
 
 -- 27: 16, then the init
 unfoldable pub initOn : ℕ → Machine → List ℕ → List ℕ → ℕ → ℕ → CopySpan → Done Outcome
@@ -32,7 +18,7 @@ dropOn m i =
     unless (ltb i (m .counts .segments)) (keeps m (refuse 16 0))
     (record {
       answer = accept 0;
-      change = change.Segment i (dropped (segmentAt m i));
+      change = Change.Segment i (dropped (segmentAt m i));
       counts = m .counts;
       fuel = m .fuel;
       limiter = m .limiter;
@@ -40,11 +26,11 @@ dropOn m i =
 
 -- 29: a creation answers the new number
 unfoldable pub madeSegment : Machine → MadeSegment → Outcome
-madeSegment m (made.Refused r) = keeps m (answer.Refusal r)
-madeSegment m (made.Made r) =
+madeSegment m (MadeSegment.Refused r) = keeps m (Answer.Refusal r)
+madeSegment m (MadeSegment.Made r) =
     record {
       answer = accept (m .counts .segments);
-      change = change.Segment (m .counts .segments) r;
+      change = Change.Segment (m .counts .segments) r;
       counts = oneSegmentMore (m .counts);
       fuel = m .fuel;
       limiter = m .limiter;

@@ -1,16 +1,8 @@
 -- Document 01, "The machine" and "Numbers given back" (19): when records and buffers are sound.
-use Prim.Native.Nat.{ℕ, _^_}
-use mathlib.Core.Bool.{Bool, true}
-use mathlib.Core.List.{List, [], _∷_}
-use lib.Dec.{eqb, leb}
-use lib.ListN.{length, take}
-use Rattle.types.specs.Pick.{both}
-use Rattle.memory.specs.Memory.{soundMemory}
-use Rattle.table.specs.Table.{soundTable}
-use Rattle.table.specs.Element.{soundSegment}
-use Rattle.memory.specs.declared.memory.Memory.{Memory}
-use Rattle.table.specs.declared.table.Table.{Table}
-use Rattle.table.specs.declared.element.ElementSegment.{ElementSegment}
+use Rattle.types.specs.Prelude.{ℕ, _^_, Bool, true, List, [], _∷_, eqb, leb, length, take}
+use Rattle.types.specs.Names.{both}
+use Rattle.memory.specs.Names.{soundMemory, Memory}
+use Rattle.table.specs.Names.{soundTable, soundSegment, Table, ElementSegment}
 use Rattle.machine.specs.Machine.{Buffers, memoryEnd, tableEnd, segmentEnd}
 use Rattle.machine.specs.declared.records.Machine.{Machine}
 

@@ -1,23 +1,11 @@
 -- Document 01, "First check wins" and "Operation lines": one operation on a machine. 18, 19, then 16 or 17, then the operation's own checks.
 -- R, the bytes that a reference counts, is the first argument throughout.
-use Prim.Native.Nat.{ℕ}
-use mathlib.Core.List.{List, [], _∷_}
-use Rattle.types.specs.Pick.{unless}
-use Rattle.types.specs.Done.{Done}
-use Rattle.types.specs.Answer.{refuse}
-use Rattle.types.specs.declared.answer.Answer.{Answer}
-use Rattle.machine.specs.Machine.{Buffers, buffers}
-use Rattle.machine.specs.Sound.{soundOver}
-use Rattle.machine.specs.Operation.{wellFormed, itemsOf}
-use Rattle.machine.specs.Outcome.{keeps, settled}
-use Rattle.machine.specs.Fueling.{onFuel}
-use Rattle.machine.specs.Memories.{newMemoryOn, onMemory}
-use Rattle.machine.specs.Tables.{newTableOn, onTable, copyOn}
-use Rattle.machine.specs.Segments.{initOn, dropOn, newSegmentOn}
-use Rattle.machine.specs.declared.records.Machine.{Machine}
-use Rattle.machine.specs.declared.outcome.Outcome.{Outcome}
-use Rattle.machine.specs.declared.operation.Operation.{Operation}
-use Rattle.machine.specs.declared.operation.Operation.the-variants as op
+use Rattle.types.specs.Prelude.{ℕ, List, [], _∷_}
+use Rattle.types.specs.Names.{unless, Done, refuse, Answer}
+use Rattle.machine.specs.{Machine.Buffers, Machine.buffers, Sound.soundOver, Operation.wellFormed, Operation.itemsOf, Outcome.keeps}
+use Rattle.machine.specs.{Outcome.settled, Fueling.onFuel, Memories.newMemoryOn, Memories.onMemory, Tables.newTableOn, Tables.onTable}
+use Rattle.machine.specs.{Tables.copyOn, Segments.initOn, Segments.dropOn, Segments.newSegmentOn}
+use Rattle.machine.specs.declared.{records.Machine.Machine, outcome.Outcome.Outcome, operation.Operation.Operation}
 
 -- an operation's outcome, and all buffers after it
 pub record Performed : Type 0 where
@@ -42,15 +30,15 @@ onItems d b = performed (d .out) (b .bytes) (b .cells) (d .cells)
 
 -- 16 or 17, then the operation's own checks
 unfoldable pub perform : ℕ → Machine → Buffers → Operation → Performed
-perform r m b (op.Fuel o) = onNone (onFuel m o) b
-perform r m b (op.NewMemory room wanted) = onBytes (newMemoryOn m (b .bytes) room wanted) b
-perform r m b (op.Memory number o) = onBytes (onMemory m (b .bytes) number o) b
-perform r m b (op.NewTable room wanted initial) = onCells (newTableOn m (b .cells) room wanted initial) b
-perform r m b (op.Table number o) = onCells (onTable r m (b .cells) number o) b
-perform r m b (op.TableCopy into source span) = onCells (copyOn r m (b .cells) into source span) b
-perform r m b (op.TableInit table segment span) = onCells (initOn r m (b .cells) (b .items) table segment span) b
-perform r m b (op.DropSegment segment) = onNone (dropOn m segment) b
-perform r m b (op.NewSegment element items) = onItems (newSegmentOn m (b .items) element (itemsOf items)) b
+perform r m b (Operation.Fuel o) = onNone (onFuel m o) b
+perform r m b (Operation.NewMemory room wanted) = onBytes (newMemoryOn m (b .bytes) room wanted) b
+perform r m b (Operation.Memory number o) = onBytes (onMemory m (b .bytes) number o) b
+perform r m b (Operation.NewTable room wanted initial) = onCells (newTableOn m (b .cells) room wanted initial) b
+perform r m b (Operation.Table number o) = onCells (onTable r m (b .cells) number o) b
+perform r m b (Operation.TableCopy into source span) = onCells (copyOn r m (b .cells) into source span) b
+perform r m b (Operation.TableInit table segment span) = onCells (initOn r m (b .cells) (b .items) table segment span) b
+perform r m b (Operation.DropSegment segment) = onNone (dropOn m segment) b
+perform r m b (Operation.NewSegment element items) = onItems (newSegmentOn m (b .items) element (itemsOf items)) b
 
 -- 18, 19, then the rest
 unfoldable pub decide : ℕ → Machine → Buffers → Operation → Performed

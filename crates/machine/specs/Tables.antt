@@ -1,37 +1,10 @@
 -- Document 01, operations 20 to 26: tables. 16 is tested once, then an operation is one on the table's own record.
 -- R, the bytes that a reference counts, is the first argument throughout.
-use Prim.Native.Nat.{ℕ, _-_}
-use mathlib.Core.List.{List}
-use lib.Dec.{eqb, leb, ltb}
-use lib.ListN.{length}
-use Rattle.types.specs.Pick.{pick, unless, both}
-use Rattle.types.specs.Done.{Done, done}
-use Rattle.types.specs.Answer.{accept}
-use Rattle.types.specs.declared.answer.Answer.{Answer}
-use Rattle.types.specs.declared.answer.Answer.the-variants as answer
-use Rattle.types.specs.declared.fuel.Fuel.{Fuel}
-use Rattle.types.specs.declared.limiter.Limiter.{Limiter}
-use Rattle.types.specs.declared.grant.Spanned.{Spanned}
-use Rattle.types.specs.declared.raw.TypedRawRef.{TypedRawRef}
-use Rattle.types.specs.declared.span.CopySpan.{CopySpan}
-use Rattle.types.specs.declared.table_ty.WantedTable.{WantedTable}
-use Rattle.table.specs.Table.{getTable, setTable}
-use Rattle.table.specs.New.{newTable}
-use Rattle.table.specs.Grow.{growTable}
-use Rattle.table.specs.Fill.{fillTable}
-use Rattle.table.specs.Copy.{copyTable, copyWithin}
-use Rattle.table.specs.declared.table.Table.{Table}
-use Rattle.table.specs.declared.grow.GrownTable.{GrownTable}
-use Rattle.table.specs.declared.new.MadeTable.{MadeTable}
-use Rattle.table.specs.declared.new.MadeTable.the-variants as made
-use Rattle.table.specs.declared.new.CreatedTable.{CreatedTable}
-use Rattle.machine.specs.Machine.{tableAt, nextCell}
-use Rattle.machine.specs.Outcome.{leaves, refused, oneTableMore}
-use Rattle.machine.specs.declared.records.Machine.{Machine}
-use Rattle.machine.specs.declared.outcome.Outcome.{Outcome}
-use Rattle.machine.specs.declared.outcome.Change.the-variants as change
-use Rattle.machine.specs.declared.operation.TableOp.{TableOp}
-use Rattle.machine.specs.declared.operation.TableOp.the-variants as op
+use Rattle.types.specs.Prelude.{ℕ, _-_, List, eqb, leb, ltb, length}
+use Rattle.types.specs.Names.{pick, unless, both, Done, done, accept, Answer, Fuel, Limiter, Spanned, TypedRawRef, CopySpan, WantedTable}
+use Rattle.table.specs.Names.{getTable, setTable, newTable, growTable, fillTable, copyTable, copyWithin, Table, GrownTable, MadeTable, CreatedTable}
+use Rattle.machine.specs.{Machine.tableAt, Machine.nextCell, Outcome.leaves, Outcome.refused, Outcome.oneTableMore}
+use Rattle.machine.specs.declared.{records.Machine.Machine, outcome.Outcome.Outcome, outcome.Change.Change, operation.TableOp.TableOp}
 
 -- an answer that leaves a table's record, with fuel and limiter after it
 abbrev pub tableKept : Table → Fuel → Limiter → Answer → GrownTable
@@ -47,15 +20,15 @@ tableSpanned t l s = done (tableKept t (s .out .fuel) l (s .out .answer)) (s .ce
 
 -- 21 to 25, on one table's record
 unfoldable pub performTable : ℕ → Table → List ℕ → Fuel → Limiter → TableOp → Done GrownTable
-performTable r t cs f l (op.Grow cells value) = growTable r t cs cells value f l
-performTable r t cs f l op.Size = done (tableKept t f l (accept (t .size))) cs
-performTable r t cs f l (op.Get index) = done (tableKept t f l (getTable t cs index)) cs
-performTable r t cs f l (op.Set index value) = tableStored t f l (setTable t cs index value)
-performTable r t cs f l (op.Fill start value len) = tableSpanned t l (fillTable r t cs (record { start = start; len = len }) value f)
+performTable r t cs f l (TableOp.Grow cells value) = growTable r t cs cells value f l
+performTable r t cs f l TableOp.Size = done (tableKept t f l (accept (t .size))) cs
+performTable r t cs f l (TableOp.Get index) = done (tableKept t f l (getTable t cs index)) cs
+performTable r t cs f l (TableOp.Set index value) = tableStored t f l (setTable t cs index value)
+performTable r t cs f l (TableOp.Fill start value len) = tableSpanned t l (fillTable r t cs (record { start = start; len = len }) value f)
 
 -- the record goes back to its place
 abbrev pub tableOut : Machine → ℕ → GrownTable → Outcome
-tableOut m i g = record { answer = g .answer; change = change.Table i (g .table); counts = m .counts; fuel = g .fuel; limiter = g .limiter }
+tableOut m i g = record { answer = g .answer; change = Change.Table i (g .table); counts = m .counts; fuel = g .fuel; limiter = g .limiter }
 
 abbrev pub tableDone : Machine → ℕ → Done GrownTable → Done Outcome
 tableDone m i d = done (tableOut m i (d .out)) (d .cells)
@@ -88,11 +61,11 @@ copyOn r m cs into source span =
 
 -- 20: a creation answers the new number; a refused one takes neither number nor room
 unfoldable pub madeTable : Machine → MadeTable → Limiter → Outcome
-madeTable m (made.Refused r) l = leaves m (answer.Refusal r) (m .fuel) l
-madeTable m (made.Made r) l =
+madeTable m (MadeTable.Refused r) l = leaves m (Answer.Refusal r) (m .fuel) l
+madeTable m (MadeTable.Made r) l =
     record {
       answer = accept (m .counts .tables);
-      change = change.Table (m .counts .tables) r;
+      change = Change.Table (m .counts .tables) r;
       counts = oneTableMore (m .counts);
       fuel = m .fuel;
       limiter = l;

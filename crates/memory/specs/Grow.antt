@@ -1,27 +1,10 @@
 -- Document 01, "First check wins", grow memory: by 0 accepted; 6 beyond the bounds; limiter 6/4 without notice; 7 with notice; 8 with notice.
 -- WebAssembly Core Specification 3.0, Execution, Modules, growing memories: the answer is the size before, and the new bytes are 0.
-use Prim.Native.Nat.{ℕ, _+_, _-_, _*_}
-use mathlib.Core.Bool.{Bool}
-use mathlib.Core.List.{List}
-use lib.Dec.{eqb, leb, ltb}
-use lib.ListN.{length, replicate}
-use Rattle.types.specs.Numbers.{word64}
-use Rattle.types.specs.Pick.{pick, unless, both}
-use Rattle.types.specs.Done.{Done, done}
-use Rattle.types.specs.Span.{over}
-use Rattle.types.specs.Answer.{refuse, accept}
-use Rattle.types.specs.Price.{price}
-use Rattle.types.specs.Fuel.{short, paid}
-use Rattle.types.specs.Limiter.{saysOf, moved, noticed}
-use Rattle.types.specs.declared.answer.Answer.{Answer}
-use Rattle.types.specs.declared.fuel.Fuel.{Fuel}
-use Rattle.types.specs.declared.limiter.Limiter.{Limiter}
-use Rattle.types.specs.Limits.{admitsOf}
-use Rattle.types.specs.MemoryType.{pageBytes, pageBound}
-use Rattle.types.specs.declared.memory_ty.MemoryType.{MemoryType}
+use Rattle.types.specs.Prelude.{ℕ, _+_, _-_, _*_, Bool, List, eqb, leb, ltb, length, replicate}
+use Rattle.types.specs.Names.{word64, pick, unless, both, Done, done, over, refuse, accept, price, short, paid, saysOf, moved, noticed, admitsOf}
+use Rattle.types.specs.Names.{pageBytes, pageBound, Answer, Fuel, Limiter, MemoryType}
 use Rattle.memory.specs.Memory.{pagesOf, resized, soundMemory}
-use Rattle.memory.specs.declared.memory.Memory.{Memory}
-use Rattle.memory.specs.declared.grow.GrownMemory.{GrownMemory}
+use Rattle.memory.specs.declared.{memory.Memory.Memory, grow.GrownMemory.GrownMemory}
 
 -- what a growth gives back
 abbrev pub answered : Answer → Memory → Fuel → Limiter → GrownMemory

@@ -1,12 +1,6 @@
 -- Document 01, "Access": host reads and writes of any length; length 0 passes at the size and not beyond.
-use Prim.Native.Nat.{ℕ, _+_}
-use mathlib.Core.List.{List}
-use lib.ListN.{length}
-use Rattle.types.specs.Pick.{pick}
-use Rattle.types.specs.Done.{Done, done}
-use Rattle.types.specs.Span.{inside, cut, over}
-use Rattle.types.specs.Answer.{refuse, accept}
-use Rattle.types.specs.declared.answer.Answer.{Answer}
+use Rattle.types.specs.Prelude.{ℕ, _+_, List, length}
+use Rattle.types.specs.Names.{pick, Done, done, inside, cut, over, refuse, accept, Answer}
 use Rattle.memory.specs.Memory.{soundMemory}
 use Rattle.memory.specs.declared.memory.Memory.{Memory}
 

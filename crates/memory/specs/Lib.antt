@@ -4,4 +4,5 @@ pub mod Memory
 pub mod New
 pub mod Grow
 pub mod Host
+pub mod Names
 pub mod stages

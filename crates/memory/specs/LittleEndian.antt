@@ -1,7 +1,6 @@
 -- WebAssembly Core Specification 3.0, Execution, Numerics, storage: the bytes of an integer, the lowest first; reading is the inverse.
-use Prim.Native.Nat.{ℕ, zero, suc, _+_, _*_, _/_, _%_}
-use mathlib.Core.List.{List, [], _∷_}
-use Rattle.types.specs.Numbers.{word8}
+use Rattle.types.specs.Prelude.{ℕ, zero, suc, _+_, _*_, _/_, _%_, List, [], _∷_}
+use Rattle.types.specs.Names.{word8}
 
 -- the n low bytes of a number
 unfoldable pub leBytes : ℕ → ℕ → List ℕ

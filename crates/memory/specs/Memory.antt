@@ -1,19 +1,8 @@
 -- Document 01, "The machine": a memory's record, its size, and when it is sound; WebAssembly Core Specification 3.0, Execution, Runtime structure, memory instances.
-use Prim.Native.Nat.{ℕ, _+_, _/_, _%_}
-use mathlib.Core.Bool.{Bool}
-use mathlib.Core.List.{List}
-use lib.Dec.{eqb, leb}
-use lib.ListN.{length}
-use Rattle.types.specs.Pick.{pick, both}
-use Rattle.types.specs.Done.{Done, done}
-use Rattle.types.specs.Limits.{admitsOf}
-use Rattle.types.specs.MemoryType.{pageBytes, pageBound, validMemory}
-use Rattle.types.specs.Answer.{refuse}
-use Rattle.types.specs.declared.answer.Answer.{Answer}
+use Rattle.types.specs.Prelude.{ℕ, _+_, _/_, _%_, Bool, List, eqb, leb, length}
+use Rattle.types.specs.Names.{pick, both, Done, done, admitsOf, pageBytes, pageBound, validMemory, refuse, Answer}
 use Rattle.memory.specs.Access.{loadAt, storeAt}
-use Rattle.memory.specs.declared.access.LoadKind.{LoadKind}
-use Rattle.memory.specs.declared.access.StoreKind.{StoreKind}
-use Rattle.memory.specs.declared.memory.Memory.{Memory}
+use Rattle.memory.specs.declared.{access.LoadKind.LoadKind, access.StoreKind.StoreKind, memory.Memory.Memory}
 
 -- the size in pages
 unfoldable pub pagesOf : Memory → ℕ

@@ -1,26 +1,12 @@
 -- Document 01, "First check wins", new memory: 1, 2, limiter 3/4, room 5 with notice; not metered; cells become 0.
-use Prim.Native.Nat.{ℕ, _+_, _*_}
-use mathlib.Core.List.{List}
-use lib.Dec.{eqb, leb, ltb}
-use lib.ListN.{length, replicate}
-use Rattle.types.specs.Numbers.{word64}
-use Rattle.types.specs.Pick.{pick, unless, both}
-use Rattle.types.specs.Done.{Done, done}
-use Rattle.types.specs.Span.{over}
-use Rattle.types.specs.Answer.{refusal}
-use Rattle.types.specs.Limiter.{saysOf, moved, heardOf}
-use Rattle.types.specs.declared.answer.Refusal.{Refusal}
-use Rattle.types.specs.declared.limiter.Limiter.{Limiter}
-use Rattle.types.specs.MemoryType.{pageBytes, pageOf, memoryType, validExponent, validMemory}
-use Rattle.types.specs.declared.memory_ty.MemoryType.{MemoryType}
-use Rattle.types.specs.declared.memory_ty.WantedMemory.{WantedMemory}
-use Rattle.memory.specs.declared.memory.Memory.{Memory}
-use Rattle.memory.specs.declared.new.MadeMemory.the-variants.{Made, Refused}
-use Rattle.memory.specs.declared.new.CreatedMemory.{CreatedMemory}
+use Rattle.types.specs.Prelude.{ℕ, _+_, _*_, List, eqb, leb, ltb, length, replicate}
+use Rattle.types.specs.Names.{word64, pick, unless, both, Done, done, over, refusal, saysOf, moved, heardOf, pageBytes, pageOf, memoryType}
+use Rattle.types.specs.Names.{validExponent, validMemory, Refusal, Limiter, MemoryType, WantedMemory}
+use Rattle.memory.specs.declared.{memory.Memory.Memory, new.MadeMemory.MadeMemory, new.CreatedMemory.CreatedMemory}
 
 -- a refused creation changes no byte
 abbrev pub refused : Limiter → Refusal → CreatedMemory
-refused l r = record { made = Refused r; limiter = l }
+refused l r = record { made = MadeMemory.Refused r; limiter = l }
 
 -- a memory's record
 abbrev pub memoryOf : MemoryType → ℕ → ℕ → ℕ → Memory
@@ -43,5 +29,5 @@ newMemory w start room bs l =
     (pick (eqb (saysOf l) 1) (done (refused (moved l) (refusal 3 0)) bs)
     (pick (eqb (saysOf l) 2) (done (refused (moved l) (refusal 4 0)) bs)
     (unless (leb (leastBytes w) room) (done (refused (moved (moved l)) (heardOf (saysOf (moved l)) (refusal 5 0))) bs)
-    (done (record { made = Made (memoryOf (wanted w) start room (leastBytes w)); limiter = moved l })
+    (done (record { made = MadeMemory.Made (memoryOf (wanted w) start room (leastBytes w)); limiter = moved l })
     (over bs start (replicate (leastBytes w) 0))))))))

@@ -1,19 +1,7 @@
 -- Document 01, "First check wins", copy: 14, 12, 7, at length 0 too; WebAssembly Core Specification 3.0, Execution, Instructions, table.copy, whose steps leave this span.
-use mathlib.Core.Bool.{Bool, true}
-use lib.Dec.{leb}
-use Prim.Native.Nat.{ℕ, _+_, _*_}
-use mathlib.Core.List.{List}
-use lib.ListN.{length}
-use Rattle.types.specs.Pick.{pick, unless, both}
-use Rattle.types.specs.Span.{inside, cut, over}
-use Rattle.types.specs.Answer.{refuse, accept}
-use Rattle.types.specs.Price.{price}
-use Rattle.types.specs.Fuel.{short, paid}
-use Rattle.types.specs.Done.{Done, spanDone}
-use Rattle.types.specs.declared.fuel.Fuel.{Fuel}
-use Rattle.types.specs.declared.grant.Spanned.{Spanned}
-use Rattle.types.specs.declared.span.CopySpan.{CopySpan}
-use Rattle.types.specs.TableType.{elementMatches}
+use Rattle.types.specs.Prelude.{ℕ, _+_, _*_, Bool, true, List, leb, length}
+use Rattle.types.specs.Names.{pick, unless, both, inside, cut, over, refuse, accept, price, short, paid, Done, spanDone, elementMatches}
+use Rattle.types.specs.Names.{Fuel, Spanned, CopySpan}
 use Rattle.table.specs.Table.{soundTable}
 use Rattle.table.specs.declared.table.Table.{Table}
 

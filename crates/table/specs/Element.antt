@@ -1,19 +1,8 @@
 -- Document 01, "The machine": element segments; WebAssembly Core Specification 3.0, Execution, Instructions, elem.drop.
-use Prim.Native.Nat.{ℕ, _+_}
-use mathlib.Core.Bool.{Bool}
-use mathlib.Core.List.{List}
-use lib.Dec.{leb}
-use lib.ListN.{length, getD}
-use Rattle.types.specs.Pick.{pick, both}
-use Rattle.types.specs.Done.{Done, done}
-use Rattle.types.specs.Span.{over}
-use Rattle.types.specs.Answer.{refusal, refuse, accept}
-use Rattle.types.specs.declared.answer.Answer.{Answer}
-use Rattle.types.specs.declared.raw.RefType.{RefType}
+use Rattle.types.specs.Prelude.{ℕ, _+_, Bool, List, leb, length, getD}
+use Rattle.types.specs.Names.{pick, both, Done, done, over, refusal, refuse, accept, Answer, RefType}
 use Rattle.table.specs.Table.{soundBuffer}
-use Rattle.table.specs.declared.element.ElementSegment.{ElementSegment}
-use Rattle.table.specs.declared.element.MadeSegment.{MadeSegment}
-use Rattle.table.specs.declared.element.MadeSegment.the-variants.{Made, Refused}
+use Rattle.table.specs.declared.element.{ElementSegment.ElementSegment, MadeSegment.MadeSegment}
 
 -- a sound segment: its places lie inside the items, and its size within its places
 unfoldable pub soundSegment : ElementSegment → ℕ → Bool
@@ -34,5 +23,5 @@ itemOf s items i =
 unfoldable pub newSegment : RefType → ℕ → List ℕ → List ℕ → Done MadeSegment
 newSegment k start items given =
     pick (soundBuffer start (length given) (length items))
-    (done (Made (record { ty = k; start = start; places = length given; size = length given })) (over items start given))
-    (done (Refused (refusal 19 0)) items)
+    (done (MadeSegment.Made (record { ty = k; start = start; places = length given; size = length given })) (over items start given))
+    (done (MadeSegment.Refused (refusal 19 0)) items)

@@ -1,18 +1,7 @@
 -- Document 01, "First check wins", fill: 14, 11, 7; WebAssembly Core Specification 3.0, Execution, Instructions, table.fill, whose steps leave this span.
-use Prim.Native.Nat.{ℕ, _+_, _*_}
-use mathlib.Core.List.{List}
-use lib.ListN.{length, replicate}
-use Rattle.types.specs.Pick.{pick, unless}
-use Rattle.types.specs.Span.{inside, over}
-use Rattle.types.specs.Answer.{refuse, accept}
-use Rattle.types.specs.Price.{price}
-use Rattle.types.specs.Fuel.{short, paid}
-use Rattle.types.specs.Done.{Done, spanDone}
-use Rattle.types.specs.declared.fuel.Fuel.{Fuel}
-use Rattle.types.specs.declared.grant.Spanned.{Spanned}
-use Rattle.types.specs.declared.span.FillSpan.{FillSpan}
-use Rattle.types.specs.TableType.{elementMatches}
-use Rattle.types.specs.declared.raw.TypedRawRef.{TypedRawRef}
+use Rattle.types.specs.Prelude.{ℕ, _+_, _*_, List, length, replicate}
+use Rattle.types.specs.Names.{pick, unless, inside, over, refuse, accept, price, short, paid, Done, spanDone, elementMatches}
+use Rattle.types.specs.Names.{Fuel, Spanned, FillSpan, TypedRawRef}
 use Rattle.table.specs.Table.{soundTable}
 use Rattle.table.specs.declared.table.Table.{Table}
 

@@ -1,26 +1,10 @@
 -- Document 01, "First check wins", grow table: 14; by 0 accepted; 6 at the index type's largest size; limiter 6/4; 6 with notice above the maximum; 7 and 8 with notice.
 -- WebAssembly Core Specification 3.0, Execution, Modules, growing tables: the new cells hold the reference given. R is the bytes that a reference counts.
-use Prim.Native.Nat.{ℕ, _+_, _*_}
-use mathlib.Core.List.{List}
-use lib.Dec.{eqb, leb, ltb}
-use lib.ListN.{length, replicate}
-use Rattle.types.specs.Pick.{pick, unless}
-use Rattle.types.specs.Done.{Done, done}
-use Rattle.types.specs.Span.{over}
-use Rattle.types.specs.Answer.{refuse, accept}
-use Rattle.types.specs.Price.{price}
-use Rattle.types.specs.Fuel.{short, paid}
-use Rattle.types.specs.Limiter.{saysOf, moved, noticed}
-use Rattle.types.specs.declared.answer.Answer.{Answer}
-use Rattle.types.specs.declared.fuel.Fuel.{Fuel}
-use Rattle.types.specs.declared.limiter.Limiter.{Limiter}
-use Rattle.types.specs.IndexType.{maxSize}
-use Rattle.types.specs.Limits.{admitsOf}
-use Rattle.types.specs.TableType.{elementMatches}
-use Rattle.types.specs.declared.raw.TypedRawRef.{TypedRawRef}
+use Rattle.types.specs.Prelude.{ℕ, _+_, _*_, List, eqb, leb, ltb, length, replicate}
+use Rattle.types.specs.Names.{pick, unless, Done, done, over, refuse, accept, price, short, paid, saysOf, moved, noticed, maxSize, admitsOf}
+use Rattle.types.specs.Names.{elementMatches, Answer, Fuel, Limiter, TypedRawRef}
 use Rattle.table.specs.Table.{resized, soundTable}
-use Rattle.table.specs.declared.table.Table.{Table}
-use Rattle.table.specs.declared.grow.GrownTable.{GrownTable}
+use Rattle.table.specs.declared.{table.Table.Table, grow.GrownTable.GrownTable}
 
 -- what a growth gives back
 abbrev pub answered : Answer → Table → Fuel → Limiter → GrownTable

@@ -1,22 +1,9 @@
 -- Document 01, "First check wins", init: 14, 13, length 0 accepted without fuel, 7; WebAssembly Core Specification 3.0, Execution, Instructions, table.init, whose steps leave this span.
-use lib.Dec.{eqb}
-use Prim.Native.Nat.{ℕ, _+_, _*_}
-use mathlib.Core.List.{List}
-use lib.ListN.{length}
-use Rattle.types.specs.Pick.{pick, unless, both}
-use Rattle.types.specs.Span.{inside, cut, over}
-use Rattle.types.specs.Answer.{refuse, accept}
-use Rattle.types.specs.Price.{price}
-use Rattle.types.specs.Fuel.{short, paid}
-use Rattle.types.specs.Done.{Done, spanDone}
-use Rattle.types.specs.declared.fuel.Fuel.{Fuel}
-use Rattle.types.specs.declared.grant.Spanned.{Spanned}
-use Rattle.types.specs.declared.span.CopySpan.{CopySpan}
-use Rattle.types.specs.TableType.{elementMatches}
-use Rattle.table.specs.Table.{soundTable}
-use Rattle.table.specs.Element.{soundSegment}
-use Rattle.table.specs.declared.table.Table.{Table}
-use Rattle.table.specs.declared.element.ElementSegment.{ElementSegment}
+use Rattle.types.specs.Prelude.{ℕ, _+_, _*_, List, eqb, length}
+use Rattle.types.specs.Names.{pick, unless, both, inside, cut, over, refuse, accept, price, short, paid, Done, spanDone, elementMatches}
+use Rattle.types.specs.Names.{Fuel, Spanned, CopySpan}
+use Rattle.table.specs.{Table.soundTable, Element.soundSegment}
+use Rattle.table.specs.declared.{table.Table.Table, element.ElementSegment.ElementSegment}
 
 -- items of a segment go to cells of the table
 unfoldable pub initTable : ℕ → Table → ElementSegment → List ℕ → List ℕ → CopySpan → Fuel → Done Spanned

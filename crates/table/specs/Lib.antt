@@ -5,4 +5,5 @@ pub mod Grow
 pub mod Fill
 pub mod Copy
 pub mod Init
+pub mod Names
 pub mod stages

@@ -1,18 +1,7 @@
 -- Document 01, "The machine": a table's record, and when it is sound; WebAssembly Core Specification 3.0, Execution, Runtime structure, table instances, and table.get, table.set.
-use Prim.Native.Nat.{ℕ, _+_}
-use mathlib.Core.Bool.{Bool}
-use mathlib.Core.List.{List}
-use lib.Dec.{leb}
-use lib.ListN.{length, getD, replicate}
-use Rattle.types.specs.Numbers.{word32}
-use Rattle.types.specs.Pick.{pick, both}
-use Rattle.types.specs.Done.{Done, done}
-use Rattle.types.specs.Span.{inside, over}
-use Rattle.types.specs.Limits.{admitsOf}
-use Rattle.types.specs.TableType.{tableBound, validTable, elementMatches}
-use Rattle.types.specs.Answer.{refuse, accept}
-use Rattle.types.specs.declared.answer.Answer.{Answer}
-use Rattle.types.specs.declared.raw.TypedRawRef.{TypedRawRef}
+use Rattle.types.specs.Prelude.{ℕ, _+_, Bool, List, leb, length, getD, replicate}
+use Rattle.types.specs.Names.{word32, pick, both, Done, done, inside, over, admitsOf, tableBound, validTable, elementMatches, refuse, accept}
+use Rattle.types.specs.Names.{Answer, TypedRawRef}
 use Rattle.table.specs.declared.table.Table.{Table}
 
 -- the same table with another size

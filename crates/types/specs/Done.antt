@@ -1,9 +1,6 @@
 -- What every operation that is lent a buffer leaves behind: memories, tables and element segments alike.
-use Prim.Native.Nat.{ℕ}
-use mathlib.Core.List.{List}
-use Rattle.types.specs.declared.answer.Answer.{Answer}
-use Rattle.types.specs.declared.fuel.Fuel.{Fuel}
-use Rattle.types.specs.declared.grant.Spanned.{Spanned}
+use Rattle.types.specs.Prelude.{ℕ, List}
+use Rattle.types.specs.declared.{answer.Answer.Answer, fuel.Fuel.Fuel, grant.Spanned.Spanned}
 
 -- a function's result, and the cells of the buffer that it is lent after it
 pub record Done (A : Type 0) : Type 0 where

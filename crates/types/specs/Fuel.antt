@@ -1,14 +1,7 @@
 -- Document 01, "Fuel" and "Numbers given back" (7, 15): the fuel record and its charges.
-use Prim.Native.Nat.{ℕ, _-_}
-use mathlib.Core.Bool.{Bool}
-use lib.Dec.{ltb}
-use Rattle.types.specs.Pick.{pick, both}
-use Rattle.types.specs.Answer.{refusal, refuse, accept}
-use Rattle.types.specs.declared.answer.Answer.{Answer}
-use Rattle.types.specs.declared.fuel.FuelCosts.{FuelCosts}
-use Rattle.types.specs.declared.fuel.Fuel.{Fuel}
-use Rattle.types.specs.declared.fuel.FuelStep.{FuelStep}
-use Rattle.types.specs.declared.fuel.FuelStep.the-variants.{Done, Refused}
+use Rattle.types.specs.Prelude.{ℕ, _-_, Bool, ltb}
+use Rattle.types.specs.{Pick.pick, Pick.both, Answer.refusal, Answer.refuse, Answer.accept}
+use Rattle.types.specs.declared.{answer.Answer.Answer, fuel.FuelCosts.FuelCosts, fuel.Fuel.Fuel, fuel.FuelStep.FuelStep}
 
 -- the costs where none are given: 64 bytes copied a unit, 7 units a byte translated, 2 a byte validated
 abbrev pub defaultCosts : FuelCosts
@@ -32,7 +25,7 @@ paid f p = pick (f .enabled) (left f (f .remaining - p)) f
 
 -- n units are left from now on; 15 with metering off
 unfoldable pub setFuel : Fuel → ℕ → FuelStep
-setFuel f n = pick (f .enabled) (Done (left f n)) (Refused (refusal 15 0))
+setFuel f n = pick (f .enabled) (FuelStep.Done (left f n)) (FuelStep.Refused (refusal 15 0))
 
 -- how much is left; 15 with metering off
 unfoldable pub getFuel : Fuel → Answer
@@ -40,12 +33,12 @@ getFuel f = pick (f .enabled) (accept (f .remaining)) (refuse 15 0)
 
 -- a charge that exceeds what is left takes nothing, and the refusal has the whole price
 unfoldable pub consumeUnchecked : Fuel → ℕ → FuelStep
-consumeUnchecked f p = pick (ltb (f .remaining) p) (Refused (refusal 7 p)) (Done (left f (f .remaining - p)))
+consumeUnchecked f p = pick (ltb (f .remaining) p) (FuelStep.Refused (refusal 7 p)) (FuelStep.Done (left f (f .remaining - p)))
 
 -- a charge; 15 with metering off
 unfoldable pub consume : Fuel → ℕ → FuelStep
-consume f p = pick (f .enabled) (consumeUnchecked f p) (Refused (refusal 15 0))
+consume f p = pick (f .enabled) (consumeUnchecked f p) (FuelStep.Refused (refusal 15 0))
 
 -- the fuel step of the metered operations: free with metering off
 unfoldable pub consumeIf : Fuel → ℕ → FuelStep
-consumeIf f p = pick (f .enabled) (consumeUnchecked f p) (Done f)
+consumeIf f p = pick (f .enabled) (consumeUnchecked f p) (FuelStep.Done f)

@@ -1,6 +1,5 @@
 -- WebAssembly Core Specification 3.0, Structure, Types, address types; document 01, "Modules in port order": index type; largest size 2^32 or 2^64.
-use Prim.Native.Nat.{ℕ, _^_}
-use mathlib.Core.Bool.{Bool, true, false}
+use Rattle.types.specs.Prelude.{ℕ, _^_, Bool, true, false}
 use Rattle.types.specs.declared.index_ty.IndexType.{IndexType}
 use Rattle.types.specs.declared.index_ty.IndexType.the-variants.{I32, I64}
 

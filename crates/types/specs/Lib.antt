@@ -1,3 +1,4 @@
+pub mod Prelude
 pub mod Numbers
 pub mod Pick
 pub mod Done
@@ -13,4 +14,5 @@ pub mod Limits
 pub mod MemoryType
 pub mod Raw
 pub mod TableType
+pub mod Names
 pub mod stages

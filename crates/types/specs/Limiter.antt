@@ -1,20 +1,8 @@
 -- Document 01, "Numbers given back": the limiter is a byte script, 0 yes, 1 no, 2 its own error; past its end it answers 0.
-use Prim.Native.Nat.{ℕ, _+_}
-use mathlib.Core.Bool.{Bool, true}
-use mathlib.Core.List.{List, [], _∷_, _++_}
-use lib.Dec.{eqb, leb, ltb}
-use lib.ListN.{length, take, drop, getD, replicate}
-use Rattle.types.specs.Pick.{pick, both}
-use Rattle.types.specs.Answer.{refusal, refuse, accept}
-use Rattle.types.specs.declared.answer.Answer.{Answer}
-use Rattle.types.specs.declared.answer.Answer.the-variants as answer
-use Rattle.types.specs.declared.answer.Refusal.{Refusal}
-use Rattle.types.specs.declared.limiter.Limiter.{Limiter}
-use Rattle.types.specs.declared.limiter.Permit.{Permit}
-use Rattle.types.specs.declared.limiter.Permit.the-variants.{Granted, Denied}
-use Rattle.types.specs.declared.limiter.Asked.{Asked}
-use Rattle.types.specs.declared.limiter.Noticed.{Noticed}
-use Rattle.types.specs.declared.limiter.HandedOver.{HandedOver}
+use Rattle.types.specs.Prelude.{ℕ, _+_, Bool, true, List, [], _∷_, _++_, eqb, leb, ltb, length, take, drop, getD, replicate}
+use Rattle.types.specs.{Pick.pick, Pick.both, Answer.refusal, Answer.refuse, Answer.accept}
+use Rattle.types.specs.declared.{answer.Answer.Answer, answer.Refusal.Refusal, limiter.Limiter.Limiter, limiter.Permit.Permit}
+use Rattle.types.specs.declared.{limiter.Asked.Asked, limiter.Noticed.Noticed, limiter.HandedOver.HandedOver}
 
 -- the most answers that a script has
 abbrev pub longestScript : ℕ
@@ -45,7 +33,7 @@ moved l =
 -- a no has the number of its occasion, the limiter's own error is 4
 unfoldable pub permitOf : ℕ → ℕ → Permit
 permitOf said deny =
-    pick (eqb said 1) (Denied (refusal deny 0)) (pick (eqb said 2) (Denied (refusal 4 0)) Granted)
+    pick (eqb said 1) (Permit.Denied (refusal deny 0)) (pick (eqb said 2) (Permit.Denied (refusal 4 0)) Permit.Granted)
 
 -- one question
 unfoldable pub ask : Limiter → ℕ → Asked
@@ -61,7 +49,7 @@ notify l r = record { refusal = heardOf (saysOf l) r; limiter = moved l }
 
 -- a refusal of which the limiter is told: 4 where the notice is met by its own error
 abbrev pub noticed : Limiter → ℕ → ℕ → Answer
-noticed l number amount = answer.Refusal (heardOf (saysOf l) (refusal number amount))
+noticed l number amount = Answer.Refusal (heardOf (saysOf l) (refusal number amount))
 
 -- every byte is an answer
 unfoldable pub allAnswers : List ℕ → Bool

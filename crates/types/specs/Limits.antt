@@ -1,7 +1,5 @@
 -- WebAssembly Core Specification 3.0: Structure, Types, limits; Validation, Types, limits; Validation, Matching, limits.
-use Prim.Native.Nat.{ℕ}
-use mathlib.Core.Bool.{Bool, true}
-use lib.Dec.{leb}
+use Rattle.types.specs.Prelude.{ℕ, Bool, true, leb}
 use Rattle.types.specs.Pick.{pick, both}
 use Rattle.types.specs.declared.limits.Limits.{Limits}
 

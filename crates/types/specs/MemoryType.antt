@@ -1,20 +1,10 @@
 -- WebAssembly Core Specification 3.0, Validation, Types and Matching, memory types; document 01, "Types", for the page exponent and the page bound.
-use Prim.Native.Nat.{ℕ, _*_, _/_, _^_}
-use mathlib.Core.Bool.{Bool, true, false}
-use lib.Dec.{eqb, ltb}
-use Rattle.types.specs.Numbers.{word64}
-use Rattle.types.specs.Pick.{pick, both}
-use Rattle.types.specs.Answer.{refusal}
-use Rattle.types.specs.IndexType.{maxSize, indexOf, sameIndex}
-use Rattle.types.specs.Limits.{validLimits, matchLimits, fromMinimum}
-use Rattle.types.specs.declared.limits.Limits.{Limits}
-use Rattle.types.specs.declared.memory_ty.PageSize.{PageSize}
+use Rattle.types.specs.Prelude.{ℕ, _*_, _/_, _^_, Bool, true, false, eqb, ltb}
+use Rattle.types.specs.{Numbers.word64, Pick.pick, Pick.both, Answer.refusal, IndexType.maxSize, IndexType.indexOf, IndexType.sameIndex}
+use Rattle.types.specs.{Limits.validLimits, Limits.matchLimits, Limits.fromMinimum}
+use Rattle.types.specs.declared.{limits.Limits.Limits, memory_ty.PageSize.PageSize, memory_ty.MemoryType.MemoryType}
+use Rattle.types.specs.declared.{memory_ty.BuiltMemory.BuiltMemory, memory_ty.ByteSize.ByteSize}
 use Rattle.types.specs.declared.memory_ty.PageSize.the-variants.{One, Wasm}
-use Rattle.types.specs.declared.memory_ty.MemoryType.{MemoryType}
-use Rattle.types.specs.declared.memory_ty.BuiltMemory.{BuiltMemory}
-use Rattle.types.specs.declared.memory_ty.BuiltMemory.the-variants.{Built, Refused}
-use Rattle.types.specs.declared.memory_ty.ByteSize.{ByteSize}
-use Rattle.types.specs.declared.memory_ty.ByteSize.the-variants.{Bytes, Overflow}
 
 -- the exponent of a Wasm page, of 65,536 bytes
 abbrev pub wasmExponent : ℕ
@@ -58,18 +48,18 @@ pageOf e = pick (eqb e 0) One Wasm
 
 -- a valid type, or 1
 unfoldable pub validated : MemoryType → BuiltMemory
-validated t = pick (validMemory t) (Built t) (Refused (refusal 1 0))
+validated t = pick (validMemory t) (BuiltMemory.Built t) (BuiltMemory.Refused (refusal 1 0))
 
 -- the type of five fields: 64-bit or not, minimum, maximum if there is one, page exponent; or 1
 unfoldable pub buildMemory : Bool → Limits → ℕ → BuiltMemory
 buildMemory wide l e =
     pick (both (validExponent e) (validMemory (memoryType wide (pageOf e) l)))
-    (Built (memoryType wide (pageOf e) l))
-    (Refused (refusal 1 0))
+    (BuiltMemory.Built (memoryType wide (pageOf e) l))
+    (BuiltMemory.Refused (refusal 1 0))
 
 -- a size in bytes, where it is below 2^64
 unfoldable pub byteSize : ℕ → ByteSize
-byteSize n = pick (ltb n word64) (Bytes n) Overflow
+byteSize n = pick (ltb n word64) (ByteSize.Bytes n) ByteSize.Overflow
 
 -- the minimum in bytes
 unfoldable pub minimumBytes : MemoryType → ByteSize

@@ -1,5 +1,5 @@
 -- The numbers that the definitions name, each written here alone.
-use Prim.Native.Nat.{ℕ, _-_, _^_}
+use Rattle.types.specs.Prelude.{ℕ, _-_, _^_}
 
 -- every byte, every number of 32 bits and every number of 64 bits is below these
 abbrev pub word8 : ℕ

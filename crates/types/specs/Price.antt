@@ -1,8 +1,6 @@
 -- Document 01, "Fuel": the price of a byte length.
-use Prim.Native.Nat.{ℕ, _/_, min}
-use lib.Dec.{eqb}
-use Rattle.types.specs.Numbers.{maxWord}
-use Rattle.types.specs.Pick.{pick}
+use Rattle.types.specs.Prelude.{ℕ, _/_, min, eqb}
+use Rattle.types.specs.{Numbers.maxWord, Pick.pick}
 
 -- at most 2^64-1
 unfoldable pub capped : ℕ → ℕ

@@ -1,11 +1,7 @@
 -- Document 01, "The machine" and "Fuel": references of 64 bits, their kinds (func, extern), and the R bytes that one counts.
-use Prim.Native.Nat.{ℕ}
-use mathlib.Core.Bool.{Bool, true, false}
-use lib.Dec.{eqb}
-use Rattle.types.specs.declared.raw.RefType.{RefType}
+use Rattle.types.specs.Prelude.{ℕ, Bool, true, false, eqb}
+use Rattle.types.specs.declared.raw.{RefType.RefType, RawRef.RawRef, TypedRawRef.TypedRawRef}
 use Rattle.types.specs.declared.raw.RefType.the-variants.{Func, Extern}
-use Rattle.types.specs.declared.raw.RawRef.{RawRef}
-use Rattle.types.specs.declared.raw.TypedRawRef.{TypedRawRef}
 
 -- whether two kinds are the same
 abbrev pub sameKind : RefType → RefType → Bool

@@ -1,11 +1,6 @@
 -- WebAssembly Core Specification 3.0, Execution, Instructions, table instructions: table.fill, table.init and table.copy, one cell a step.
 -- An instance's cells stand in one buffer from a place on: x the written instance's, y the read one's.
-use Prim.Native.Nat.{ℕ, zero, suc, _+_, _≤_}
-use mathlib.Core.Logic.{_⊎_}
-use mathlib.Core.List.{List}
-use mathlib.Core.Path.{_≡_}
-use lib.Dec.{leb}
-use lib.ListN.{set, getD}
+use Rattle.types.specs.Prelude.{ℕ, zero, suc, _+_, _≤_, _≡_, _⊎_, List, leb, set, getD}
 use Rattle.types.specs.Pick.{pick}
 
 -- table.fill from i with value v, n cells: set cell i, and go on with i + 1, n - 1

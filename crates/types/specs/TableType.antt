@@ -1,16 +1,8 @@
 -- WebAssembly Core Specification 3.0, Validation, Types and Matching, table types; document 01, "Types".
-use Prim.Native.Nat.{ℕ, _-_}
-use mathlib.Core.Bool.{Bool}
-use Rattle.types.specs.Pick.{pick, both}
-use Rattle.types.specs.IndexType.{maxSize, indexOf, sameIndex}
-use Rattle.types.specs.Limits.{validLimits, matchLimits, fromMinimum}
-use Rattle.types.specs.Raw.{sameKind}
-use Rattle.types.specs.Answer.{refusal}
-use Rattle.types.specs.declared.limits.Limits.{Limits}
-use Rattle.types.specs.declared.raw.RefType.{RefType}
-use Rattle.types.specs.declared.table_ty.TableType.{TableType}
-use Rattle.types.specs.declared.table_ty.BuiltTable.{BuiltTable}
-use Rattle.types.specs.declared.table_ty.BuiltTable.the-variants.{Built, Refused}
+use Rattle.types.specs.Prelude.{ℕ, _-_, Bool}
+use Rattle.types.specs.{Pick.pick, Pick.both, IndexType.maxSize, IndexType.indexOf, IndexType.sameIndex, Limits.validLimits}
+use Rattle.types.specs.{Limits.matchLimits, Limits.fromMinimum, Raw.sameKind, Answer.refusal}
+use Rattle.types.specs.declared.{limits.Limits.Limits, raw.RefType.RefType, table_ty.TableType.TableType, table_ty.BuiltTable.BuiltTable}
 
 -- the most cells: 2^N - 1
 unfoldable pub tableBound : TableType → ℕ
@@ -26,7 +18,7 @@ tableType k wide l = record { element = k; index = indexOf wide; limits = l }
 
 -- a valid type, or 1
 unfoldable pub validated : TableType → BuiltTable
-validated t = pick (validTable t) (Built t) (Refused (refusal 1 0))
+validated t = pick (validTable t) (BuiltTable.Built t) (BuiltTable.Refused (refusal 1 0))
 
 -- the type of these fields, or 1
 unfoldable pub buildTable : RefType → Bool → Limits → BuiltTable

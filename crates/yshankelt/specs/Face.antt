@@ -1,11 +1,7 @@
 -- Document 01, "Access" and "Numbers given back": what C gets of an answer. The number is the result; a refusal leaves the out parameter alone.
-use Prim.Native.Nat.{ℕ}
-use mathlib.Core.Path.{_≡_}
-use mathlib.Core.List.{List}
-use Rattle.types.specs.Answer.{bitsOf, numberOf}
-use Rattle.types.specs.declared.answer.Answer.{Answer}
+use Rattle.types.specs.Prelude.{ℕ, _≡_, List}
+use Rattle.types.specs.Names.{bitsOf, numberOf, Done, Answer}
 use Rattle.types.specs.declared.answer.Answer.the-variants as answer
-use Rattle.types.specs.Done.{Done}
 
 -- the value's bits, or what stood there
 unfoldable pub delivered : Answer → ℕ → ℕ

@@ -1,24 +1,9 @@
 -- What C gets of a whole machine in a row of words: a fresh row, one operation, sizes. A row that is not in form is 19, and nothing changes.
-use Prim.Native.Nat.{ℕ}
-use mathlib.Core.Bool.{Bool, true, false}
-use mathlib.Core.Path.{_≡_}
-use mathlib.Core.List.{List}
-use lib.Dec.{leb, ltb}
-use lib.ListN.{length, replicate}
-use Rattle.types.specs.Pick.{pick, unless, both}
-use Rattle.types.specs.Span.{over}
-use Rattle.types.specs.Answer.{refuse, accept, numberOf, shownOf}
-use Rattle.types.specs.declared.answer.Answer.{Answer}
-use Rattle.types.specs.Raw.{rawBytes}
-use Rattle.memory.specs.Memory.{pagesOf}
-use Rattle.machine.specs.Machine.{Buffers, buffers, memoryAt, tableAt, freshMachine}
-use Rattle.machine.specs.declared.records.Machine.{Machine}
-use Rattle.machine.specs.declared.operate.Operated.{Operated}
-use Rattle.lines.specs.Line.{noLine}
-use Rattle.lines.specs.Code.{operationOf}
-use Rattle.lines.specs.Session.{Turn, costsOf, turnBy}
-use Rattle.lines.specs.AnswerLine.{fuelShown}
-use Rattle.lines.specs.declared.line.Line.{Line}
+use Rattle.types.specs.Prelude.{ℕ, _≡_, Bool, true, false, List, leb, ltb, length, replicate}
+use Rattle.types.specs.Names.{pick, unless, both, over, refuse, accept, numberOf, shownOf, rawBytes, Answer}
+use Rattle.memory.specs.Names.{pagesOf}
+use Rattle.machine.specs.Names.{Buffers, buffers, memoryAt, tableAt, freshMachine, Machine, Operated}
+use Rattle.lines.specs.{Line.noLine, Code.operationOf, Session.Turn, Session.costsOf, Session.turnBy, AnswerLine.fuelShown, declared.line.Line.Line}
 use Rattle.yshankelt.specs.Words.{rowLength, wordsOf, machineFrom, inForm}
 
 -- a number given back, and the row after it

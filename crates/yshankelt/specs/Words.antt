@@ -1,25 +1,12 @@
 -- A machine as a row of 64-bit words that its host owns: what each word is, and the machine that a row says.
-use Prim.Native.Nat.{ℕ, _+_, _%_, _<_}
-use mathlib.Core.Path.{_≡_}
-use mathlib.Core.Bool.{Bool, true, false}
-use mathlib.Core.List.{List, [], _∷_, _++_}
-use lib.Dec.{eqb, leb}
-use lib.ListN.{length, getD}
-use Rattle.types.specs.Pick.{both}
-use Rattle.types.specs.declared.fuel.Fuel.{Fuel}
-use Rattle.types.specs.declared.limiter.Limiter.{Limiter}
-use Rattle.types.specs.IndexType.{is64, indexOf}
-use Rattle.types.specs.declared.memory_ty.PageSize.{PageSize}
+use Rattle.types.specs.Prelude.{ℕ, _+_, _%_, _<_, _≡_, Bool, true, false, List, [], _∷_, _++_, eqb, leb, length, getD}
+use Rattle.types.specs.Names.{both, is64, indexOf, Fuel, Limiter, PageSize, RefType, Limits}
 use Rattle.types.specs.declared.memory_ty.PageSize.the-variants.{One, Wasm}
-use Rattle.types.specs.declared.raw.RefType.{RefType}
 use Rattle.types.specs.declared.raw.RefType.the-variants.{Func, Extern}
-use Rattle.types.specs.declared.limits.Limits.{Limits}
-use Rattle.memory.specs.declared.memory.Memory.{Memory}
-use Rattle.table.specs.declared.table.Table.{Table}
-use Rattle.table.specs.declared.element.ElementSegment.{ElementSegment}
+use Rattle.memory.specs.Names.{Memory}
+use Rattle.table.specs.Names.{Table, ElementSegment}
+use Rattle.machine.specs.Names.{Machine, Counts}
 use Rattle.lines.specs.Fields.{yes}
-use Rattle.machine.specs.declared.records.Machine.{Machine}
-use Rattle.machine.specs.declared.records.Counts.{Counts}
 
 -- the words of a row: 8 memories and 8 tables of 8, 8 segments of 4, counts 3, fuel 5, limiter 18
 abbrev pub rowLength : ℕ

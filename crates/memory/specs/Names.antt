@@ -1,0 +1,8 @@
+-- What the crates above name of this one, passed on by file; nothing is defined here.
+pub use Rattle.memory.specs.LittleEndian.{leBytes}
+pub use Rattle.memory.specs.Access.{widthBytes, loadWidth, loadedOf, storeWidth}
+pub use Rattle.memory.specs.Memory.{pagesOf, resized, soundMemory, loadMemory, storeMemory}
+pub use Rattle.memory.specs.New.{memoryOf, wanted, leastBytes, newMemory}
+pub use Rattle.memory.specs.Grow.{mayHave, grownSize, growMemory}
+pub use Rattle.memory.specs.declared.{memory.Memory.Memory, grow.GrownMemory.GrownMemory, new.CreatedMemory.CreatedMemory}
+pub use Rattle.memory.specs.declared.{new.MadeMemory.MadeMemory, access.LoadKind.LoadKind, access.StoreKind.StoreKind}
