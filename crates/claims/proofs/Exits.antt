@@ -18,7 +18,7 @@ use Rattle.machine.specs.declared.records.Machine.{Machine}
 use Rattle.machine.specs.declared.operation.Operation.{Operation}
 use Rattle.machine.specs.declared.operation.Operation.the-variants as op
 use Rattle.claims.specs.Answers.{accepted, listed, valueOrListed}
-use Rattle.claims.specs.Refused.{Leaves}
+use Rattle.claims.specs.Metered.{Leaves}
 use Rattle.claims.specs.Occasions.{occasion, acceptedWhen}
 use Rattle.claims.specs.Effects.{acceptedStep}
 use Rattle.claims.proofs.Exit.{Exit, accepts, refuses}

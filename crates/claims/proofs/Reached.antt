@@ -22,6 +22,7 @@ use Rattle.types.specs.MemoryType.{pageBound, validMemory}
 use Rattle.types.specs.TableType.{tableBound, validTable, elementMatches}
 use Rattle.types.specs.declared.index_ty.IndexType.the-variants.{I64}
 use Rattle.types.specs.declared.memory_ty.PageSize.the-variants.{One}
+use Rattle.types.specs.Raw.{nullOf}
 use Rattle.types.specs.declared.raw.RefType.the-variants as ref
 use Rattle.memory.specs.Memory.{pagesOf}
 use Rattle.memory.specs.Grow.{mayHave}
@@ -36,12 +37,13 @@ use Rattle.machine.specs.declared.operation.Operation.the-variants as op
 use Rattle.machine.specs.declared.operation.FuelOp.the-variants as fuel
 use Rattle.machine.specs.declared.operation.MemoryOp.the-variants as memory
 use Rattle.machine.specs.declared.operation.TableOp.the-variants as table
+use Rattle.lines.specs.Session.{costsOf}
 use Rattle.machine.proofs.Kept.{fresh-sound, step-sound, step-bytes-long}
 use Rattle.claims.specs.Answers.{accepted}
 use Rattle.claims.specs.Metered.{fuelMetering, memoryMetering, tableMetering, meteringOf, grows, meets, lengthOf, bytesOf, priceOf, affords, grants, passes}
 use Rattle.claims.specs.Occasions.{validWanted, fuelOccasion, makesMemory, growsMemory, memoryOccasion, makesTable, tableOccasion, occasion, acceptedWhen}
 use Rattle.claims.specs.Effects.{memorySizeAfter, tableSizeAfter, changeOf, countsAfter, fuelBy, handedTo, limiterAfter, acceptedStep}
-use Rattle.claims.specs.Bound.{Totals, wrote, pays, totals, mostBytes, noFunction, pass, fullestRun, zeros, bytesPerUnit}
+use Rattle.claims.specs.Bound.{Totals, wrote, pays, totals, mostBytes, pass, fullestRun, zeros}
 use Rattle.claims.proofs.Exiting.{branch}
 use Rattle.claims.proofs.Exits.{accepted-when, accepted-does}
 use Rattle.claims.proofs.Bound.{passes-accepted, pays-price}
@@ -55,7 +57,7 @@ price-most b f h k =
 
 -- fuel of so many units, at B bytes a unit
 abbrev fuelOf : ℕ → ℕ → Fuel
-fuelOf b n = record { remaining = n; enabled = true; costs = bytesPerUnit b }
+fuelOf b n = record { remaining = n; enabled = true; costs = costsOf b }
 
 -- the run's machine: one memory of one-byte pages, and so many tables of no cells
 unfoldable machineOf : ℕ → ℕ → ℕ → Fuel → Limiter → Machine
@@ -113,10 +115,10 @@ module _ (r total b size left : ℕ) (bf : Buffers) (sound : soundOver (grownTo 
     leaves = ap (λ (x : ℕ). fuelOf b (left - price b x)) long
 
   -- a fill of length 0
-  passing-none : price b 0 ≤ left → Passing r total b size left 0 bf (op.Table 0 (table.Fill 0 noFunction 0))
+  passing-none : price b 0 ≤ left → Passing r total b size left 0 bf (op.Table 0 (table.Fill 0 (nullOf ref.Func) 0))
   unfolding meets grows meteringOf tableMetering lengthOf occasion tableOccasion operation.wellFormed elementMatches inside machineOf acceptedStep changed changeOf countsAfter tableSizeAfter fuelBy limiterAfter pick both
   passing-none h =
-      let fill : Operation = op.Table 0 (table.Fill 0 noFunction 0) in
+      let fill : Operation = op.Table 0 (table.Fill 0 (nullOf ref.Func) 0) in
       let e : size ≡ size + 0 = omega arith in
       record {
         meeting = refl;
@@ -174,7 +176,7 @@ module _ (r total b size left : ℕ) (bf : Buffers) (sound : soundOver (grownTo 
   passing n room below h =
       branch (Passing r total b size left n bf) (eqb n 0) _ _
       (λ t.
-      subst (λ (x : ℕ). price b x ≤ left → Passing r total b size left x bf (op.Table 0 (table.Fill 0 noFunction 0))) (sym (eqb-true n 0 t)) passing-none h)
+      subst (λ (x : ℕ). price b x ≤ left → Passing r total b size left x bf (op.Table 0 (table.Fill 0 (nullOf ref.Func) 0))) (sym (eqb-true n 0 t)) passing-none h)
       (λ t.
       let e : n ≡ 0 → ⊥ = eqb-false n 0 t in
       passing-some n (omega arith) room below h)
@@ -277,11 +279,11 @@ module _ (r : ℕ) where
   module _ (total b f : ℕ) (bf : Buffers) (ops : List Operation) where
     -- the machine before its fuel is set
     abbrev fresh : Machine
-    fresh = freshMachine true (bytesPerUnit b)
+    fresh = freshMachine true (costsOf b)
 
     -- before its memory is made
     abbrev first : Machine
-    first = metered (freshMachine true (bytesPerUnit b)) (fuelOf b f) noLimiter
+    first = metered (freshMachine true (costsOf b)) (fuelOf b f) noLimiter
 
     -- before its table is made
     abbrev second : Machine
@@ -305,22 +307,22 @@ module _ (r : ℕ) where
 
     -- the third: its table is made
     led-table : soundOver second bf ≡ true
-        → Led second bf (op.NewTable 0 (record { element = ref.Func; wide = false; limits = noLimits }) noFunction ∷ ops) (grownTo total b 0 f) ops
+        → Led second bf (op.NewTable 0 (record { element = ref.Func; wide = false; limits = noLimits }) (nullOf ref.Func) ∷ ops) (grownTo total b 0 f) ops
     unfolding meets meteringOf operation.wellFormed occasion makesTable machineOf nextCell validTable validLimits tableBound elementMatches acceptedStep changed changeOf countsAfter fuelBy limiterAfter pick both
     led-table s =
         let h : 0 ≤ length (bf .cells) - 0 = omega arith in
-        led second (grownTo total b 0 f) bf (op.NewTable 0 (record { element = ref.Func; wide = false; limits = noLimits }) noFunction) ops refl refl s
+        led second (grownTo total b 0 f) bf (op.NewTable 0 (record { element = ref.Func; wide = false; limits = noLimits }) (nullOf ref.Func)) ops refl refl s
         (simp (le-leb 0 (length (bf .cells) - 0) h, none-grants))
         (λ i. machineOf total 1 0 (fuelOf b f) (none-moved i))
 
 -- the bound is reached
 pub bound-reached : (r b f k : ℕ) → 1 ≤ b → 1 ≤ k → mostBytes b f k < 2 ^ 64
-    → totals r (freshMachine true (bytesPerUnit b)) (zeros (mostBytes b f k)) (fullestRun b f k) ≡ record { bytes = mostBytes b f k; units = f; passed = k }
+    → totals r (freshMachine true (costsOf b)) (zeros (mostBytes b f k)) (fullestRun b f k) ≡ record { bytes = mostBytes b f k; units = f; passed = k }
 unfolding fullestRun soundReferences
 bound-reached r b f k some least below =
     let total = mostBytes b f k in
     let e : suc (k - 1) ≡ k = omega arith in
     let start =
-    led-on r (led-fuel r total b f (zeros total) _ (fresh-sound true (bytesPerUnit b) (zeros total) (both-true _ _ refl refl)))
+    led-on r (led-fuel r total b f (zeros total) _ (fresh-sound true (costsOf b) (zeros total) (both-true _ _ refl refl)))
     (λ c s l. led-on r (led-memory r total b f c _ (l ∙ length-replicate total 0) s) (λ c s l. led-table r total b f c _ s)) in
     start .same ∙ rw e at (all-passes r total b below some (k - 1) f 0 f (start .after) (start .sound) (omega arith) (rw e (omega arith)))

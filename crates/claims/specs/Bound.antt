@@ -1,6 +1,6 @@
 -- Demand 3, and document 01, "Fuel": an accepted growth, fill, copy or init writes its whole byte length; a refused one nothing.
 use Rattle.types.specs.Prelude.{ℕ, _+_, _-_, _*_, true, false, List, [], _∷_, eqb, replicate}
-use Rattle.types.specs.Names.{pick, both, typedOf, defaultCosts, FuelCosts, RefType, TypedRawRef}
+use Rattle.types.specs.Names.{pick, both, nullOf, RefType}
 use Rattle.machine.specs.Names.{Buffers, buffers, noLimits, step, Machine, Operation, FuelOp, MemoryOp, TableOp}
 use Rattle.claims.specs.{Answers.accepted, Metered.meteringOf, Metered.meets, Metered.bytesOf, Metered.passes}
 
@@ -24,37 +24,25 @@ totals r m b [] = record { bytes = 0; units = 0; passed = 0 }
 totals r m b (op ∷ ops) =
     let s = step r m b op in
     let rest = totals r (s .machine) (s .buffers) ops in
-    record {
-      bytes = wrote r m b op + rest .bytes;
-      units = pays r m b op + rest .units;
-      passed = pick (passes r m b op) 1 0 + rest .passed;
-    }
+    record { bytes = wrote r m b op + rest .bytes; units = pays r m b op + rest .units; passed = pick (passes r m b op) 1 0 + rest .passed }
 
 -- B·F + (B-1)·K
 abbrev pub mostBytes : ℕ → ℕ → ℕ → ℕ
 mostBytes b f k = b * f + (b - 1) * k
 
--- the null reference to a function
-abbrev pub noFunction : TypedRawRef
-noFunction = typedOf (record { bits = 0 }) RefType.Func
-
 -- a pass of n bytes: a growth by n pages of one byte, or a fill of length 0
 unfoldable pub pass : ℕ → Operation
-pass n = pick (eqb n 0) (Operation.Table 0 (TableOp.Fill 0 noFunction 0)) (Operation.Memory 0 (MemoryOp.Grow n))
+pass n = pick (eqb n 0) (Operation.Table 0 (TableOp.Fill 0 (nullOf RefType.Func) 0)) (Operation.Memory 0 (MemoryOp.Grow n))
 
 -- a run that writes as many bytes as the bound allows: f units in the first pass, and each pass as long as its price allows
 unfoldable pub fullestRun : ℕ → ℕ → ℕ → List Operation
 fullestRun b f k =
     Operation.Fuel (FuelOp.SetFuel f)
     ∷ Operation.NewMemory (mostBytes b f k) (record { wide = true; limits = noLimits; exponent = 0 })
-    ∷ Operation.NewTable 0 (record { element = RefType.Func; wide = false; limits = noLimits }) noFunction
+    ∷ Operation.NewTable 0 (record { element = RefType.Func; wide = false; limits = noLimits }) (nullOf RefType.Func)
     ∷ pass (b * f + (b - 1))
     ∷ replicate (k - 1) (pass (b - 1))
 
 -- the buffers that it is lent
 abbrev pub zeros : ℕ → Buffers
 zeros n = buffers (replicate n 0) [] []
-
--- the costs of B bytes a unit
-abbrev pub bytesPerUnit : ℕ → FuelCosts
-bytesPerUnit b = record { copied = b; translated = defaultCosts .translated; validated = defaultCosts .validated }

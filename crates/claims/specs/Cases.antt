@@ -1,9 +1,10 @@
 -- Document 01, "Checked by proof", P1 to P11: the definitions, computed, as one list with one claim.
 use Rattle.types.specs.Prelude.{ℕ, _+_, _-_, _*_, _^_, Bool, true, false, List, [], _∷_, _++_, eqb, ltb, replicate}
-use Rattle.types.specs.Names.{pick, both, price, numberOf, shownOf, maxSize, buildMemory, rawBytes, Answer, IndexType, Limits, BuiltMemory, RefType}
+use Rattle.types.specs.Names.{pick, both, price, numberOf, shownOf, maxSize, buildMemory, nullOf, rawBytes}
+use Rattle.types.specs.Names.{Answer, IndexType, Limits, BuiltMemory, RefType}
 use Rattle.memory.specs.Names.{LoadKind, StoreKind}
 use Rattle.machine.specs.Names.{buffers, freshMachine, run, Operation, FuelOp, MemoryOp}
-use Rattle.claims.specs.Bound.{noFunction, bytesPerUnit}
+use Rattle.lines.specs.Session.{costsOf}
 
 -- every test of a list holds
 unfoldable pub allHold : List Bool → Bool
@@ -29,7 +30,7 @@ shown (a ∷ more) = numberOf a ∷ shownOf a ∷ shown more
 -- what a fresh machine with B bytes a unit answers, over small buffers of zeros
 unfoldable pub answered : ℕ → List Operation → List ℕ
 answered b ops =
-    shown (run rawBytes (freshMachine true (bytesPerUnit b)) (buffers (replicate 8 0) (replicate 4 0) (replicate 4 0)) ops .answers)
+    shown (run rawBytes (freshMachine true (costsOf b)) (buffers (replicate 8 0) (replicate 4 0) (replicate 4 0)) ops .answers)
 
 unfoldable pub same : List ℕ → List ℕ → Bool
 same [] [] = true
@@ -40,13 +41,17 @@ same (x ∷ xs) (y ∷ ys) = both (eqb x y) (same xs ys)
 -- a table of two cells and a segment of two items
 abbrev pub tableAndSegment : List Operation
 tableAndSegment =
-    Operation.NewTable 2 (record { element = RefType.Func; wide = false; limits = atLeast 2 }) noFunction
+    Operation.NewTable 2 (record { element = RefType.Func; wide = false; limits = atLeast 2 }) (nullOf RefType.Func)
     ∷ Operation.NewSegment RefType.Func (record { count = 2; first = 7; second = 8; third = 0; fourth = 0 })
     ∷ []
 
 -- an init of length 0
 abbrev pub init : ℕ → Operation
 init to = Operation.TableInit 0 0 (record { to = to; from = 0; len = 0 })
+
+-- a copy of length 0
+abbrev pub emptyCopy : Operation
+emptyCopy = Operation.TableCopy 0 0 (record { to = 0; from = 0; len = 0 })
 
 -- a memory of one byte that holds ff
 abbrev pub byteFf : List Operation
@@ -55,6 +60,11 @@ byteFf =
     ∷ Operation.Memory 0 (MemoryOp.Store StoreKind.I32To8 0 0 255)
     ∷ []
 
+-- a load from it
+abbrev pub loads : LoadKind → ℕ → ℕ → Operation
+loads kind pointer offset = Operation.Memory 0 (MemoryOp.Load kind pointer offset)
+
+-- the cases, each a test
 unfoldable pub cases : List Bool
 cases =
     -- P1: B 64: 63 bytes cost 0, 64 cost 1
@@ -77,11 +87,13 @@ cases =
     -- P7: init of length 0 at the size passes, one further 13
     ∷ same (answered 64 (tableAndSegment ++ (init 2 ∷ init 3 ∷ []))) (0 ∷ 0 ∷ 0 ∷ 0 ∷ 0 ∷ 0 ∷ 13 ∷ 0 ∷ [])
     -- P8: B 0, fuel 5: copy of length 0 gives 7 with 2^64-1, init of length 0 passes
-    ∷ same (answered 0 (Operation.Fuel (FuelOp.SetFuel 5) ∷ (tableAndSegment ++ (Operation.TableCopy 0 0 (record { to = 0; from = 0; len = 0 }) ∷ init 0 ∷ [])))) (0 ∷ 0 ∷ 0 ∷ 0 ∷ 0 ∷ 0 ∷ 7 ∷ (2 ^ 64 - 1) ∷ 0 ∷ 0 ∷ [])
+    ∷ same (answered 0 (Operation.Fuel (FuelOp.SetFuel 5) ∷ (tableAndSegment ++ (emptyCopy ∷ init 0 ∷ []))))
+    (0 ∷ 0 ∷ 0 ∷ 0 ∷ 0 ∷ 0 ∷ 7 ∷ (2 ^ 64 - 1) ∷ 0 ∷ 0 ∷ [])
     -- P9: byte ff: i32 from 8s is -1, i64 from 8u is 255
-    ∷ same (answered 64 (byteFf ++ (Operation.Memory 0 (MemoryOp.Load LoadKind.I32From8S 0 0) ∷ Operation.Memory 0 (MemoryOp.Load LoadKind.I64From8U 0 0) ∷ []))) (0 ∷ 0 ∷ 0 ∷ 0 ∷ 0 ∷ (2 ^ 32 - 1) ∷ 0 ∷ 255 ∷ [])
+    ∷ same (answered 64 (byteFf ++ (loads LoadKind.I32From8S 0 0 ∷ loads LoadKind.I64From8U 0 0 ∷ [])))
+    (0 ∷ 0 ∷ 0 ∷ 0 ∷ 0 ∷ (2 ^ 32 - 1) ∷ 0 ∷ 255 ∷ [])
     -- P10: pointer 2^64-1, offset 1: 9
-    ∷ same (answered 64 (byteFf ++ (Operation.Memory 0 (MemoryOp.Load LoadKind.I32From8U (2 ^ 64 - 1) 1) ∷ []))) (0 ∷ 0 ∷ 0 ∷ 0 ∷ 9 ∷ 0 ∷ [])
+    ∷ same (answered 64 (byteFf ++ (loads LoadKind.I32From8U (2 ^ 64 - 1) 1 ∷ []))) (0 ∷ 0 ∷ 0 ∷ 0 ∷ 9 ∷ 0 ∷ [])
     -- P11: 32-bit table bound: 2^32-2 plus 1 passes, plus 2 gives 6
     ∷ eqb (pick (ltb (2 ^ 32 - 2 + 1) (maxSize IndexType.I32)) 0 6) 0
     ∷ eqb (pick (ltb (2 ^ 32 - 2 + 2) (maxSize IndexType.I32)) 0 6) 6

@@ -9,13 +9,13 @@ use Rattle.machine.specs.Names.{Buffers, buffers, freshMachine, soundReferences
 use Rattle.machine.specs.Names.{Machine, Operation}
 use Rattle.machine.proofs.records.Machine.operate.Reads as operate-reads
 use Rattle.machine.proofs.records.Machine.operate.Kinds as operate-kinds
-use Rattle.lines.specs.{Code.readLine, Writing.writeLine, Sayable.Sayable, Session.Held, Session.linesOf, Session.session, Pieces.Feed}
-use Rattle.lines.specs.{Pieces.fedAll, Pieces.whole, declared.code.Read.Read}
+use Rattle.lines.specs.{Code.readLine, Writing.writeLine, Sayable.Sayable, Pieces.Feed, Pieces.fedAll, Pieces.whole, declared.code.Read.Read}
+use Rattle.lines.specs.Session.{Held, costsOf, linesOf, session}
 use Rattle.lines.proofs.Pieces.{started}
 use Rattle.lent.proofs.operate.operate_kept.Reads as lent-reads
 use Rattle.lent.proofs.operate.operate_kept.Kinds as lent-kinds
-use Rattle.claims.specs.{Answers.accepted, Answers.valueOrListed, Answers.never, Refused.Leaves, Occasions.acceptedWhen, Effects.acceptedStep}
-use Rattle.claims.specs.{Bound.totals, Bound.mostBytes, Bound.fullestRun, Bound.zeros, Bound.bytesPerUnit, Ledger.blank, Ledger.limiterSays}
+use Rattle.claims.specs.{Answers.accepted, Answers.valueOrListed, Answers.never, Metered.Leaves, Occasions.acceptedWhen, Effects.acceptedStep}
+use Rattle.claims.specs.{Bound.totals, Bound.mostBytes, Bound.fullestRun, Bound.zeros, Ledger.blank, Ledger.limiterSays}
 use Rattle.claims.specs.{Ledger.book, Cases.allHold, Cases.cases, Sessions.readAll, Sessions.replies, Sessions.answersIn}
 use Rattle.claims.specs.{Sessions.sessionText, Alike.SameRest, Alike.SameNamed, Alike.SameOutcome}
 
@@ -36,7 +36,7 @@ pub record Claims : Type 0 where
       ≤ mostBytes (costs .copied) (totals r (freshMachine true costs) b ops .units) (totals r (freshMachine true costs) b ops .passed)
   -- No smaller number would do: for each B, F and K a run writes so many bytes, as far as a memory can hold them.
   pub bound-reached : (r b f k : ℕ) → 1 ≤ b → 1 ≤ k → mostBytes b f k < 2 ^ 64
-      → totals r (freshMachine true (bytesPerUnit b)) (zeros (mostBytes b f k)) (fullestRun b f k)
+      → totals r (freshMachine true (costsOf b)) (zeros (mostBytes b f k)) (fullestRun b f k)
       ≡ record { bytes = mostBytes b f k; units = f; passed = k }
   -- 5. At each moment the fuel left and the charges since make up the amount last set, or 0.
   pub ledger : (r : ℕ) (costs : FuelCosts) (b : Buffers) (ops : List Operation)

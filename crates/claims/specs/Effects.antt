@@ -1,13 +1,13 @@
 -- Document 01, "First check wins", "Fuel" and "Operation lines": what an accepted operation answers, changes, takes and writes.
 use Rattle.types.specs.Prelude.{ℕ, _+_, _-_, List, ltb, length, getD, replicate}
-use Rattle.types.specs.Names.{pick, both, cut, over, accept, left, paid, limiterOf, moved, matchMemory, Answer, Fuel, Limiter, RefType}
-use Rattle.memory.specs.Names.{leBytes, widthBytes, storeWidth, loadedOf, resized as resizedMemory, pagesOf, memoryOf, grownSize, Memory}
-use Rattle.table.specs.Names.{resized as resizedTable, tableOf, dropped, Table, ElementSegment}
+use Rattle.types.specs.Names.{pick, both, cut, over, accept, left, paid, limiterOf, moved, matchMemory, Answer, Fuel, Limiter}
+use Rattle.memory.specs.Names.{leBytes, widthBytes, storeWidth, loadedOf, resized as resizedMemory, pagesOf, memoryOf, grownSize}
+use Rattle.memory.specs.Names.{wanted as typeOf, leastBytes as leastOf, Memory}
+use Rattle.table.specs.Names.{resized as resizedTable, wanted as tableTypeOf, tableOf, dropped, Table}
 use Rattle.machine.specs.Names.{Buffers, buffers, memoryAt, tableAt, segmentAt, nextByte, nextCell, nextItem, scriptOf, itemsOf, changed, standing}
 use Rattle.machine.specs.Names.{oneMemoryMore, oneTableMore, oneSegmentMore, Stepped, Machine, Counts, Change, Operation, FuelOp, MemoryOp, TableOp}
 use Rattle.claims.specs.Metered.{Metering, Free, Sets, Charges, GrowsPages, GrowsCells, Spans, Inits, memoryMetering, tableMetering}
 use Rattle.claims.specs.Metered.{meteringOf, meets, grows, priceOf}
-use Rattle.claims.specs.Occasions.{typeOf, leastOf, tableTypeOf}
 
 -- what an accepted operation answers: creations the new number, growths and sizes the size before, 02 and 03 the fuel left, others 0
 unfoldable pub fuelAnswer : Machine → FuelOp → Answer
@@ -96,10 +96,6 @@ tableSizeAfter t (TableOp.Get index) = t .size
 tableSizeAfter t (TableOp.Set index value) = t .size
 tableSizeAfter t (TableOp.Fill start value len) = t .size
 
--- a segment as it is made
-abbrev pub segmentFor : Machine → RefType → List ℕ → ElementSegment
-segmentFor m element items = record { ty = element; start = nextItem m; places = length items; size = length items }
-
 -- the record that it makes or names: of one in use only the size may be another
 unfoldable pub changeOf : Machine → Operation → Change
 changeOf m (Operation.Fuel o) = Change.Nothing
@@ -111,7 +107,8 @@ changeOf m (Operation.Table number o) = Change.Table number (resizedTable (table
 changeOf m (Operation.TableCopy into source span) = Change.Nothing
 changeOf m (Operation.TableInit table segment span) = Change.Nothing
 changeOf m (Operation.DropSegment segment) = Change.Segment segment (dropped (segmentAt m segment))
-changeOf m (Operation.NewSegment element items) = Change.Segment (m .counts .segments) (segmentFor m element (itemsOf items))
+changeOf m (Operation.NewSegment element items) =
+    Change.Segment (m .counts .segments) (record { ty = element; start = nextItem m; places = length (itemsOf items); size = length (itemsOf items) })
 
 -- a creation takes the next number
 unfoldable pub countsAfter : Counts → Operation → Counts

@@ -61,11 +61,7 @@ entryBy r b k (GrowsPages memory pages) a said =
     pick (ltb 0 pages) (charged k (growthCharge k a said true (price b (pages * getD (k .pages) memory 0)))) k
 entryBy r b k (GrowsCells table cells) a said =
     pick (ltb 0 cells)
-    (grown
-    (charged k (growthCharge k a said (admitsOf (rowAt k table .limits) (rowAt k table .size + cells)) (price b (cells * r))))
-    table
-    cells
-    a)
+    (grown (charged k (growthCharge k a said (admitsOf (rowAt k table .limits) (rowAt k table .size + cells)) (price b (cells * r)))) table cells a)
     k
 entryBy r b k (Spans len) a said = pick (accepted a) (charged k (price b (len * r))) k
 entryBy r b k (Inits len) a said = pick (both (ltb 0 len) (accepted a)) (charged k (price b (len * r))) k

@@ -1,6 +1,5 @@
 pub mod Answers
 pub mod Metered
-pub mod Refused
 pub mod Occasions
 pub mod Effects
 pub mod Bound

@@ -1,7 +1,8 @@
 -- Document 01, "Fuel" and "First check wins": which operations meet the fuel step, the bytes and the price of each, and which pass it.
-use Rattle.types.specs.Prelude.{ℕ, _*_, Bool, true, false, eqb, leb, ltb}
-use Rattle.types.specs.Names.{pick, both, price, numberOf, noLimiter, saysOf, pageBytes}
-use Rattle.machine.specs.Names.{Buffers, memoryAt, metered, step, Machine, Operation, FuelOp, MemoryOp, TableOp}
+-- "Numbers given back", and demand 1: what a refusal leaves, and the fuel that it takes.
+use Rattle.types.specs.Prelude.{ℕ, _*_, _≡_, Bool, true, false, eqb, leb, ltb}
+use Rattle.types.specs.Names.{pick, both, price, paid, numberOf, noLimiter, saysOf, pageBytes}
+use Rattle.machine.specs.Names.{Buffers, memoryAt, metered, Stepped, step, Machine, Operation, FuelOp, MemoryOp, TableOp}
 use Rattle.claims.specs.Answers.{accepted}
 
 -- what an operation has to do with fuel
@@ -114,3 +115,12 @@ paidRefusal r m b op = both (grows (meteringOf op)) (pick (eqb (numberOf (step r
 -- it passes the fuel step: accepted, or refused after it had paid
 unfoldable pub passes : ℕ → Machine → Buffers → Operation → Bool
 passes r m b op = both (meets (meteringOf op)) (pick (accepted (step r m b op .answer)) true (paidRefusal r m b op))
+
+-- what a refusal leaves
+pub record Leaves (r : ℕ) (m : Machine) (b : Buffers) (op : Operation) (s : Stepped) : Type 0 where
+  -- every record with its size and room, every segment and every instance number is as before
+  pub records : s .machine ≡ metered m (s .machine .fuel) (s .machine .limiter)
+  -- and so is every cell
+  pub cells : s .buffers ≡ b
+  -- fuel falls only at 8, or at 4 in the notice after 8, and then by exactly the price
+  pub fuel : s .machine .fuel ≡ pick (paidRefusal r m b op) (paid (m .fuel) (priceOf r m op)) (m .fuel)

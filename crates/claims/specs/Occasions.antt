@@ -1,8 +1,9 @@
 -- Document 01, "First check wins", "Access" and "Types", read from the other side: when each operation is accepted.
 use Rattle.types.specs.Prelude.{ℕ, _+_, _-_, _^_, Bool, true, eqb, leb, ltb, length}
-use Rattle.types.specs.Names.{pick, both, inside, saysOf, wellFormed as wellFormedScript, maxSize, admitsOf, validExponent, validMemory, tableType}
-use Rattle.types.specs.Names.{validTable, elementMatches, MemoryType, TableType, WantedMemory, WantedTable, CopySpan, TypedRawRef}
-use Rattle.memory.specs.Names.{widthBytes, loadWidth, storeWidth, pagesOf, wanted, leastBytes, mayHave, grownSize}
+use Rattle.types.specs.Names.{pick, both, inside, saysOf, wellFormed as wellFormedScript, maxSize, admitsOf, validExponent, validMemory}
+use Rattle.types.specs.Names.{validTable, elementMatches, WantedMemory, WantedTable, CopySpan, TypedRawRef}
+use Rattle.memory.specs.Names.{widthBytes, loadWidth, storeWidth, pagesOf, wanted as typeOf, leastBytes as leastOf, mayHave, grownSize}
+use Rattle.table.specs.Names.{wanted as tableTypeOf}
 use Rattle.machine.specs.Names.{Buffers, memoryAt, tableAt, segmentAt, nextByte, nextCell, nextItem, soundOver, scriptOf, itemsOf, wellFormed}
 use Rattle.machine.specs.Names.{Machine, Operation, FuelOp, MemoryOp, TableOp}
 use Rattle.claims.specs.Metered.{GrowsPages, GrowsCells, Spans, Inits, priceFor, affords, grants}
@@ -20,16 +21,6 @@ knownSegment m i = ltb i (m .counts .segments)
 -- the limiter grants what it is asked
 abbrev pub granted : Machine → Bool
 granted m = grants (saysOf (m .limiter))
-
--- a type that is asked for, and its minimum in bytes
-abbrev pub typeOf : WantedMemory → MemoryType
-typeOf w = wanted w
-
-abbrev pub leastOf : WantedMemory → ℕ
-leastOf w = leastBytes w
-
-abbrev pub tableTypeOf : WantedTable → TableType
-tableTypeOf w = tableType (w .element) (w .wide) (w .limits)
 
 -- a memory type that is asked for is valid
 unfoldable pub validWanted : WantedMemory → Bool

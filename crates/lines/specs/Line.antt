@@ -1,8 +1,7 @@
 -- Document 01, "Operation lines": a two-digit code, then fields of 16 digits, each behind a single space.
 use Rattle.types.specs.Prelude.{ℕ, zero, suc, _+_, true, false, List, [], _∷_, _++_, eqb, ltb, length, drop, getD, replicate}
 use Rattle.types.specs.Names.{pick, over, Done, done}
-use Rattle.lines.specs.Hex.{hexFrom, hexText}
-use Rattle.lines.specs.declared.{field.Field.Field, line.Line.Line}
+use Rattle.lines.specs.{Hex.hexFrom, Hex.hexText, declared.field.Field.Field, declared.line.Line.Line}
 
 -- a space stands before each field, and LF ends a line
 abbrev pub space : ℕ

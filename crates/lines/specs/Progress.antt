@@ -2,8 +2,7 @@
 use Rattle.types.specs.Prelude.{ℕ, Bool, List, length}
 use Rattle.types.specs.Names.{over}
 use Rattle.machine.specs.Names.{Buffers, buffers}
-use Rattle.lines.specs.{Session.Held, Session.heldOn, Pieces.Run}
-use Rattle.lines.specs.declared.session.{Session.Session, Progress.Progress}
+use Rattle.lines.specs.{Session.Held, Session.heldOn, Pieces.Run, declared.session.Session.Session, declared.session.Progress.Progress}
 
 -- a session on three buffers
 abbrev pub heldBy : Session → List ℕ → List ℕ → List ℕ → Held

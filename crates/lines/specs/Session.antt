@@ -2,8 +2,7 @@
 use Rattle.types.specs.Prelude.{ℕ, Bool, false, List, [], _∷_, _++_, eqb}
 use Rattle.types.specs.Names.{pick, refuse, accept, defaultCosts, Answer, FuelCosts}
 use Rattle.machine.specs.Names.{Buffers, buffers, freshMachine, Stepped, step, Machine, Operation}
-use Rattle.lines.specs.{Line.lf, Code.readLine, AnswerLine.answerLine}
-use Rattle.lines.specs.declared.code.Read.{Read}
+use Rattle.lines.specs.{Line.lf, Code.readLine, AnswerLine.answerLine, declared.code.Read.Read}
 use Rattle.lines.specs.declared.code.Read.the-variants as read
 
 -- a machine on its buffers, and whether the next line is the first

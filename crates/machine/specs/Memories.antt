@@ -3,7 +3,7 @@ use Rattle.types.specs.Prelude.{ℕ, _-_, List, leb, ltb, length}
 use Rattle.types.specs.Names.{pick, unless, both, Done, done, accept, buildMemory, matchMemory}
 use Rattle.types.specs.Names.{Answer, Fuel, Limiter, BuiltMemory, MemoryType, WantedMemory}
 use Rattle.memory.specs.Names.{pagesOf, loadMemory, storeMemory, newMemory, growMemory, Memory, GrownMemory, MadeMemory, CreatedMemory}
-use Rattle.machine.specs.{Machine.memoryAt, Machine.nextByte, Outcome.leaves, Outcome.refused, Outcome.oneMemoryMore}
+use Rattle.machine.specs.{Machine.memoryAt, Machine.nextByte, Outcome.leaves, Outcome.creates, Outcome.refused, Outcome.oneMemoryMore}
 use Rattle.machine.specs.declared.{records.Machine.Machine, outcome.Outcome.Outcome, outcome.Change.Change, operation.MemoryOp.MemoryOp}
 
 -- an answer that leaves a memory's record, fuel and limiter
@@ -47,13 +47,7 @@ onMemory m bs i o =
 unfoldable pub madeMemory : Machine → MadeMemory → Limiter → Outcome
 madeMemory m (MadeMemory.Refused r) l = leaves m (Answer.Refusal r) (m .fuel) l
 madeMemory m (MadeMemory.Made r) l =
-    record {
-      answer = accept (m .counts .memories);
-      change = Change.Memory (m .counts .memories) r;
-      counts = oneMemoryMore (m .counts);
-      fuel = m .fuel;
-      limiter = l;
-    }
+    creates m (m .counts .memories) (Change.Memory (m .counts .memories) r) (oneMemoryMore (m .counts)) l
 
 abbrev pub memoryMade : Machine → Done CreatedMemory → Done Outcome
 memoryMade m c = done (madeMemory m (c .out .made) (c .out .limiter)) (c .cells)

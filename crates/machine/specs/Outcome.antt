@@ -1,6 +1,6 @@
 -- Document 01, "The machine": an operation changes one record at most; what it gives back, and the machine after it.
 use Rattle.types.specs.Prelude.{ℕ, _+_, List, ltb, set}
-use Rattle.types.specs.Names.{pick, Done, done, refuse, Answer, Fuel, Limiter}
+use Rattle.types.specs.Names.{pick, Done, done, refuse, accept, Answer, Fuel, Limiter}
 use Rattle.memory.specs.Names.{Memory}
 use Rattle.table.specs.Names.{Table, ElementSegment}
 use Rattle.machine.specs.declared.{records.Machine.Machine, records.Counts.Counts, outcome.Outcome.Outcome, outcome.Change.Change}
@@ -12,6 +12,10 @@ leaves m a f l = record { answer = a; change = Change.Nothing; counts = m .count
 -- an answer that leaves fuel and limiter too
 abbrev pub keeps : Machine → Answer → Outcome
 keeps m a = leaves m a (m .fuel) (m .limiter)
+
+-- a creation: it answers the new number, and there is one instance more
+abbrev pub creates : Machine → ℕ → Change → Counts → Limiter → Outcome
+creates m number c k l = record { answer = accept number; change = c; counts = k; fuel = m .fuel; limiter = l }
 
 -- a refusal that leaves all as it is, its buffer too
 abbrev pub refused : Machine → ℕ → List ℕ → Done Outcome

@@ -2,8 +2,8 @@
 use Rattle.types.specs.Prelude.{ℕ, _-_, List, leb, ltb, length}
 use Rattle.types.specs.Names.{unless, both, Done, done, refuse, accept, Answer, RefType, CopySpan}
 use Rattle.table.specs.Names.{initTable, dropped, newSegment, MadeSegment}
-use Rattle.machine.specs.{Machine.tableAt, Machine.segmentAt, Machine.nextItem, Outcome.keeps, Outcome.refused, Outcome.oneSegmentMore}
-use Rattle.machine.specs.Tables.{spannedDone}
+use Rattle.machine.specs.Machine.{tableAt, segmentAt, nextItem}
+use Rattle.machine.specs.{Outcome.keeps, Outcome.creates, Outcome.refused, Outcome.oneSegmentMore, Tables.spannedDone}
 use Rattle.machine.specs.declared.{records.Machine.Machine, outcome.Outcome.Outcome, outcome.Change.Change}
 
 -- 27: 16, then the init
@@ -16,25 +16,13 @@ initOn r m cs items i segment span =
 unfoldable pub dropOn : Machine → ℕ → Outcome
 dropOn m i =
     unless (ltb i (m .counts .segments)) (keeps m (refuse 16 0))
-    (record {
-      answer = accept 0;
-      change = Change.Segment i (dropped (segmentAt m i));
-      counts = m .counts;
-      fuel = m .fuel;
-      limiter = m .limiter;
-    })
+    (record { answer = accept 0; change = Change.Segment i (dropped (segmentAt m i)); counts = m .counts; fuel = m .fuel; limiter = m .limiter })
 
 -- 29: a creation answers the new number
 unfoldable pub madeSegment : Machine → MadeSegment → Outcome
 madeSegment m (MadeSegment.Refused r) = keeps m (Answer.Refusal r)
 madeSegment m (MadeSegment.Made r) =
-    record {
-      answer = accept (m .counts .segments);
-      change = Change.Segment (m .counts .segments) r;
-      counts = oneSegmentMore (m .counts);
-      fuel = m .fuel;
-      limiter = m .limiter;
-    }
+    creates m (m .counts .segments) (Change.Segment (m .counts .segments) r) (oneSegmentMore (m .counts)) (m .limiter)
 
 abbrev pub segmentMade : Machine → Done MadeSegment → Done Outcome
 segmentMade m s = done (madeSegment m (s .out)) (s .cells)

@@ -3,8 +3,7 @@ use Rattle.types.specs.Prelude.{ℕ, _^_, Bool, true, List, [], _∷_, eqb, leb
 use Rattle.types.specs.Names.{both}
 use Rattle.memory.specs.Names.{soundMemory, Memory}
 use Rattle.table.specs.Names.{soundTable, soundSegment, Table, ElementSegment}
-use Rattle.machine.specs.Machine.{Buffers, memoryEnd, tableEnd, segmentEnd}
-use Rattle.machine.specs.declared.records.Machine.{Machine}
+use Rattle.machine.specs.{Machine.Buffers, Machine.memoryEnd, Machine.tableEnd, Machine.segmentEnd, declared.records.Machine.Machine}
 
 -- records follow each other from a place on: each is sound, and starts where the one before it ends
 unfoldable pub follow : {A : Type 0} → (A → Bool) → (A → ℕ) → (A → ℕ) → ℕ → List A → Bool

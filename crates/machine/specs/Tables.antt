@@ -3,7 +3,7 @@
 use Rattle.types.specs.Prelude.{ℕ, _-_, List, eqb, leb, ltb, length}
 use Rattle.types.specs.Names.{pick, unless, both, Done, done, accept, Answer, Fuel, Limiter, Spanned, TypedRawRef, CopySpan, WantedTable}
 use Rattle.table.specs.Names.{getTable, setTable, newTable, growTable, fillTable, copyTable, copyWithin, Table, GrownTable, MadeTable, CreatedTable}
-use Rattle.machine.specs.{Machine.tableAt, Machine.nextCell, Outcome.leaves, Outcome.refused, Outcome.oneTableMore}
+use Rattle.machine.specs.{Machine.tableAt, Machine.nextCell, Outcome.leaves, Outcome.creates, Outcome.refused, Outcome.oneTableMore}
 use Rattle.machine.specs.declared.{records.Machine.Machine, outcome.Outcome.Outcome, outcome.Change.Change, operation.TableOp.TableOp}
 
 -- an answer that leaves a table's record, with fuel and limiter after it
@@ -63,13 +63,7 @@ copyOn r m cs into source span =
 unfoldable pub madeTable : Machine → MadeTable → Limiter → Outcome
 madeTable m (MadeTable.Refused r) l = leaves m (Answer.Refusal r) (m .fuel) l
 madeTable m (MadeTable.Made r) l =
-    record {
-      answer = accept (m .counts .tables);
-      change = Change.Table (m .counts .tables) r;
-      counts = oneTableMore (m .counts);
-      fuel = m .fuel;
-      limiter = l;
-    }
+    creates m (m .counts .tables) (Change.Table (m .counts .tables) r) (oneTableMore (m .counts)) l
 
 abbrev pub tableMade : Machine → Done CreatedTable → Done Outcome
 tableMade m c = done (madeTable m (c .out .made) (c .out .limiter)) (c .cells)

@@ -1,8 +1,7 @@
 -- Document 01, "Access": host reads and writes of any length; length 0 passes at the size and not beyond.
 use Rattle.types.specs.Prelude.{ℕ, _+_, List, length}
 use Rattle.types.specs.Names.{pick, Done, done, inside, cut, over, refuse, accept, Answer}
-use Rattle.memory.specs.Memory.{soundMemory}
-use Rattle.memory.specs.declared.memory.Memory.{Memory}
+use Rattle.memory.specs.{Memory.soundMemory, declared.memory.Memory.Memory}
 
 -- the caller's buffer becomes the bytes from an offset on, within the bytes in use; else 9
 unfoldable pub readUsed : Memory → List ℕ → ℕ → List ℕ → Done Answer

@@ -1,9 +1,8 @@
 -- Document 01, "First check wins", copy: 14, 12, 7, at length 0 too; WebAssembly Core Specification 3.0, Execution, Instructions, table.copy, whose steps leave this span.
-use Rattle.types.specs.Prelude.{ℕ, _+_, _*_, Bool, true, List, leb, length}
-use Rattle.types.specs.Names.{pick, unless, both, inside, cut, over, refuse, accept, price, short, paid, Done, spanDone, elementMatches}
+use Rattle.types.specs.Prelude.{ℕ, _+_, Bool, true, List, leb, length}
+use Rattle.types.specs.Names.{pick, unless, both, inside, cut, over, refuse, accept, short, paid, Done, spanDone, elementMatches}
 use Rattle.types.specs.Names.{Fuel, Spanned, CopySpan}
-use Rattle.table.specs.Table.{soundTable}
-use Rattle.table.specs.declared.table.Table.{Table}
+use Rattle.table.specs.{Table.soundTable, Grow.cellsPrice, declared.table.Table.Table}
 
 -- the rooms of two tables follow each other
 unfoldable pub roomsApart : Table → Table → Bool
@@ -19,13 +18,13 @@ copyTable r d s cs span f =
     unless (soundTwo d s (length cs)) (spanDone (refuse 19 0) f cs)
     (unless (elementMatches (d .ty) (s .ty .element)) (spanDone (refuse 14 0) f cs)
     (unless (both (inside (span .to) (span .len) (d .size)) (inside (span .from) (span .len) (s .size))) (spanDone (refuse 12 0) f cs)
-    (pick (short f (price (f .costs .copied) (span .len * r))) (spanDone (refuse 7 (price (f .costs .copied) (span .len * r))) f cs)
-    (spanDone (accept 0) (paid f (price (f .costs .copied) (span .len * r))) (over cs (d .start + span .to) (cut cs (s .start + span .from) (span .len)))))))
+    (pick (short f (cellsPrice r (span .len) f)) (spanDone (refuse 7 (cellsPrice r (span .len) f)) f cs)
+    (spanDone (accept 0) (paid f (cellsPrice r (span .len) f)) (over cs (d .start + span .to) (cut cs (s .start + span .from) (span .len)))))))
 
 -- the same within one table, whose kind is its own
 unfoldable pub copyWithin : ℕ → Table → List ℕ → CopySpan → Fuel → Done Spanned
 copyWithin r t cs span f =
     unless (soundTable t (length cs)) (spanDone (refuse 19 0) f cs)
     (unless (both (inside (span .to) (span .len) (t .size)) (inside (span .from) (span .len) (t .size))) (spanDone (refuse 12 0) f cs)
-    (pick (short f (price (f .costs .copied) (span .len * r))) (spanDone (refuse 7 (price (f .costs .copied) (span .len * r))) f cs)
-    (spanDone (accept 0) (paid f (price (f .costs .copied) (span .len * r))) (over cs (t .start + span .to) (cut cs (t .start + span .from) (span .len))))))
+    (pick (short f (cellsPrice r (span .len) f)) (spanDone (refuse 7 (cellsPrice r (span .len) f)) f cs)
+    (spanDone (accept 0) (paid f (cellsPrice r (span .len) f)) (over cs (t .start + span .to) (cut cs (t .start + span .from) (span .len))))))

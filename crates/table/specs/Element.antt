@@ -1,8 +1,7 @@
 -- Document 01, "The machine": element segments; WebAssembly Core Specification 3.0, Execution, Instructions, elem.drop.
 use Rattle.types.specs.Prelude.{ℕ, _+_, Bool, List, leb, length, getD}
 use Rattle.types.specs.Names.{pick, both, Done, done, over, refusal, refuse, accept, Answer, RefType}
-use Rattle.table.specs.Table.{soundBuffer}
-use Rattle.table.specs.declared.element.{ElementSegment.ElementSegment, MadeSegment.MadeSegment}
+use Rattle.table.specs.{Table.soundBuffer, declared.element.ElementSegment.ElementSegment, declared.element.MadeSegment.MadeSegment}
 
 -- a sound segment: its places lie inside the items, and its size within its places
 unfoldable pub soundSegment : ElementSegment → ℕ → Bool

@@ -3,8 +3,7 @@
 use Rattle.types.specs.Prelude.{ℕ, _+_, _*_, List, eqb, leb, ltb, length, replicate}
 use Rattle.types.specs.Names.{pick, unless, Done, done, over, refuse, accept, price, short, paid, saysOf, moved, noticed, maxSize, admitsOf}
 use Rattle.types.specs.Names.{elementMatches, Answer, Fuel, Limiter, TypedRawRef}
-use Rattle.table.specs.Table.{resized, soundTable}
-use Rattle.table.specs.declared.{table.Table.Table, grow.GrownTable.GrownTable}
+use Rattle.table.specs.{Table.resized, Table.soundTable, declared.table.Table.Table, declared.grow.GrownTable.GrownTable}
 
 -- what a growth gives back
 abbrev pub answered : Answer → Table → Fuel → Limiter → GrownTable

@@ -3,8 +3,7 @@ use Rattle.types.specs.Prelude.{ℕ}
 use lib.Ieee.{binary32, binary64, ofBits, toBits, nanBits}
 use mir.Syntax.{w32, w64}
 use mir.Val.{ofZ}
-use Rattle.types.specs.Pick.{pick}
-use Rattle.types.specs.declared.answer.{Value.Value, Refusal.Refusal, Answer.Answer}
+use Rattle.types.specs.{Pick.pick, declared.answer.Value.Value, declared.answer.Refusal.Refusal, declared.answer.Answer.Answer}
 
 -- the float of its bits, or the bits themselves where they are a NaN's
 unfoldable pub float32 : ℕ → Value

@@ -1,7 +1,6 @@
 -- WebAssembly Core Specification 3.0: Structure, Types, limits; Validation, Types, limits; Validation, Matching, limits.
 use Rattle.types.specs.Prelude.{ℕ, Bool, true, leb}
-use Rattle.types.specs.Pick.{pick, both}
-use Rattle.types.specs.declared.limits.Limits.{Limits}
+use Rattle.types.specs.{Pick.pick, Pick.both, declared.limits.Limits.Limits}
 
 -- a size at most the maximum, if there is one
 unfoldable pub admitsOf : Limits → ℕ → Bool

@@ -1,4 +1,5 @@
 -- What the crates above name of this one, passed on by file; nothing is defined here.
+use Rattle.types.specs.declared
 pub use Rattle.types.specs.Numbers.{word8, word32, word64}
 pub use Rattle.types.specs.Pick.{pick, unless, both}
 pub use Rattle.types.specs.Done.{Done, done, spanDone}
@@ -10,11 +11,10 @@ pub use Rattle.types.specs.Span.{inside, cut, over}
 pub use Rattle.types.specs.IndexType.{maxSize, is64, indexOf}
 pub use Rattle.types.specs.Limits.{admitsOf}
 pub use Rattle.types.specs.MemoryType.{pageBytes, pageBound, validMemory, memoryType, validExponent, pageOf, buildMemory, matchMemory}
-pub use Rattle.types.specs.Raw.{typedOf, rawBytes}
+pub use Rattle.types.specs.Raw.{typedOf, nullOf, rawBytes}
 pub use Rattle.types.specs.TableType.{tableBound, validTable, tableType, elementMatches}
-pub use Rattle.types.specs.declared.{answer.Answer.Answer, answer.Refusal.Refusal, answer.Value.Value, fuel.Fuel.Fuel, fuel.FuelCosts.FuelCosts}
-pub use Rattle.types.specs.declared.{fuel.FuelStep.FuelStep, limiter.HandedOver.HandedOver, limiter.Limiter.Limiter}
-pub use Rattle.types.specs.declared.{memory_ty.BuiltMemory.BuiltMemory, memory_ty.MemoryType.MemoryType, memory_ty.PageSize.PageSize}
-pub use Rattle.types.specs.declared.{memory_ty.WantedMemory.WantedMemory, grant.Spanned.Spanned, span.CopySpan.CopySpan, span.FillSpan.FillSpan}
-pub use Rattle.types.specs.declared.{raw.RefType.RefType, raw.TypedRawRef.TypedRawRef, table_ty.TableType.TableType}
-pub use Rattle.types.specs.declared.{table_ty.WantedTable.WantedTable, index_ty.IndexType.IndexType, limits.Limits.Limits}
+pub use declared.{answer.Answer.Answer, answer.Refusal.Refusal, answer.Value.Value, fuel.Fuel.Fuel, fuel.FuelCosts.FuelCosts, fuel.FuelStep.FuelStep}
+pub use declared.{limiter.HandedOver.HandedOver, limiter.Limiter.Limiter, memory_ty.BuiltMemory.BuiltMemory, memory_ty.MemoryType.MemoryType}
+pub use declared.{memory_ty.PageSize.PageSize, memory_ty.WantedMemory.WantedMemory, grant.Spanned.Spanned, span.CopySpan.CopySpan}
+pub use declared.{span.FillSpan.FillSpan, raw.RefType.RefType, raw.TypedRawRef.TypedRawRef, table_ty.TableType.TableType}
+pub use declared.{table_ty.WantedTable.WantedTable, index_ty.IndexType.IndexType, limits.Limits.Limits}

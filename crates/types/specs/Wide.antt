@@ -1,7 +1,6 @@
 -- Document 01, "What must change shape": bounds that do not fit 64 bits are two 64-bit halves.
 use Rattle.types.specs.Prelude.{ℕ, _+_, _*_, _/_, _%_}
-use Rattle.types.specs.Numbers.{word64}
-use Rattle.types.specs.declared.wide.Wide.{Wide}
+use Rattle.types.specs.{Numbers.word64, declared.wide.Wide.Wide}
 
 -- the number that two halves stand for
 unfoldable pub whole : Wide → ℕ
