@@ -1,4 +1,5 @@
-//! Times the crate's own code and the port in one run and prints one table. Built and run by `bench/run`.
+//! Times the crate's own code and the port in one run and prints the parts that its arguments name, or all. Built and run by
+//! `bench/run`, which knows their names.
 //!
 //! Both sides are called as `extern "C"` functions, from the same loop where their shapes are equal, over the same
 //! addresses and buffers. In every round the sides take turns, and each side's best run counts. What both sides answer is
@@ -733,18 +734,8 @@ fn passes() -> usize {
     std::env::var("BENCH_PASSES").ok().and_then(|v| v.parse().ok()).unwrap_or(40)
 }
 
-fn main() {
-    let mut rows = Vec::new();
-    load_rows(&mut rows);
-    store_rows(&mut rows);
-    price_rows(&mut rows);
-    charge_rows(&mut rows);
-    growth_rows(&mut rows);
-    // a memory of 1 MiB, and one that lies in the first-level cache whole
-    let sizes = [1, 16, 256, KIB, 4 * KIB, 16 * KIB, 64 * KIB, MIB];
-    host_rows(&mut rows, ["host read", "host write"], room(MIB), &sizes);
-    host_rows(&mut rows, ["host read, L1", "host write, L1"], room(16 * KIB), &sizes[..6]);
-    tables::rows(&mut rows);
+/// Every row gone through, then one table.
+fn print(mut rows: Vec<Row>) {
     for _ in 0..passes() {
         for row in &mut rows {
             row.measure();
@@ -765,6 +756,33 @@ fn main() {
     } else {
         println!("below the goal: {}", missed.join("; "));
     }
-    operate::print();
-    lines::print();
+}
+
+fn main() {
+    let parts: Vec<String> = std::env::args().skip(1).collect();
+    let wanted = |part: &str| parts.is_empty() || parts.iter().any(|name| name == part);
+    let mut rows = Vec::new();
+    if wanted("memories") {
+        load_rows(&mut rows);
+        store_rows(&mut rows);
+        price_rows(&mut rows);
+        charge_rows(&mut rows);
+        growth_rows(&mut rows);
+        // a memory of 1 MiB, and one that lies in the first-level cache whole
+        let sizes = [1, 16, 256, KIB, 4 * KIB, 16 * KIB, 64 * KIB, MIB];
+        host_rows(&mut rows, ["host read", "host write"], room(MIB), &sizes);
+        host_rows(&mut rows, ["host read, L1", "host write, L1"], room(16 * KIB), &sizes[..6]);
+    }
+    if wanted("tables") {
+        tables::rows(&mut rows);
+    }
+    if !rows.is_empty() {
+        print(rows);
+    }
+    if wanted("operate") {
+        operate::print();
+    }
+    if wanted("lines") {
+        lines::print();
+    }
 }
