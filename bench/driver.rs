@@ -12,6 +12,7 @@ mod face;
 mod lines;
 mod operate;
 mod tables;
+mod whole;
 
 use face::*;
 use std::ffi::c_void;
@@ -781,6 +782,9 @@ fn main() {
     }
     if wanted("operate") {
         operate::print();
+    }
+    if wanted("whole") {
+        whole::print();
     }
     if wanted("lines") {
         lines::print();

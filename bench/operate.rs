@@ -23,11 +23,11 @@ unsafe extern "C" {
 }
 
 /// Each instance has a room of so many bytes or cells, of which the first 64 are in use.
-const ROOM: usize = 131072;
-const ROUNDS: u64 = 2000;
+pub const ROOM: usize = 131072;
+pub const ROUNDS: u64 = 2000;
 
 /// A name, a code, its fields, and whether it needs an instance.
-const OPERATIONS: [(&str, &str, &[u64], bool); 18] = [
+pub const OPERATIONS: [(&str, &str, &[u64], bool); 18] = [
     ("set fuel", "01", &[1000000], false),
     ("get fuel", "02", &[], false),
     ("charge", "03", &[0], false),
