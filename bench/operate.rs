@@ -1,9 +1,10 @@
-//! What one operation costs through the port's `operate`, and how much of that is the soundness test and copying.
-//! The machine goes by value, so that the rounds run inside one call; a call with no rounds is taken off.
+//! What one operation costs through the port's `operate`, and how much of that is the soundness test and copying; then in place, in a
+//! row of words that is lent, with the tests of its form and soundness and without them.
+//! The rounds run inside one call; a call with no rounds is taken off.
 
 use std::time::Instant;
 
-// Archive libtiming.a: crates/timing/src/operate.rt.
+// Archive libtiming.a: crates/timing/src/operate.rt and in_place.rt.
 unsafe extern "C" {
     /// So many rounds of the line's operation, by value or through lent records and lent fuel, on a machine with so many memories,
     /// tables and segments; the fuel left.
@@ -20,6 +21,32 @@ unsafe extern "C" {
         instances: u64,
         rounds: u64,
     ) -> u64;
+    /// The same in place, in a row of words: with every test, or without those of the row's form and soundness.
+    fn rounds_in_place(
+        words: *mut u64,
+        word_count: usize,
+        bytes: *mut u8,
+        byte_count: usize,
+        cells: *mut u64,
+        cell_count: usize,
+        items: *mut u64,
+        item_count: usize,
+        tested: bool,
+        line: *const u8,
+        length: usize,
+        instances: u64,
+        rounds: u64,
+    ) -> u64;
+}
+
+/// How a machine is handed over.
+#[derive(Clone, Copy)]
+enum Way {
+    Value,
+    Lent,
+    /// In place, by `proceed` or by `operate` with its tests.
+    Proceed,
+    Operate,
 }
 
 /// Each instance has a room of so many bytes or cells, of which the first 64 are in use.
@@ -49,58 +76,68 @@ pub const OPERATIONS: [(&str, &str, &[u64], bool); 18] = [
 ];
 
 struct Buffers {
+    words: Vec<u64>,
     bytes: Vec<u8>,
     cells: Vec<u64>,
     items: Vec<u64>,
 }
 
 /// The nanoseconds of one call.
-fn spent(b: &mut Buffers, lent: bool, line: &str, instances: u64, rounds: u64) -> f64 {
+fn spent(b: &mut Buffers, way: Way, line: &str, instances: u64, rounds: u64) -> f64 {
+    let (words, bytes) = (b.words.as_mut_ptr(), b.bytes.as_mut_ptr());
+    let (cells, items) = (b.cells.as_mut_ptr(), b.items.as_mut_ptr());
+    let [w, n, c, i] = [b.words.len(), b.bytes.len(), b.cells.len(), b.items.len()];
+    let (text, length) = (line.as_ptr(), line.len());
     let start = Instant::now();
     let left = unsafe {
-        rounds_operate(
-            b.bytes.as_mut_ptr(),
-            b.bytes.len(),
-            b.cells.as_mut_ptr(),
-            b.cells.len(),
-            b.items.as_mut_ptr(),
-            b.items.len(),
-            lent,
-            line.as_ptr(),
-            line.len(),
-            instances,
-            rounds,
-        )
+        match way {
+            Way::Value => rounds_operate(bytes, n, cells, c, items, i, false, text, length, instances, rounds),
+            Way::Lent => rounds_operate(bytes, n, cells, c, items, i, true, text, length, instances, rounds),
+            Way::Proceed => rounds_in_place(words, w, bytes, n, cells, c, items, i, false, text, length, instances, rounds),
+            Way::Operate => rounds_in_place(words, w, bytes, n, cells, c, items, i, true, text, length, instances, rounds),
+        }
     };
     std::hint::black_box(left);
     start.elapsed().as_nanos() as f64
 }
 
 /// The nanoseconds of one round: the best of many.
-fn round(b: &mut Buffers, lent: bool, line: &str, instances: u64) -> f64 {
+fn round(b: &mut Buffers, way: Way, line: &str, instances: u64) -> f64 {
     let mut none = f64::INFINITY;
     let mut all = f64::INFINITY;
     for _ in 0..60 {
-        none = none.min(spent(b, lent, line, instances, 0));
-        all = all.min(spent(b, lent, line, instances, ROUNDS));
+        none = none.min(spent(b, way, line, instances, 0));
+        all = all.min(spent(b, way, line, instances, ROUNDS));
     }
     (all - none) / ROUNDS as f64
 }
 
 pub fn print() {
-    let mut b = Buffers { bytes: vec![0; 8 * ROOM], cells: vec![0; 8 * ROOM], items: vec![0; 32] };
+    let mut b = Buffers { words: vec![0; 186], bytes: vec![0; 8 * ROOM], cells: vec![0; 8 * ROOM], items: vec![0; 32] };
     println!();
     println!("{:<26} {:>12} {:>12} {:>12} {:>16}", "through operate", "empty", "1 of each", "8 of each", "1 of each, lent");
     for (name, code, fields, needs) in OPERATIONS {
-        let line = fields.iter().fold(code.to_string(), |text, field| format!("{text} {field:016x}"));
-        let empty = if needs { "-".to_string() } else { format!("{:.1} ns", round(&mut b, false, &line, 0)) };
-        let one = format!("{:.1} ns", round(&mut b, false, &line, 1));
-        let all = format!("{:.1} ns", round(&mut b, false, &line, 8));
-        let lent = format!("{:.1} ns", round(&mut b, true, &line, 1));
+        let line = text(code, fields);
+        let empty = if needs { "-".to_string() } else { format!("{:.1} ns", round(&mut b, Way::Value, &line, 0)) };
+        let one = format!("{:.1} ns", round(&mut b, Way::Value, &line, 1));
+        let all = format!("{:.1} ns", round(&mut b, Way::Value, &line, 8));
+        let lent = format!("{:.1} ns", round(&mut b, Way::Lent, &line, 1));
         println!("{name:<26} {empty:>12} {one:>12} {all:>12} {lent:>16}");
     }
-    let copying = round(&mut b, false, "02", 0);
-    let one = round(&mut b, false, "02", 1) - copying;
-    let all = round(&mut b, false, "02", 8) - copying;
+    let copying = round(&mut b, Way::Value, "02", 0);
+    let one = round(&mut b, Way::Value, "02", 1) - copying;
+    let all = round(&mut b, Way::Value, "02", 8) - copying;
     println!("of which copying and dispatch {copying:.1} ns, the soundness test {one:.1} ns with 1 of each and {all:.1} ns with 8 of each");
+    println!();
+    println!("{:<26} {:>12} {:>12} {:>16} {:>16}", "in place", "1 of each", "8 of each", "1 each, tested", "8 each, tested");
+    for (name, code, fields, _) in OPERATIONS {
+        let line = text(code, fields);
+        let [one, all] = [1, 8].map(|instances| format!("{:.1} ns", round(&mut b, Way::Proceed, &line, instances)));
+        let [one_tested, all_tested] = [1, 8].map(|instances| format!("{:.1} ns", round(&mut b, Way::Operate, &line, instances)));
+        println!("{name:<26} {one:>12} {all:>12} {one_tested:>16} {all_tested:>16}");
+    }
+}
+
+fn text(code: &str, fields: &[u64]) -> String {
+    fields.iter().fold(code.to_string(), |text, field| format!("{text} {field:016x}"))
 }

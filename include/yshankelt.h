@@ -122,16 +122,17 @@ uint64_t ysh_price_values(uint64_t len, uint64_t size, uint32_t per_unit);
 
 /* Machines: up to 8 memories, 8 tables and 8 element segments with fuel and a limiter, in a row of words that the host owns.
  * Words past the first YSH_MACHINE_WORDS are left alone. A refusal changes no buffer and no size; fuel that a growth paid stays paid, and
- * an answer that the limiter gave stays heard. A row that no machine is written as, or of fewer words, is 19 before all else: nothing
- * changes then, `value` and `fuel` neither. `words`, `bytes`, `cells`, `items`, `fields`, `value` and `fuel` are places of their own; a
- * pointer may be null where its length is 0, but `value` and `fuel` must not be null.
- * In order, with 1 for yes, 64-bit, 64 KiB pages or external, else 0:
+ * an answer that the limiter gave stays heard. What is no operation is 18 before the row is looked at. A row is 19 that has fewer words, or
+ * a word past what is said below, in a record that is not in use too, or a machine that its buffers do not hold: nothing changes then,
+ * `value` and `fuel` neither. `words`, `bytes`, `cells`, `items`, `fields`, `value` and `fuel` are places of their own; a pointer may be
+ * null where its length is 0, but `value` and `fuel` must not be null.
+ * In order, with 1 for yes, 64-bit, 64 KiB pages or external, else 0, and no other word there:
  *   0    8 memories: 64-bit, 64 KiB pages, minimum, bounded, maximum, start, room and size in bytes
  *   64   8 tables: external, 64-bit, minimum, bounded, maximum, start, room and size in cells
  *   128  8 segments: external, start, places, size
  *   160  how many memories, tables and segments there are
  *   163  fuel left, metering, bytes copied a unit (below 2^32), units a byte translated, units a byte validated (likewise)
- *   168  limiter: answers in the script, answers heard, and the script's 16 places (each below 256) */
+ *   168  limiter: answers in the script, answers heard, and the script's 16 places (each at most 2) */
 #define YSH_MACHINE_WORDS 186
 
 /* How many words a machine takes.
@@ -143,18 +144,21 @@ size_t ysh_machine_words(void);
 uint8_t ysh_machine_new(uint64_t *words, size_t words_len, bool metering, uint32_t copied);
 
 /* One operation, answered as a session answers a line with this code and these fields that is not its first line.
- * The number; *value is the value's bits, or a refusal's amount (0 but for 7), and *fuel the fuel left, 0 with metering off.
+ * The number; *value is the value's bits, or a refusal's amount (0 but for 7), and *fuel the fuel left, 0 with metering off or where the
+ * row is too short. 19 leaves *value and *fuel as they were.
  * `bytes`, `cells` and `items` hold the memories, tables and segments: the same ones, as the last operation left them, at each call. */
 uint8_t ysh_operate(uint64_t *words, size_t words_len, uint8_t *bytes, size_t bytes_len, uint64_t *cells, size_t cells_len,
                     uint64_t *items, size_t items_len, uint8_t code, const uint64_t *fields, size_t fields_len,
                     uint64_t *value, uint64_t *fuel);
 
 /* A memory's size in pages, by the row alone: the buffers are not needed, and are not looked at.
- * 0 and the size in *value, or 16 for an unknown number, 19 for a row not in form, and *value as it was. */
+ * Of the records the memory's alone is read: 0 and the size in *value, or *value as it was and 19 for a row of fewer words, 16 for an
+ * unknown number, 19 where a flag of the record is above 1. */
 uint8_t ysh_memory_pages(const uint64_t *words, size_t words_len, uint64_t memory, uint64_t *value);
 
 /* A table's size in cells, by the row alone: the buffers are not needed, and are not looked at.
- * 0 and the size in *value, or 16 for an unknown number, 19 for a row not in form, and *value as it was. */
+ * Of the records the table's alone is read: 0 and the size in *value, or *value as it was and 19 for a row of fewer words, 16 for an
+ * unknown number, 19 where a flag of the record is above 1. */
 uint8_t ysh_table_cells(const uint64_t *words, size_t words_len, uint64_t table, uint64_t *value);
 
 #ifdef __cplusplus

@@ -142,13 +142,17 @@ static void every_kind(void)
     run(&copy, "a copy", more, 2);
     static const struct step still[] = {{0x12, 1, {0}, 0, 8, 1}};
     run(&h, "what was copied", still, 1);
-    /* a machine whose rooms lie outside the buffers is 19: the answer's columns are told, the rest stays */
+    /* a machine whose rooms lie outside the buffers is 19: nothing changes, the out parameters neither */
     copy = h;
     h.value = h.fuel = MARK;
     uint64_t zero = 0;
     expect(ysh_operate(h.words, W, h.bytes, 8, h.cells, CELLS, h.items, ITEMS, 0x12, &zero, 1, &h.value, &h.fuel) == 19, "short bytes", 0, 0, 0);
-    expect(h.value == 0 && h.fuel == 1 && same(&h, &copy), "short bytes change nothing", h.value, h.fuel, 0);
+    expect(h.value == MARK && h.fuel == MARK && same(&h, &copy), "short bytes change nothing", h.value, h.fuel, 0);
     expect(ysh_operate(h.words, W, NULL, 0, NULL, 0, NULL, 0, 0x02, NULL, 0, &h.value, &h.fuel) == 19, "no buffers", 0, 0, 0);
+    expect(h.value == MARK && h.fuel == MARK && same(&h, &copy), "no buffers change nothing", h.value, h.fuel, 0);
+    /* what is no operation is 18 before that, with the row's fuel */
+    expect(ysh_operate(h.words, W, NULL, 0, NULL, 0, NULL, 0, 0x02, &zero, 1, &h.value, &h.fuel) == 18, "18 before 19", 0, 0, 0);
+    expect(h.value == 0 && h.fuel == 1 && same(&h, &copy), "18 tells the fuel", h.value, h.fuel, 0);
 }
 
 static void metering_off(void)
@@ -192,18 +196,53 @@ static void every_code(void)
         }
 }
 
+/* The fuel column of a row, by the words that the header names. */
+static uint64_t fuel_shown(const struct host *h, size_t len)
+{
+    return len >= W && h->words[164] == 1 ? h->words[163] : 0;
+}
+
+/* A call that answers this number and changes nothing; 19 leaves the out parameters too, 18 tells the row's fuel. */
+static void stays(struct host *h, size_t len, uint8_t code, size_t count, uint8_t wanted, const char *what, uint64_t at)
+{
+    static const uint64_t zeros[MAX];
+    struct host before = *h;
+    h->value = h->fuel = MARK;
+    uint8_t number = ysh_operate(h->words, len, h->bytes, BYTES, h->cells, CELLS, h->items, ITEMS, code, zeros, count, &h->value, &h->fuel);
+    expect(number == wanted && same(h, &before), what, at, code, number);
+    expect(h->value == (wanted == 19 ? MARK : 0), what, at, code, h->value);
+    expect(h->fuel == (wanted == 19 ? MARK : fuel_shown(h, len)), what, at, code, h->fuel);
+}
+
+/* Every kind of operation is 19 on such a row; what is no operation is 18 before that: an unknown code, the making of a machine, a field
+ * too many. */
 static void not_in_form(struct host *h, size_t len, const char *what, uint64_t at)
 {
-    struct host before = *h;
-    uint64_t zero = 0, v = MARK;
-    h->value = before.value = MARK;
-    h->fuel = before.fuel = MARK;
-    uint8_t number = ysh_operate(h->words, len, h->bytes, BYTES, h->cells, CELLS, h->items, ITEMS, 0x12, &zero, 1, &h->value, &h->fuel);
-    expect(number == 19 && h->value == MARK && h->fuel == MARK && same(h, &before), what, at, number, h->value);
-    number = ysh_operate(h->words, len, h->bytes, BYTES, h->cells, CELLS, h->items, ITEMS, 0xff, NULL, 0, &h->value, &h->fuel);
-    expect(number == 19 && h->value == MARK && h->fuel == MARK && same(h, &before), what, at, number, h->value);
-    expect(ysh_memory_pages(h->words, len, 0, &v) == 19 && v == MARK, what, at, v, 0);
-    expect(ysh_table_cells(h->words, len, 0, &v) == 19 && v == MARK, what, at, v, 0);
+    stays(h, len, 0x02, 0, 19, what, at);
+    stays(h, len, 0x12, 1, 19, what, at);
+    stays(h, len, 0x22, 1, 19, what, at);
+    stays(h, len, 0x28, 1, 19, what, at);
+    stays(h, len, 0x10, 6, 19, what, at);
+    stays(h, len, 0xff, 0, 18, what, at);
+    stays(h, len, 0x00, 2, 18, what, at);
+    stays(h, len, 0x12, 2, 18, what, at);
+}
+
+/* The sizes of the memory and the table at 0, of 8 pages and 2 cells. */
+static void sizes(const struct host *h, size_t len, uint8_t pages, uint8_t cells, const char *what, uint64_t at)
+{
+    uint64_t v = MARK;
+    expect(ysh_memory_pages(h->words, len, 0, &v) == pages && v == (pages == 0 ? 8 : MARK), what, at, pages, v);
+    v = MARK;
+    expect(ysh_table_cells(h->words, len, 0, &v) == cells && v == (cells == 0 ? 2 : MARK), what, at, cells, v);
+}
+
+/* The largest word that a place of a row may hold; 2^64-1 where any will do. */
+static uint64_t largest(unsigned i)
+{
+    unsigned part = i < 128 ? i % 8 : i % 4;
+    int flag = i < 128 ? part == 0 || part == 1 || part == 3 : i < 160 ? part == 0 : i == 164;
+    return flag ? 1 : i >= 165 && i <= 167 ? UINT64_C(0xffffffff) : i >= 170 ? 2 : UINT64_MAX;
 }
 
 static void odd_rows(void)
@@ -217,35 +256,64 @@ static void odd_rows(void)
     }
     expect(ysh_machine_new(NULL, 0, true, 64) == 19, "no row", 0, 0, 0);
     not_in_form(&h, W, "a row of anything", 0);
-    static const struct step steps[] = {{0x10, 6, {16, 0, 0, 8, 0, 0}, 0, 0, 0}, {0x20, 8, {8, 0, 0, 0, 2, 0, 0, 0}, 0, 0, 0}};
+    sizes(&h, W, 19, 19, "a row of anything", 0);
+    static const struct step steps[] = {
+        {0x01, 1, {5}, 0, 0, 5}, {0x10, 6, {16, 0, 0, 8, 0, 0}, 0, 0, 5}, {0x20, 8, {8, 0, 0, 0, 2, 0, 0, 0}, 0, 0, 5}};
     expect(ysh_machine_new(h.words, W, true, 64) == 0 && edges_kept(&h), "new", 0, 0, 0);
-    run(&h, "a row to spoil", steps, 2);
+    run(&h, "a row to spoil", steps, 3);
     made = h;
-    for (size_t len = 0; len < W; len++)
+    for (size_t len = 0; len < W; len++) {
         not_in_form(&h, len, "a row cut short", len);
-    /* words that a machine cannot have: a yes/no of 2, a cost of 2^32, an answer of 256 */
-    for (unsigned i = 0; i < W; i++) {
-        int yesno = i < 64 ? i % 8 == 0 || i % 8 == 1 || i % 8 == 3 : i < 128 ? i % 8 == 0 || i % 8 == 1 || i % 8 == 3 : i < 160 ? i % 4 == 0 : i == 164;
-        uint64_t spoiled = yesno ? 2 : i >= 165 && i <= 167 ? UINT64_C(1) << 32 : i >= 170 ? 256 : 0;
-        if (spoiled == 0)
-            continue;
-        h = made;
-        h.words[i] = spoiled;
-        not_in_form(&h, W, "a spoiled word", i);
-        h.words[i] = UINT64_MAX;
-        not_in_form(&h, W, "a spoiled word", i);
+        sizes(&h, len, 19, 19, "a row cut short", len);
     }
-    /* any other word makes some machine, sound or not: the row is left as it was where the number is not 0 */
+    /* words that a machine cannot have, in any record, used or not: a flag above 1, a cost from 2^32 on, an answer above 2. A size reads
+     * one record's flags, and no other word of the row but the counts */
     for (unsigned i = 0; i < W; i++) {
-        if (i < 160 ? (i < 128 ? i % 8 : i % 4) == 0 : i == 164)
+        if (largest(i) == UINT64_MAX)
+            continue;
+        uint64_t spoiled[] = {largest(i) + 1, largest(i) + 2, UINT64_C(1) << 32, UINT64_MAX};
+        for (unsigned k = 0; k < sizeof spoiled / sizeof *spoiled; k++) {
+            h = made;
+            h.words[i] = spoiled[k];
+            not_in_form(&h, W, "a spoiled word", i);
+            sizes(&h, W, i < 8 ? 19 : 0, i >= 64 && i < 72 ? 19 : 0, "a size beside a spoiled word", i);
+        }
+        /* the largest word is in form: what is no operation is 18, and a size is told */
+        h = made;
+        h.words[i] = largest(i);
+        if (i != 1) /* at 1 it makes the memory's pages larger than the memory */
+            sizes(&h, W, 0, 0, "a size beside the largest word", i);
+        stays(&h, W, 0xff, 0, 18, "the largest word", i);
+    }
+    /* any other word makes some machine, sound or not: the row is left as it was, and 19 leaves the out parameters */
+    for (unsigned i = 0; i < W; i++) {
+        if (made.words[i] == largest(i))
             continue;
         h = made;
         h.words[i] = made.words[i] + 1;
         struct host before = h;
-        uint64_t one = 0;
-        uint8_t number = operate(&h, 0x12, 1, &one);
+        uint64_t zero = 0;
+        h.value = h.fuel = MARK;
+        uint8_t number = operate(&h, 0x12, 1, &zero);
         expect(same(&h, &before) && edges_kept(&h), "a size changes nothing", i, number, 0);
         expect(number == 0 || number == 19, "a size", i, number, 0);
+        expect((h.value == MARK) == (number == 19) && (h.fuel == MARK) == (number == 19), "19 tells nothing else", i, number, h.value);
+        if (i >= 170)
+            expect(number == 0, "an answer of at most 2", i, number, 0);
+    }
+    /* records that are not sound: 19 in an operation, while a size reads its own record alone */
+    static const struct {
+        unsigned at;
+        uint64_t word;
+    } unsound[] = {{5, 1}, {6, 1000}, {7, 17}, {69, 1}, {70, 1000}, {71, 9}, {160, 9}, {161, 9}, {162, 9}, {160, UINT64_MAX}};
+    for (unsigned i = 0; i < sizeof unsound / sizeof *unsound; i++) {
+        h = made;
+        h.words[unsound[i].at] = unsound[i].word;
+        stays(&h, W, 0x02, 0, 19, "unsound records", unsound[i].at);
+        stays(&h, W, 0xff, 0, 18, "unsound records", unsound[i].at);
+        uint64_t v = MARK, size = h.words[7], cells = h.words[71];
+        expect(ysh_memory_pages(h.words, W, 0, &v) == 0 && v == size, "the size of an unsound record", unsound[i].at, v, 0);
+        expect(ysh_table_cells(h.words, W, 0, &v) == 0 && v == cells, "the size of an unsound record", unsound[i].at, v, 0);
     }
     /* sizes of unknown numbers, and of counts that no machine has */
     h = made;
@@ -261,6 +329,11 @@ static void odd_rows(void)
     v = MARK;
     expect(ysh_memory_pages(h.words, W, 8, &v) == 16 && v == MARK, "a memory past the places", v, 0, 0);
     expect(ysh_table_cells(h.words, W, 8, &v) == 16 && v == MARK, "a table past the places", v, 0, 0);
+    /* a number is unknown before its record is looked at */
+    h = made;
+    h.words[8] = h.words[72] = 2;
+    expect(ysh_memory_pages(h.words, W, 1, &v) == 16 && v == MARK, "unknown before its record", v, 0, 0);
+    expect(ysh_table_cells(h.words, W, 1, &v) == 16 && v == MARK, "unknown before its record", v, 0, 0);
 }
 
 int main(void)

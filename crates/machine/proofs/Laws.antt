@@ -1,6 +1,6 @@
--- Laws of a test on an instance's number, and of the room that is left. Assumes nothing.
+-- Laws of a test on an instance's number, and of a value with two parts. Assumes nothing.
 use Prim.Native.Nat.{ℕ, _≤_, _<_}
-use mathlib.Core.Path.{_≡_, sym, _∙_}
+use mathlib.Core.Path.{_≡_, sym, ap, _∙_}
 use lib.Dec.{ltb}
 use borrow.Author.Tests.{lt-ltb, le-ltb}
 use Rattle.types.specs.Pick.{pick}
@@ -13,3 +13,7 @@ unknown y i n h e = e ∙ sym (pick-false _ _ _ (le-ltb i n h))
 -- a number in use
 pub known : {A : Type 0} {a y : A} (x : A) (i n : ℕ) → i < n → a ≡ y → a ≡ pick (ltb i n) y x
 known x i n h e = e ∙ sym (pick-true _ _ _ (lt-ltb i n h))
+
+-- two parts of a value that are others
+pub along : {A B C : Type 0} {a x : A} {b y : B} (f : A → B → C) → a ≡ x → b ≡ y → f a b ≡ f x y
+along {A = A} {B = B} {x = x} {b = b} f p q = ap (λ (z : A). f z b) p ∙ ap (f x) q

@@ -6,4 +6,10 @@ pub mod Rooms
 pub mod Touched
 pub mod Kept
 pub mod Apart
+pub mod Lengths
+pub mod Rows
+pub mod Places
+pub mod Back
+pub mod Formed
+pub mod Settling
 pub mod Unique

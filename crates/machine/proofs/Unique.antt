@@ -11,6 +11,21 @@ use Rattle.machine.proofs.memories.perform.Reads as memory-reads
 use Rattle.machine.proofs.memories.perform.Kinds as memory-kinds
 use Rattle.machine.proofs.tables.perform.Reads as table-reads
 use Rattle.machine.proofs.tables.perform.Kinds as table-kinds
+use Rattle.machine.proofs.row.operate.Reads as row-operate-reads
+use Rattle.machine.proofs.row.operate.Kinds as row-operate-kinds
+use Rattle.machine.proofs.row.proceed.Reads as proceed-reads
+use Rattle.machine.proofs.row.proceed.Kinds as proceed-kinds
+use Rattle.machine.proofs.row.fresh.Reads as fresh-reads
+use Rattle.machine.proofs.row.fresh.Kinds as fresh-kinds
+use Rattle.machine.proofs.row.is_ready.Reads as is-ready-reads
+use Rattle.machine.proofs.row.is_ready.Kinds as is-ready-kinds
+use Rattle.machine.proofs.row.fuel_of.Reads as fuel-of-reads
+use Rattle.machine.proofs.row.fuel_of.Kinds as fuel-of-kinds
+use Rattle.machine.proofs.row.memory_pages.Reads as memory-pages-reads
+use Rattle.machine.proofs.row.memory_pages.Kinds as memory-pages-kinds
+use Rattle.machine.proofs.row.table_cells.Reads as table-cells-reads
+use Rattle.machine.proofs.row.table_cells.Kinds as table-cells-kinds
+use Rattle.machine.specs.Row.{Rowed, InRow}
 use Rattle.types.specs.Done.{Done}
 use Rattle.memory.specs.declared.grow.GrownMemory.{GrownMemory}
 use Rattle.table.specs.declared.grow.GrownTable.{GrownTable}
@@ -81,3 +96,25 @@ memory-perform-one κs a x x′ s s′ z p q = (ap (λ (d : Done GrownMemory). d
 
 pub table-perform-one : OneWith 1 table-kinds.ps table-kinds.r table-reads.Pre table-reads.Post (List ℕ) (λ κs s. now (s .1 .0))
 table-perform-one κs a x x′ s s′ z p q = (ap (λ (d : Done GrownTable). d .out) (p ∙ sym q), ap (λ (d : Done GrownTable). d .cells) (p ∙ sym q))
+
+-- a machine in place: one answer, and one content of the row and of each of the three buffers
+pub row-operate-one : OneWith 4 row-operate-kinds.ps row-operate-kinds.r row-operate-reads.Pre row-operate-reads.Post (List ℕ × Buffers) (λ κs s. (now (s .0), buffers (now (s .1 .0)) (now (s .1 .1 .0)) (now (s .1 .1 .1 .0))))
+row-operate-one κs a x x′ s s′ z p q = (ap (λ (o : InRow). o .answer) (p ∙ sym q), ap (λ (o : InRow). (o .words, o .buffers)) (p ∙ sym q))
+
+pub row-proceed-one : OneWith 4 proceed-kinds.ps proceed-kinds.r proceed-reads.Pre proceed-reads.Post (List ℕ × Buffers) (λ κs s. (now (s .0), buffers (now (s .1 .0)) (now (s .1 .1 .0)) (now (s .1 .1 .1 .0))))
+row-proceed-one κs a x x′ s s′ z p q = (ap (λ (o : InRow). o .answer) (p .is ∙ sym (q .is)), ap (λ (o : InRow). (o .words, o .buffers)) (p .is ∙ sym (q .is)))
+
+pub row-fresh-one : OneWith 1 fresh-kinds.ps fresh-kinds.r fresh-reads.Pre fresh-reads.Post (List ℕ) (λ κs s. now (s .0))
+row-fresh-one κs a x x′ s s′ z p q = (ap (λ (o : Rowed). o .number) (p ∙ sym q), ap (λ (o : Rowed). o .words) (p ∙ sym q))
+
+pub row-is-ready-one : One 1 is-ready-kinds.ps is-ready-kinds.r is-ready-reads.Pre is-ready-reads.Post
+row-is-ready-one κs a x x′ s s′ z p q = p ∙ sym q
+
+pub row-fuel-of-one : One 1 fuel-of-kinds.ps fuel-of-kinds.r fuel-of-reads.Pre fuel-of-reads.Post
+row-fuel-of-one κs a x x′ s s′ z p q = p ∙ sym q
+
+pub row-memory-pages-one : One 1 memory-pages-kinds.ps memory-pages-kinds.r memory-pages-reads.Pre memory-pages-reads.Post
+row-memory-pages-one κs a x x′ s s′ z p q = p ∙ sym q
+
+pub row-table-cells-one : One 1 table-cells-kinds.ps table-cells-kinds.r table-cells-reads.Pre table-cells-reads.Post
+row-table-cells-one κs a x x′ s s′ z p q = p ∙ sym q

@@ -8,4 +8,7 @@ pub mod Tables
 pub mod Segments
 pub mod Step
 pub mod Frame
+pub mod Words
+pub mod Row
 pub mod Names
+pub mod stages

@@ -1,8 +1,9 @@
 // Operations on fuel and limiter: 01 to 04.
 use super::fields;
 use super::operation::FuelOp;
+use super::outcome;
 use super::outcome::Outcome;
-use super::records::Machine;
+use super::words;
 use types::answer::Answer;
 use types::answer::Value;
 use types::fuel::Fuel;
@@ -10,6 +11,9 @@ use types::fuel::FuelStep;
 use types::limiter::HandedOver;
 use types::limiter::Limiter;
 ghost use mathlib.Core.Path.{_≡_};
+ghost use Prim.Native.Nat.{_≤_};
+ghost use lib.ListN.{length};
+ghost use Rattle.machine.specs.Words.{rowLength, machineFrom};
 ghost use Rattle.machine.specs.Fueling.{fueled, setBy, chargedBy, handedBy, performFuel, fueledOut, onFuel};
 
 // An answer, fuel and limiter after it.
@@ -69,22 +73,22 @@ pub fn perform(fuel: Fuel, limiter: Limiter, op: FuelOp) -> Fueled
     }
 }
 
-impl Machine {
-    fn fueled(self, done: Fueled) -> Outcome
-        ensures { λ r. ⌜ r ≡ fueledOut self done ⌝ }
-    {
-        let answer = done.answer;
-        let fuel = done.fuel;
-        let limiter = done.limiter;
-        self.leaves(answer, fuel, limiter)
-    }
+fn fueled_out(words: &[u64], done: Fueled) -> Outcome
+    requires { ⌜ rowLength ≤ length (now words) ⌝ }
+    ensures { λ r. ⌜ r ≡ fueledOut (machineFrom (now (words .entry))) done ⌝ }
+{
+    let answer = done.answer;
+    let fuel = done.fuel;
+    let limiter = done.limiter;
+    outcome::leaves(words, answer, fuel, limiter)
+}
 
-    // 01 to 04.
-    pub(crate) fn on_fuel(self, op: FuelOp) -> Outcome
-        ensures { λ r. ⌜ r ≡ onFuel self op ⌝ }
-    {
-        let fuel = self.fuel;
-        let limiter = self.limiter;
-        self.fueled(perform(fuel, limiter, op))
-    }
+// 01 to 04.
+pub(crate) fn on_fuel(words: &[u64], op: FuelOp) -> Outcome
+    requires { ⌜ rowLength ≤ length (now words) ⌝ }
+    ensures { λ r. ⌜ r ≡ onFuel (machineFrom (now (words .entry))) op ⌝ }
+{
+    let fuel = words::fuel_from(words);
+    let limiter = words::limiter_from(words);
+    fueled_out(words, perform(fuel, limiter, op))
 }

@@ -1,9 +1,11 @@
 // Operations on memories: 10 to 14, and the link check 30.
 use super::operation::MemoryOp;
+use super::outcome;
 use super::outcome::Change;
 use super::outcome::Outcome;
 use super::records::Counts;
-use super::records::Machine;
+use super::row;
+use super::words;
 use memory::access::StoreKind;
 use memory::grow::GrownMemory;
 use memory::memory::Memory;
@@ -24,6 +26,7 @@ ghost use Rattle.types.specs.Answer.{accept};
 ghost use Rattle.memory.specs.Memory.{pagesOf, storeMemory};
 ghost use Rattle.memory.specs.New.{newMemory};
 ghost use Rattle.machine.specs.Machine.{nextByte};
+ghost use Rattle.machine.specs.Words.{rowLength, machineFrom};
 ghost use Rattle.machine.specs.Memories.{memoryKept, linked, linkTo, memoryStored, performMemory, memoryOut, memoryDone, onMemory, madeMemory, memoryMade, newMemoryOn};
 
 // An answer that leaves record, fuel and limiter.
@@ -121,88 +124,108 @@ pub fn perform(
     }
 }
 
-impl Machine {
-    // The record goes back to its place.
-    fn memory_out(self, i: usize, grown: GrownMemory) -> Outcome
-        ensures { λ r. ⌜ r ≡ memoryOut self i grown ⌝ }
-    {
-        let answer = grown.answer;
-        let memory = grown.memory;
-        let counts = self.counts;
-        let fuel = grown.fuel;
-        let limiter = grown.limiter;
-        Outcome {
-            answer,
-            change: Change::Memory(i, memory),
-            counts,
+// The record goes back to its place.
+fn memory_out(words: &[u64], i: usize, grown: GrownMemory) -> Outcome
+    requires { ⌜ rowLength ≤ length (now words) ⌝ }
+    ensures { λ r. ⌜ r ≡ memoryOut (machineFrom (now (words .entry))) i grown ⌝ }
+{
+    let answer = grown.answer;
+    let memory = grown.memory;
+    let counts = words::counts_from(words);
+    let fuel = grown.fuel;
+    let limiter = grown.limiter;
+    Outcome {
+        answer,
+        change: Change::Memory(i, memory),
+        counts,
+        fuel,
+        limiter,
+    }
+}
+
+fn one_memory(words: &[u64], i: usize, memory: Memory, bytes: &mut [u8], op: MemoryOp) -> Outcome
+    requires { ⌜ rowLength ≤ length (now words) ⌝ }
+    ensures { λ r. ⌜ done r (now (bytes .exit)) ≡ memoryDone (machineFrom (now (words .entry))) i (performMemory memory (now (bytes .entry)) ((machineFrom (now (words .entry))) .fuel) ((machineFrom (now (words .entry))) .limiter) op) ⌝ }
+{
+    let fuel = words::fuel_from(words);
+    let limiter = words::limiter_from(words);
+    let grown = perform(memory, bytes, fuel, limiter, op);
+    memory_out(words, i, grown)
+}
+
+// 11 to 14, 30: 16, then the memory's own operation.
+pub(crate) fn on_memory(words: &[u64], bytes: &mut [u8], number: u64, op: MemoryOp) -> Outcome
+    requires { ⌜ rowLength ≤ length (now words) ⌝ }
+    ensures { λ r. ⌜ done r (now (bytes .exit)) ≡ onMemory (machineFrom (now (words .entry))) (now (bytes .entry)) number op ⌝ }
+{
+    let counts = words::counts_from(words);
+    let i = number as usize;
+    if counts.memories <= i {
+        return outcome::refuses(words, 16);
+    }
+    let memory = row::memory_at(words, i);
+    one_memory(words, i, memory, bytes, op)
+}
+
+// A creation's outcome: the new number, or a refusal that takes neither number nor room.
+fn made_memory(words: &[u64], made: MadeMemory, limiter: Limiter) -> Outcome
+    requires { ⌜ (rowLength ≤ length (now words)) × ((machineFrom (now words)) .counts .memories < 8) ⌝ }
+    ensures { λ r. ⌜ r ≡ madeMemory (machineFrom (now (words .entry))) made limiter ⌝ }
+{
+    let counts = words::counts_from(words);
+    let fuel = words::fuel_from(words);
+    match made {
+        MadeMemory::Refused(refusal) => outcome::leaves(
+            words,
+            Answer::Refusal(refusal),
             fuel,
             limiter,
-        }
-    }
-
-    fn one_memory(self, i: usize, memory: Memory, bytes: &mut [u8], op: MemoryOp) -> Outcome
-        ensures { λ r. ⌜ done r (now (bytes .exit)) ≡ memoryDone self i (performMemory memory (now (bytes .entry)) (self .fuel) (self .limiter) op) ⌝ }
-    {
-        let fuel = self.fuel;
-        let limiter = self.limiter;
-        let grown = perform(memory, bytes, fuel, limiter, op);
-        self.memory_out(i, grown)
-    }
-
-    // 11 to 14, 30: 16, then the memory's own operation.
-    pub(crate) fn on_memory(self, bytes: &mut [u8], number: u64, op: MemoryOp) -> Outcome
-        ensures { λ r. ⌜ done r (now (bytes .exit)) ≡ onMemory self (now (bytes .entry)) number op ⌝ }
-    {
-        let i = number as usize;
-        if self.counts.memories <= i {
-            return self.refuses(16);
-        }
-        let memory = self.memory_at(i);
-        self.one_memory(i, memory, bytes, op)
-    }
-
-    // A creation's outcome: the new number, or a refusal that takes neither number nor room.
-    fn made_memory(self, made: MadeMemory, limiter: Limiter) -> Outcome
-        requires { ⌜ self .counts .memories < 8 ⌝ }
-        ensures { λ r. ⌜ r ≡ madeMemory self made limiter ⌝ }
-    {
-        let fuel = self.fuel;
-        match made {
-            MadeMemory::Refused(refusal) => self.leaves(Answer::Refusal(refusal), fuel, limiter),
-            MadeMemory::Made(memory) => Outcome {
-                answer: Answer::Value(Value::Number(self.counts.memories as u64)),
-                change: Change::Memory(self.counts.memories, memory),
-                counts: Counts {
-                    memories: self.counts.memories + 1,
-                    tables: self.counts.tables,
-                    segments: self.counts.segments,
-                },
-                fuel,
-                limiter,
+        ),
+        MadeMemory::Made(memory) => Outcome {
+            answer: Answer::Value(Value::Number(counts.memories as u64)),
+            change: Change::Memory(counts.memories, memory),
+            counts: Counts {
+                memories: counts.memories + 1,
+                tables: counts.tables,
+                segments: counts.segments,
             },
-        }
+            fuel,
+            limiter,
+        },
     }
+}
 
-    fn make_memory(self, bytes: &mut [u8], start: usize, room: u64, wanted: WantedMemory) -> Outcome
-        requires { ⌜ self .counts .memories < 8 ⌝ }
-        ensures { λ r. ⌜ done r (now (bytes .exit)) ≡ memoryMade self (newMemory wanted start room (now (bytes .entry)) (self .limiter)) ⌝ }
-    {
-        let limiter = self.limiter;
-        let created = memory::new::new_memory(wanted, start, room, bytes, limiter);
-        let made = created.made;
-        let left = created.limiter;
-        self.made_memory(made, left)
-    }
+fn make_memory(
+    words: &[u64],
+    bytes: &mut [u8],
+    start: usize,
+    room: u64,
+    wanted: WantedMemory,
+) -> Outcome
+    requires { ⌜ (rowLength ≤ length (now words)) × ((machineFrom (now words)) .counts .memories < 8) ⌝ }
+    ensures { λ r. ⌜ done r (now (bytes .exit)) ≡ memoryMade (machineFrom (now (words .entry))) (newMemory wanted start room (now (bytes .entry)) ((machineFrom (now (words .entry))) .limiter)) ⌝ }
+{
+    let limiter = words::limiter_from(words);
+    let created = memory::new::new_memory(wanted, start, room, bytes, limiter);
+    let made = created.made;
+    let left = created.limiter;
+    made_memory(words, made, left)
+}
 
-    // 10: 17, then a new memory in the next room.
-    pub(crate) fn new_memory(self, bytes: &mut [u8], room: u64, wanted: WantedMemory) -> Outcome
-        requires { ⌜ nextByte self ≤ length (now bytes) ⌝ }
-        ensures { λ r. ⌜ done r (now (bytes .exit)) ≡ newMemoryOn self (now (bytes .entry)) room wanted ⌝ }
-    {
-        let start = self.next_byte();
-        if super::records::finds_room(self.counts.memories, room, bytes.len() - start) {
-            return self.make_memory(bytes, start, room, wanted);
-        }
-        self.refuses(17)
+// 10: 17, then a new memory in the next room.
+pub(crate) fn new_memory(
+    words: &[u64],
+    bytes: &mut [u8],
+    room: u64,
+    wanted: WantedMemory,
+) -> Outcome
+    requires { ⌜ (rowLength ≤ length (now words)) × (nextByte (machineFrom (now words)) ≤ length (now bytes)) ⌝ }
+    ensures { λ r. ⌜ done r (now (bytes .exit)) ≡ newMemoryOn (machineFrom (now (words .entry))) (now (bytes .entry)) room wanted ⌝ }
+{
+    let counts = words::counts_from(words);
+    let start = row::next_byte(words);
+    if super::records::finds_room(counts.memories, room, bytes.len() - start) {
+        return make_memory(words, bytes, start, room, wanted);
     }
+    outcome::refuses(words, 17)
 }

@@ -12,10 +12,9 @@ use types::memory_ty::PageSize;
 use types::raw::RefType;
 use types::table_ty::TableType;
 ghost use mathlib.Core.Path.{_≡_};
-ghost use Prim.Native.Nat.{_<_, _^_};
 ghost use lib.Dec.{leb, ltb};
 ghost use Rattle.types.specs.Pick.{both};
-ghost use Rattle.machine.specs.Machine.{nextByte, nextCell, nextItem, noLimits, noMemory, noTable, noSegment, memoryAt, tableAt, segmentAt, freshMachine};
+ghost use Rattle.machine.specs.Machine.{noLimits, noMemory, noTable, noSegment, memoryAt, tableAt, segmentAt, freshMachine};
 
 // How many instances there are.
 pub struct Counts {
@@ -43,7 +42,7 @@ fn no_limits() -> Limits
     }
 }
 
-fn no_memory() -> Memory
+pub(crate) fn no_memory() -> Memory
     ensures { λ r. ⌜ r ≡ noMemory ⌝ }
 {
     let limits = no_limits();
@@ -59,7 +58,7 @@ fn no_memory() -> Memory
     }
 }
 
-fn no_table() -> Table
+pub(crate) fn no_table() -> Table
     ensures { λ r. ⌜ r ≡ noTable ⌝ }
 {
     let limits = no_limits();
@@ -75,7 +74,7 @@ fn no_table() -> Table
     }
 }
 
-fn no_segment() -> ElementSegment
+pub(crate) fn no_segment() -> ElementSegment
     ensures { λ r. ⌜ r ≡ noSegment ⌝ }
 {
     ElementSegment {
@@ -118,45 +117,6 @@ impl Machine {
             fuel,
             limiter,
         }
-    }
-
-    // Where the next memory's room starts.
-    pub(crate) fn next_byte(self) -> usize
-        requires { ⌜ nextByte self < 2 ^ 64 ⌝ }
-        ensures { λ r. ⌜ r ≡ nextByte self ⌝ }
-    {
-        let count = self.counts.memories;
-        if count == 0 {
-            return 0;
-        }
-        let last = self.memory_at(count - 1);
-        last.start + (last.room as usize)
-    }
-
-    // Where the next table's room starts.
-    pub(crate) fn next_cell(self) -> usize
-        requires { ⌜ nextCell self < 2 ^ 64 ⌝ }
-        ensures { λ r. ⌜ r ≡ nextCell self ⌝ }
-    {
-        let count = self.counts.tables;
-        if count == 0 {
-            return 0;
-        }
-        let last = self.table_at(count - 1);
-        last.start + (last.room as usize)
-    }
-
-    // Where the next segment's places start.
-    pub(crate) fn next_item(self) -> usize
-        requires { ⌜ nextItem self < 2 ^ 64 ⌝ }
-        ensures { λ r. ⌜ r ≡ nextItem self ⌝ }
-    {
-        let count = self.counts.segments;
-        if count == 0 {
-            return 0;
-        }
-        let last = self.segment_at(count - 1);
-        last.start + (last.places as usize)
     }
 
     // The record of a memory.

@@ -1,6 +1,11 @@
 // When a machine's records and buffers are sound: one test, at the entry.
 use super::records::Machine;
+use super::row;
+use super::words;
 ghost use mathlib.Core.Path.{_≡_};
+ghost use Prim.Native.Nat.{_≤_};
+ghost use lib.ListN.{length};
+ghost use Rattle.machine.specs.Words.{rowLength, machineFrom};
 ghost use Rattle.machine.specs.Sound.{soundMemories, soundTables, soundSegments, soundReferences, soundMachine};
 
 fn sound_references(cells: usize, items: usize) -> bool
@@ -13,17 +18,19 @@ fn sound_references(cells: usize, items: usize) -> bool
 }
 
 // Whether each memory in use is sound and starts where the one before it ends.
-fn sound_memories(machine: Machine, len: usize) -> bool
-    ensures { λ r. ⌜ r ≡ soundMemories machine len ⌝ }
+fn sound_memories(words: &[u64], len: usize) -> bool
+    requires { ⌜ rowLength ≤ length (now words) ⌝ }
+    ensures { λ r. ⌜ r ≡ soundMemories (machineFrom (now (words .entry))) len ⌝ }
 {
-    let count = machine.counts.memories;
+    let counts = words::counts_from(words);
+    let count = counts.memories;
     if 8 < count {
         return false;
     }
     let mut from = 0;
     let mut i = 0;
     while i < count {
-        let record = machine.memories[i];
+        let record = row::memory_at(words, i);
         if record.start != from {
             return false;
         }
@@ -37,17 +44,19 @@ fn sound_memories(machine: Machine, len: usize) -> bool
 }
 
 // Whether each table in use is sound and starts where the one before it ends.
-fn sound_tables(machine: Machine, len: usize) -> bool
-    ensures { λ r. ⌜ r ≡ soundTables machine len ⌝ }
+fn sound_tables(words: &[u64], len: usize) -> bool
+    requires { ⌜ rowLength ≤ length (now words) ⌝ }
+    ensures { λ r. ⌜ r ≡ soundTables (machineFrom (now (words .entry))) len ⌝ }
 {
-    let count = machine.counts.tables;
+    let counts = words::counts_from(words);
+    let count = counts.tables;
     if 8 < count {
         return false;
     }
     let mut from = 0;
     let mut i = 0;
     while i < count {
-        let record = machine.tables[i];
+        let record = row::table_at(words, i);
         if record.start != from {
             return false;
         }
@@ -61,17 +70,19 @@ fn sound_tables(machine: Machine, len: usize) -> bool
 }
 
 // Whether each segment in use is sound and starts where the one before it ends.
-fn sound_segments(machine: Machine, len: usize) -> bool
-    ensures { λ r. ⌜ r ≡ soundSegments machine len ⌝ }
+fn sound_segments(words: &[u64], len: usize) -> bool
+    requires { ⌜ rowLength ≤ length (now words) ⌝ }
+    ensures { λ r. ⌜ r ≡ soundSegments (machineFrom (now (words .entry))) len ⌝ }
 {
-    let count = machine.counts.segments;
+    let counts = words::counts_from(words);
+    let count = counts.segments;
     if 8 < count {
         return false;
     }
     let mut from = 0;
     let mut i = 0;
     while i < count {
-        let record = machine.segments[i];
+        let record = row::segment_at(words, i);
         if record.start != from {
             return false;
         }
@@ -84,20 +95,29 @@ fn sound_segments(machine: Machine, len: usize) -> bool
     true
 }
 
+// Whether all records of a row are sound over buffers of these lengths.
+pub(crate) fn is_sound(words: &[u64], bytes: usize, cells: usize, items: usize) -> bool
+    requires { ⌜ rowLength ≤ length (now words) ⌝ }
+    ensures { λ r. ⌜ r ≡ soundMachine (machineFrom (now (words .entry))) bytes cells items ⌝ }
+{
+    if !sound_references(cells, items) {
+        return false;
+    }
+    if !sound_memories(words, bytes) {
+        return false;
+    }
+    if !sound_tables(words, cells) {
+        return false;
+    }
+    sound_segments(words, items)
+}
+
 impl Machine {
     // Whether all records are sound over buffers of these lengths.
     pub fn is_sound(self, bytes: usize, cells: usize, items: usize) -> bool
         ensures { λ r. ⌜ r ≡ soundMachine self bytes cells items ⌝ }
     {
-        if !sound_references(cells, items) {
-            return false;
-        }
-        if !sound_memories(self, bytes) {
-            return false;
-        }
-        if !sound_tables(self, cells) {
-            return false;
-        }
-        sound_segments(self, items)
+        let row = words::row_of(self);
+        is_sound(&row, bytes, cells, items)
     }
 }

@@ -1,9 +1,11 @@
 // Operations on tables: 20 to 26.
 use super::operation::TableOp;
+use super::outcome;
 use super::outcome::Change;
 use super::outcome::Outcome;
 use super::records::Counts;
-use super::records::Machine;
+use super::row;
+use super::words;
 use table::grow::GrownTable;
 use table::new::MadeTable;
 use table::table::Table;
@@ -27,6 +29,7 @@ ghost use Rattle.table.specs.New.{newTable};
 ghost use Rattle.table.specs.Fill.{fillTable};
 ghost use Rattle.table.specs.Copy.{copyTable, copyWithin};
 ghost use Rattle.machine.specs.Machine.{nextCell};
+ghost use Rattle.machine.specs.Words.{rowLength, machineFrom};
 ghost use Rattle.machine.specs.Tables.{tableKept, tableStored, tableSpanned, performTable, tableOut, tableDone, onTable, spannedOut, spannedDone, copyKnown, copyOn, madeTable, tableMade, newTableOn};
 
 // An answer that leaves the record, with fuel and limiter after it.
@@ -98,161 +101,176 @@ pub fn perform(
     }
 }
 
-impl Machine {
-    // The record goes back to its place.
-    fn table_out(self, i: usize, grown: GrownTable) -> Outcome
-        ensures { λ r. ⌜ r ≡ tableOut self i grown ⌝ }
-    {
-        let answer = grown.answer;
-        let table = grown.table;
-        let counts = self.counts;
-        let fuel = grown.fuel;
-        let limiter = grown.limiter;
-        Outcome {
-            answer,
-            change: Change::Table(i, table),
-            counts,
+// The record goes back to its place.
+fn table_out(words: &[u64], i: usize, grown: GrownTable) -> Outcome
+    requires { ⌜ rowLength ≤ length (now words) ⌝ }
+    ensures { λ r. ⌜ r ≡ tableOut (machineFrom (now (words .entry))) i grown ⌝ }
+{
+    let answer = grown.answer;
+    let table = grown.table;
+    let counts = words::counts_from(words);
+    let fuel = grown.fuel;
+    let limiter = grown.limiter;
+    Outcome {
+        answer,
+        change: Change::Table(i, table),
+        counts,
+        fuel,
+        limiter,
+    }
+}
+
+fn one_table(words: &[u64], i: usize, table: Table, cells: &mut [u64], op: TableOp) -> Outcome
+    requires { ⌜ rowLength ≤ length (now words) ⌝ }
+    ensures { λ r. ⌜ done r (now (cells .exit)) ≡ tableDone (machineFrom (now (words .entry))) i (performTable rawBytes table (now (cells .entry)) ((machineFrom (now (words .entry))) .fuel) ((machineFrom (now (words .entry))) .limiter) op) ⌝ }
+{
+    let fuel = words::fuel_from(words);
+    let limiter = words::limiter_from(words);
+    let grown = perform(table, cells, fuel, limiter, op);
+    table_out(words, i, grown)
+}
+
+// 21 to 25: 16, then the table's own operation.
+pub(crate) fn on_table(words: &[u64], cells: &mut [u64], number: u64, op: TableOp) -> Outcome
+    requires { ⌜ rowLength ≤ length (now words) ⌝ }
+    ensures { λ r. ⌜ done r (now (cells .exit)) ≡ onTable rawBytes (machineFrom (now (words .entry))) (now (cells .entry)) number op ⌝ }
+{
+    let counts = words::counts_from(words);
+    let i = number as usize;
+    if counts.tables <= i {
+        return outcome::refuses(words, 16);
+    }
+    let table = row::table_at(words, i);
+    one_table(words, i, table, cells, op)
+}
+
+// A span operation's outcome: no record changes.
+pub(crate) fn spanned(words: &[u64], span: Spanned) -> Outcome
+    requires { ⌜ rowLength ≤ length (now words) ⌝ }
+    ensures { λ r. ⌜ r ≡ spannedOut (machineFrom (now (words .entry))) span ⌝ }
+{
+    let answer = span.answer;
+    let fuel = span.fuel;
+    let limiter = words::limiter_from(words);
+    outcome::leaves(words, answer, fuel, limiter)
+}
+
+// Between two tables.
+fn copy_two(words: &[u64], into: Table, source: Table, cells: &mut [u64], span: CopySpan) -> Outcome
+    requires { ⌜ rowLength ≤ length (now words) ⌝ }
+    ensures { λ r. ⌜ done r (now (cells .exit)) ≡ spannedDone (machineFrom (now (words .entry))) (copyTable rawBytes into source (now (cells .entry)) span ((machineFrom (now (words .entry))) .fuel)) ⌝ }
+{
+    let fuel = words::fuel_from(words);
+    let done = into.copy(source, cells, span, fuel);
+    spanned(words, done)
+}
+
+// Within one table.
+fn copy_one(words: &[u64], table: Table, cells: &mut [u64], span: CopySpan) -> Outcome
+    requires { ⌜ rowLength ≤ length (now words) ⌝ }
+    ensures { λ r. ⌜ done r (now (cells .exit)) ≡ spannedDone (machineFrom (now (words .entry))) (copyWithin rawBytes table (now (cells .entry)) span ((machineFrom (now (words .entry))) .fuel)) ⌝ }
+{
+    let fuel = words::fuel_from(words);
+    let done = table.copy_within(cells, span, fuel);
+    spanned(words, done)
+}
+
+// Of known tables: two, or one.
+fn copy_known(words: &[u64], cells: &mut [u64], into: u64, source: u64, span: CopySpan) -> Outcome
+    requires { ⌜ rowLength ≤ length (now words) ⌝ }
+    ensures { λ r. ⌜ done r (now (cells .exit)) ≡ copyKnown rawBytes (machineFrom (now (words .entry))) (now (cells .entry)) into source span ⌝ }
+{
+    let table = row::table_at(words, into as usize);
+    if into == source {
+        return copy_one(words, table, cells, span);
+    }
+    let other = row::table_at(words, source as usize);
+    copy_two(words, table, other, cells, span)
+}
+
+// 26: 16, then a copy.
+pub(crate) fn table_copy(
+    words: &[u64],
+    cells: &mut [u64],
+    into: u64,
+    source: u64,
+    span: CopySpan,
+) -> Outcome
+    requires { ⌜ rowLength ≤ length (now words) ⌝ }
+    ensures { λ r. ⌜ done r (now (cells .exit)) ≡ copyOn rawBytes (machineFrom (now (words .entry))) (now (cells .entry)) into source span ⌝ }
+{
+    let counts = words::counts_from(words);
+    let count = counts.tables as u64;
+    if count <= into {
+        return outcome::refuses(words, 16);
+    }
+    if count <= source {
+        return outcome::refuses(words, 16);
+    }
+    copy_known(words, cells, into, source, span)
+}
+
+// A creation's outcome: the new number, or a refusal that takes neither number nor room.
+fn made_table(words: &[u64], made: MadeTable, limiter: Limiter) -> Outcome
+    requires { ⌜ (rowLength ≤ length (now words)) × ((machineFrom (now words)) .counts .tables < 8) ⌝ }
+    ensures { λ r. ⌜ r ≡ madeTable (machineFrom (now (words .entry))) made limiter ⌝ }
+{
+    let counts = words::counts_from(words);
+    let fuel = words::fuel_from(words);
+    match made {
+        MadeTable::Refused(refusal) => outcome::leaves(
+            words,
+            Answer::Refusal(refusal),
             fuel,
             limiter,
-        }
-    }
-
-    fn one_table(self, i: usize, table: Table, cells: &mut [u64], op: TableOp) -> Outcome
-        ensures { λ r. ⌜ done r (now (cells .exit)) ≡ tableDone self i (performTable rawBytes table (now (cells .entry)) (self .fuel) (self .limiter) op) ⌝ }
-    {
-        let fuel = self.fuel;
-        let limiter = self.limiter;
-        let grown = perform(table, cells, fuel, limiter, op);
-        self.table_out(i, grown)
-    }
-
-    // 21 to 25: 16, then the table's own operation.
-    pub(crate) fn on_table(self, cells: &mut [u64], number: u64, op: TableOp) -> Outcome
-        ensures { λ r. ⌜ done r (now (cells .exit)) ≡ onTable rawBytes self (now (cells .entry)) number op ⌝ }
-    {
-        let i = number as usize;
-        if self.counts.tables <= i {
-            return self.refuses(16);
-        }
-        let table = self.table_at(i);
-        self.one_table(i, table, cells, op)
-    }
-
-    // A span operation's outcome: no record changes.
-    pub(crate) fn spanned(self, span: Spanned) -> Outcome
-        ensures { λ r. ⌜ r ≡ spannedOut self span ⌝ }
-    {
-        let answer = span.answer;
-        let fuel = span.fuel;
-        let limiter = self.limiter;
-        self.leaves(answer, fuel, limiter)
-    }
-
-    // Between two tables.
-    fn copy_two(self, into: Table, source: Table, cells: &mut [u64], span: CopySpan) -> Outcome
-        ensures { λ r. ⌜ done r (now (cells .exit)) ≡ spannedDone self (copyTable rawBytes into source (now (cells .entry)) span (self .fuel)) ⌝ }
-    {
-        let fuel = self.fuel;
-        let spanned = into.copy(source, cells, span, fuel);
-        self.spanned(spanned)
-    }
-
-    // Within one table.
-    fn copy_one(self, table: Table, cells: &mut [u64], span: CopySpan) -> Outcome
-        ensures { λ r. ⌜ done r (now (cells .exit)) ≡ spannedDone self (copyWithin rawBytes table (now (cells .entry)) span (self .fuel)) ⌝ }
-    {
-        let fuel = self.fuel;
-        let spanned = table.copy_within(cells, span, fuel);
-        self.spanned(spanned)
-    }
-
-    // Of known tables: two, or one.
-    fn copy_known(self, cells: &mut [u64], into: u64, source: u64, span: CopySpan) -> Outcome
-        ensures { λ r. ⌜ done r (now (cells .exit)) ≡ copyKnown rawBytes self (now (cells .entry)) into source span ⌝ }
-    {
-        let table = self.table_at(into as usize);
-        if into == source {
-            return self.copy_one(table, cells, span);
-        }
-        let other = self.table_at(source as usize);
-        self.copy_two(table, other, cells, span)
-    }
-
-    // 26: 16, then a copy.
-    pub(crate) fn table_copy(
-        self,
-        cells: &mut [u64],
-        into: u64,
-        source: u64,
-        span: CopySpan,
-    ) -> Outcome
-        ensures { λ r. ⌜ done r (now (cells .exit)) ≡ copyOn rawBytes self (now (cells .entry)) into source span ⌝ }
-    {
-        let count = self.counts.tables as u64;
-        if count <= into {
-            return self.refuses(16);
-        }
-        if count <= source {
-            return self.refuses(16);
-        }
-        self.copy_known(cells, into, source, span)
-    }
-
-    // A creation's outcome: the new number, or a refusal that takes neither number nor room.
-    fn made_table(self, made: MadeTable, limiter: Limiter) -> Outcome
-        requires { ⌜ self .counts .tables < 8 ⌝ }
-        ensures { λ r. ⌜ r ≡ madeTable self made limiter ⌝ }
-    {
-        let fuel = self.fuel;
-        match made {
-            MadeTable::Refused(refusal) => self.leaves(Answer::Refusal(refusal), fuel, limiter),
-            MadeTable::Made(table) => Outcome {
-                answer: Answer::Value(Value::Number(self.counts.tables as u64)),
-                change: Change::Table(self.counts.tables, table),
-                counts: Counts {
-                    memories: self.counts.memories,
-                    tables: self.counts.tables + 1,
-                    segments: self.counts.segments,
-                },
-                fuel,
-                limiter,
+        ),
+        MadeTable::Made(table) => Outcome {
+            answer: Answer::Value(Value::Number(counts.tables as u64)),
+            change: Change::Table(counts.tables, table),
+            counts: Counts {
+                memories: counts.memories,
+                tables: counts.tables + 1,
+                segments: counts.segments,
             },
-        }
+            fuel,
+            limiter,
+        },
     }
+}
 
-    fn make_table(
-        self,
-        cells: &mut [u64],
-        start: usize,
-        room: u64,
-        wanted: WantedTable,
-        initial: TypedRawRef,
-    ) -> Outcome
-        requires { ⌜ self .counts .tables < 8 ⌝ }
-        ensures { λ r. ⌜ done r (now (cells .exit)) ≡ tableMade self (newTable wanted initial start room (now (cells .entry)) (self .limiter)) ⌝ }
-    {
-        let limiter = self.limiter;
-        let created = table::new::new_table(wanted, initial, start, room, cells, limiter);
-        let made = created.made;
-        let left = created.limiter;
-        self.made_table(made, left)
-    }
+fn make_table(
+    words: &[u64],
+    cells: &mut [u64],
+    start: usize,
+    room: u64,
+    wanted: WantedTable,
+    initial: TypedRawRef,
+) -> Outcome
+    requires { ⌜ (rowLength ≤ length (now words)) × ((machineFrom (now words)) .counts .tables < 8) ⌝ }
+    ensures { λ r. ⌜ done r (now (cells .exit)) ≡ tableMade (machineFrom (now (words .entry))) (newTable wanted initial start room (now (cells .entry)) ((machineFrom (now (words .entry))) .limiter)) ⌝ }
+{
+    let limiter = words::limiter_from(words);
+    let created = table::new::new_table(wanted, initial, start, room, cells, limiter);
+    let made = created.made;
+    let left = created.limiter;
+    made_table(words, made, left)
+}
 
-    // 20: 17, then a new table in the next room.
-    pub(crate) fn new_table(
-        self,
-        cells: &mut [u64],
-        room: u64,
-        wanted: WantedTable,
-        initial: TypedRawRef,
-    ) -> Outcome
-        requires { ⌜ nextCell self ≤ length (now cells) ⌝ }
-        ensures { λ r. ⌜ done r (now (cells .exit)) ≡ newTableOn self (now (cells .entry)) room wanted initial ⌝ }
-    {
-        let start = self.next_cell();
-        if super::records::finds_room(self.counts.tables, room, cells.len() - start) {
-            return self.make_table(cells, start, room, wanted, initial);
-        }
-        self.refuses(17)
+// 20: 17, then a new table in the next room.
+pub(crate) fn new_table(
+    words: &[u64],
+    cells: &mut [u64],
+    room: u64,
+    wanted: WantedTable,
+    initial: TypedRawRef,
+) -> Outcome
+    requires { ⌜ (rowLength ≤ length (now words)) × (nextCell (machineFrom (now words)) ≤ length (now cells)) ⌝ }
+    ensures { λ r. ⌜ done r (now (cells .exit)) ≡ newTableOn (machineFrom (now (words .entry))) (now (cells .entry)) room wanted initial ⌝ }
+{
+    let counts = words::counts_from(words);
+    let start = row::next_cell(words);
+    if super::records::finds_room(counts.tables, room, cells.len() - start) {
+        return make_table(words, cells, start, room, wanted, initial);
     }
+    outcome::refuses(words, 17)
 }

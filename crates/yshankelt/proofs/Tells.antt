@@ -2,52 +2,71 @@
 use Prim.Native.Nat.{ℕ, _+_, _≤_, _<_}
 use mathlib.Core.Path.{_≡_, refl, sym, ap, _∙_}
 use mathlib.Core.Bool.{true, false}
-use mathlib.Core.List.{List}
+use mathlib.Core.List.{List, [], _∷_}
 use native.Mathlib.Omega.{arith}
-use lib.ListN.{length, replicate}
-use borrow.Author.Tests.{leb-true, le-leb}
-use Rattle.types.proofs.Picks.{pick-true, pick-false, both-left, both-1}
+use lib.ListN.{length, getD, replicate}
+use borrow.Author.Tests.{le-leb, eq-eqb, ne-eqb}
+use Rattle.types.proofs.Picks.{pick-true, pick-false, either}
+use Rattle.types.proofs.Spans.{length-over}
+use Rattle.types.specs.Pick.{pick}
 use Rattle.types.specs.Span.{over}
+use Rattle.types.specs.Answer.{refuse, numberOf, shownOf}
 use Rattle.types.specs.Raw.{rawBytes}
-use Rattle.machine.specs.Machine.{Buffers, buffers}
+use Rattle.types.specs.declared.answer.Answer.{Answer}
+use Rattle.types.specs.declared.fuel.Fuel.{Fuel}
+use Rattle.machine.specs.Machine.{Buffers}
+use Rattle.machine.specs.Operation.{wellFormed}
+use Rattle.machine.specs.Outcome.{settled, changed}
+use Rattle.machine.specs.Step.{decide, step}
+use Rattle.machine.specs.Words.{rowLength, machineFrom, inForm, wordsOf}
+use Rattle.machine.specs.Row.{InRow, operateRow, fuelOf}
+use Rattle.machine.specs.stages.Rows.{Shaped}
 use Rattle.machine.specs.declared.records.Machine.{Machine}
-use Rattle.machine.specs.declared.operate.Operated.{Operated}
+use Rattle.machine.proofs.Back.{words-length, row-back}
+use Rattle.machine.proofs.Formed.{form-holds}
 use Rattle.lines.specs.Code.{operationOf, readLine}
-use Rattle.lines.specs.Session.{Held, heldOn, turned, turnBy, turnOf}
+use Rattle.lines.specs.Session.{Held, Turn, turnBy, turnOf}
+use Rattle.lines.specs.AnswerLine.{fuelShown}
 use Rattle.lines.specs.Line.{filled, lineOf, lineText}
 use Rattle.lines.specs.Sayable.{Small}
 use Rattle.lines.proofs.FieldText.{line-write}
 use Rattle.lines.specs.declared.line.Line.{Line}
 use Rattle.lines.specs.declared.code.Read.{Read}
-use Rattle.yshankelt.specs.Words.{rowLength, machineFrom, inForm}
-use Rattle.yshankelt.specs.Whole.{Call, call, toldOf, goodLine, lineFrom, operateOf, Told}
+use Rattle.lines.specs.declared.code.Read.the-variants as read
+use Rattle.yshankelt.specs.Whole.{Call, call, goodLine, lineFrom, answered, told, operateOf}
 
--- a row in form is long enough
-pub in-length : (l : List ℕ) → inForm l ≡ true → rowLength ≤ length l
-unfolding inForm
-in-length l e = leb-true _ _ (both-1 _ _ e)
+-- at most 8 fields, place by place
+pub eight-fields : (l : List ℕ) → length l ≤ 8
+    → getD l 0 0 ∷ getD l 1 0 ∷ getD l 2 0 ∷ getD l 3 0 ∷ getD l 4 0 ∷ getD l 5 0 ∷ getD l 6 0 ∷ getD l 7 0 ∷ [] ≡ over (replicate 8 0) 0 l
+unfolding over
+eight-fields [] h = refl
+eight-fields (a ∷ []) h = refl
+eight-fields (a ∷ b ∷ []) h = refl
+eight-fields (a ∷ b ∷ d ∷ []) h = refl
+eight-fields (a ∷ b ∷ d ∷ e ∷ []) h = refl
+eight-fields (a ∷ b ∷ d ∷ e ∷ f ∷ []) h = refl
+eight-fields (a ∷ b ∷ d ∷ e ∷ f ∷ g ∷ []) h = refl
+eight-fields (a ∷ b ∷ d ∷ e ∷ f ∷ g ∷ i ∷ []) h = refl
+eight-fields (a ∷ b ∷ d ∷ e ∷ f ∷ g ∷ i ∷ j ∷ []) h = refl
+eight-fields (a ∷ b ∷ d ∷ e ∷ f ∷ g ∷ i ∷ j ∷ k ∷ l) h = absurd (omega (arith, h))
 
--- the three columns, and the machine's words
-said : {x : Operated} {l after : List ℕ} {n v f : ℕ} (b : Buffers) → Told x l n v f after → call n v f after b ≡ toldOf l (turned (x .answer) (x .machine) b)
-unfolding toldOf
-said {l = l} {after = after} {n = n} {v = v} {f = f} b t = rw (t .result, t .shown, t .left, t .row) refl
+-- what is told of an answer, whatever the buffers: 19 alone, or each column from what it is known to be
+module _ (a : Answer) {n : ℕ} (l : List ℕ) (value fuel : ℕ) (e : n ≡ numberOf a) where
+  pub told-nothing : n ≡ 19 → (b : Buffers) → call 19 value fuel l b ≡ told value fuel (record { answer = a; words = l; buffers = b })
+  unfolding told
+  told-nothing h b = sym (pick-true _ _ _ (eq-eqb _ _ (sym e ∙ h)))
 
--- what is told, from what each part is known to be
-pub told-from : {x : Operated} {l after : List ℕ} {n v f : ℕ} {m : Machine} {p q : Read} (b c : Buffers) → Told x l n v f after
-    → turned (x .answer) (x .machine) c ≡ turnBy rawBytes (record { machine = m; first = false; buffers = b }) p → p ≡ q → m ≡ machineFrom l
-    → call n v f after c ≡ toldOf l (turnBy rawBytes (record { machine = machineFrom l; first = false; buffers = b }) q)
-told-from {l = l} {m = m} {q = q} b c t e f g =
-    let at : Machine → Held = λ k. record { machine = k; first = false; buffers = b } in
-    said c t ∙ ap (toldOf l) (e ∙ ap (turnBy rawBytes (at m)) f ∙ ap (λ (k : Machine). turnBy rawBytes (at k) q) g)
+  pub told-columns : {v f : ℕ} {g : Fuel} → (n ≡ 19 → ⊥) → v ≡ shownOf a → f ≡ fuelShown g → g ≡ fuelOf l
+      → (b : Buffers) → call n v f l b ≡ told value fuel (record { answer = a; words = l; buffers = b })
+  unfolding told
+  told-columns h p q r b = rw (e, p, q, r) (sym (pick-false _ _ _ (ne-eqb _ _ (λ z. h (e ∙ z)))))
 
--- an operation on a row in form
-pub operate-in : {x : Call} {w v : Line} (l : List ℕ) (b : Buffers) (value fuel : ℕ)
-    → x ≡ toldOf l (turnBy rawBytes (record { machine = machineFrom l; first = false; buffers = b }) (operationOf w)) → w ≡ v → inForm l ≡ true
-    → x ≡ operateOf l b v value fuel
+-- an operation, from what each part is known to be
+pub told-from : {x : Call} {y : InRow} {r : Read} {w v : Line} (l : List ℕ) (b : Buffers) (value fuel : ℕ)
+    → x ≡ told value fuel y → y ≡ answered r l b → r ≡ operationOf w → w ≡ v → x ≡ operateOf l b v value fuel
 unfolding operateOf
-operate-in l b value fuel e f g =
-    e ∙ ap (λ (w : Line). toldOf l (turnBy rawBytes (record { machine = machineFrom l; first = false; buffers = b }) (operationOf w))) f
-    ∙ sym (pick-true _ _ _ g)
+told-from l b value fuel e f g h =
+    e ∙ ap (told value fuel) (f ∙ ap (λ (z : Read). answered z l b) g ∙ ap (λ (z : Line). answered (operationOf z) l b) h)
 
 -- the code and fields stand for the line of text that one would write
 pub line-said : (code : ℕ) (fields : List ℕ) → code < 256 → length fields ≤ 8 → Small fields → lineOf (lineText code fields) ≡ lineFrom code fields
@@ -60,3 +79,32 @@ pub as-line : (h : Held) (code : ℕ) (fields : List ℕ) → code < 256 → len
     → turnOf rawBytes h (lineText code fields) ≡ turnBy rawBytes h (operationOf (lineFrom code fields))
 unfolding turnOf readLine
 as-line h code fields a b s = ap (λ (w : Line). turnBy rawBytes h (operationOf w)) (line-said code fields a b s)
+
+-- a session's turn in a row: the words of the machine after it
+abbrev pub turnIn : List ℕ → Turn → InRow
+turnIn l t = record { answer = t .answer; words = over l 0 (wordsOf (t .held .machine)); buffers = t .held .buffers }
+
+-- a row in form answers as a session does that holds its machine, past the first line
+turn-in : (l : List ℕ) (b : Buffers) (s : Read) → inForm l ≡ true
+    → answered s l b ≡ turnIn l (turnBy rawBytes (record { machine = machineFrom l; first = false; buffers = b }) s)
+unfolding answered turnBy operateRow step decide settled changed pick
+turn-in l b (read.Operation op) e =
+    either (wellFormed op)
+    (λ w. pick-true _ _ _ w ∙ pick-true _ _ _ e)
+    (λ w. pick-false _ _ _ w ∙ ap (λ (z : List ℕ). record { answer = refuse 18 0; words = z; buffers = b }) (form-holds l e) ∙ rw w refl)
+turn-in l b (read.Making metering copied) e = ap (λ (z : List ℕ). record { answer = refuse 18 0; words = z; buffers = b }) (form-holds l e)
+turn-in l b read.Malformed e = ap (λ (z : List ℕ). record { answer = refuse 18 0; words = z; buffers = b }) (form-holds l e)
+
+pub as-session : (l : List ℕ) (b : Buffers) (w : Line) (value fuel : ℕ) → inForm l ≡ true
+    → operateOf l b w value fuel ≡ told value fuel (turnIn l (turnBy rawBytes (record { machine = machineFrom l; first = false; buffers = b }) (operationOf w)))
+unfolding operateOf
+as-session l b w value fuel e = ap (told value fuel) (turn-in l b (operationOf w) e)
+
+-- and its fuel column is that machine's, of whatever shape a program holds a machine in
+pub fuel-said : (l : List ℕ) (m : Machine) → rowLength ≤ length l → Shaped m → fuelOf (over l 0 (wordsOf m)) ≡ m .fuel
+unfolding fuelOf
+fuel-said l m n h =
+    let w = words-length m h in
+    let k = length-over l 0 (wordsOf m) (omega (arith, w, n)) in
+    let g : rowLength ≤ length (over l 0 (wordsOf m)) = omega (arith, k, n) in
+    pick-true _ _ _ (le-leb _ _ g) ∙ ap (λ (x : Machine). x .fuel) (row-back m l h)

@@ -5,7 +5,8 @@ use Prim.Native.Nat.{ℕ}
 use denote.Ref.{now}
 use Rattle.types.proofs.One.{One, OneWith}
 use Rattle.machine.specs.Machine.{Buffers, buffers}
-use Rattle.yshankelt.specs.Whole.{Rowed, Call}
+use Rattle.machine.specs.Row.{Rowed}
+use Rattle.yshankelt.specs.Whole.{Call}
 use Rattle.yshankelt.proofs.ysh_load_i32.Reads as ysh-load-i32-reads
 use Rattle.yshankelt.proofs.ysh_load_i32.Kinds as ysh-load-i32-kinds
 use Rattle.yshankelt.proofs.ysh_load_i64.Reads as ysh-load-i64-reads

@@ -1,6 +1,5 @@
 // What C calls: the typed loads and stores on a memory's bytes, and the price; `whole` has machines. The result is document 01's number.
 pub mod whole;
-mod words;
 
 use memory::access;
 use memory::access::LoadKind;
@@ -13,7 +12,7 @@ ghost use Rattle.types.specs.Price.{price};
 ghost use Rattle.memory.specs.Access.{load, store};
 ghost use Rattle.memory.specs.declared.access.LoadKind.{LoadKind};
 ghost use Rattle.memory.specs.declared.access.StoreKind.{StoreKind};
-ghost use Rattle.yshankelt.specs.Face.{Given, Taken, delivered};
+ghost use Rattle.yshankelt.specs.Face.{Given, Taken};
 
 // The value goes to `out`; a refusal leaves `out` alone.
 fn deliver(answer: Answer, out: &mut u64) -> u8

@@ -1,69 +1,63 @@
 // A whole machine in a row of words that the host owns: made, operated, and asked for its sizes.
 use super::deliver;
-use super::words;
 use lines::code;
 use lines::code::Read;
 use lines::line;
 use lines::line::Line;
-use machine::operate::Operated;
-use machine::records::Machine;
+use machine::row;
+use machine::words::ROW;
 use types::answer::Answer;
 use types::answer::Refusal;
-use types::answer::Value;
 use types::fuel::Fuel;
 use types::fuel::FuelCosts;
 ghost use mathlib.Core.Path.{_≡_};
-ghost use mathlib.Core.Bool.{false};
 ghost use Prim.Native.Nat.{_≤_};
-ghost use lib.ListN.{length, replicate};
+ghost use lib.ListN.{length, getD, replicate};
 ghost use Rattle.types.specs.Answer.{refuse};
 ghost use Rattle.types.specs.Span.{over};
-ghost use Rattle.types.specs.Raw.{rawBytes};
-ghost use Rattle.machine.specs.Machine.{buffers, freshMachine};
-ghost use Rattle.lines.specs.Session.{costsOf, heldOn, turned, turnBy};
+ghost use Rattle.machine.specs.Machine.{Buffers, buffers};
+ghost use Rattle.machine.specs.Words.{rowLength};
+ghost use Rattle.machine.specs.Row.{rowed, freshRow, inRow, rowPages, rowCells};
+ghost use Rattle.lines.specs.Session.{costsOf};
 ghost use Rattle.lines.specs.AnswerLine.{fuelShown};
-ghost use Rattle.lines.specs.Code.{operationOf};
 ghost use Rattle.yshankelt.specs.Face.{Given};
-ghost use Rattle.yshankelt.specs.Words.{rowLength, machineFrom};
-ghost use Rattle.yshankelt.specs.Whole.{rowed, freshRow, lineFrom, call, toldOf, operateOf, Told, pagesIn, cellsIn, rowPages, rowCells};
-
-fn refused(number: u8) -> Answer
-    ensures { λ r. ⌜ r ≡ refuse number 0 ⌝ }
-{
-    Answer::Refusal(Refusal { number, amount: 0 })
-}
+ghost use Rattle.yshankelt.specs.Whole.{lineFrom, answered, call, told, operateOf};
 
 // How many words a machine takes.
 #[no_mangle]
 pub extern "C" fn ysh_machine_words() -> usize
     ensures { λ r. ⌜ r ≡ rowLength ⌝ }
 {
-    186
+    ROW
 }
 
-// The machine that a session's first line makes.
-fn fresh(metering: bool, copied: u32) -> Machine
-    ensures { λ r. ⌜ r ≡ freshMachine metering (costsOf copied) ⌝ }
+// The costs of the machine that a session's first line makes.
+fn costs(copied: u32) -> FuelCosts
+    ensures { λ r. ⌜ r ≡ costsOf copied ⌝ }
 {
-    Machine::new(
-        metering,
-        FuelCosts {
-            copied,
-            translated: 7,
-            validated: 2,
-        },
-    )
+    FuelCosts {
+        copied,
+        translated: 7,
+        validated: 2,
+    }
 }
 
 // A fresh machine: 0 and its words, or 19 where there are fewer than that.
 #[no_mangle]
 pub extern "C" fn ysh_machine_new(words: &mut [u64], metering: bool, copied: u32) -> u8
-    ensures { λ r. ⌜ rowed r (now (words .exit)) ≡ freshRow (now (words .entry)) metering copied ⌝ }
+    ensures { λ r. ⌜ rowed r (now (words .exit)) ≡ freshRow (now (words .entry)) metering (costsOf copied) ⌝ }
 {
-    if words.len() < 186 {
-        return 19;
+    let costs = costs(copied);
+    row::fresh(words, metering, costs)
+}
+
+// A field, 0 past the last.
+fn field(fields: &[u64], i: usize) -> u64
+    ensures { λ r. ⌜ r ≡ getD (now (fields .entry)) i 0 ⌝ }
+{
+    if i < fields.len() {
+        return fields[i];
     }
-    words::put_machine(words, fresh(metering, copied));
     0
 }
 
@@ -72,9 +66,16 @@ fn padded(fields: &[u64]) -> [u64; 8]
     requires { ⌜ length (now fields) ≤ 8 ⌝ }
     ensures { λ r. ⌜ r ≡ over (replicate 8 0) 0 (now (fields .entry)) ⌝ }
 {
-    let mut list = [0u64; 8];
-    words::put(&mut list, 0, fields);
-    list
+    [
+        field(fields, 0),
+        field(fields, 1),
+        field(fields, 2),
+        field(fields, 3),
+        field(fields, 4),
+        field(fields, 5),
+        field(fields, 6),
+        field(fields, 7),
+    ]
 }
 
 fn line_from(code: u8, fields: &[u64]) -> Line
@@ -93,33 +94,30 @@ fn line_from(code: u8, fields: &[u64]) -> Line
     }
 }
 
+fn malformed() -> Answer
+    ensures { λ r. ⌜ r ≡ refuse 18 0 ⌝ }
+{
+    Answer::Refusal(Refusal {
+        number: 18,
+        amount: 0,
+    })
+}
+
 // One operation, or 18: making a machine is no operation.
-fn turn(
-    machine: Machine,
+fn answered(
+    words: &mut [u64],
     bytes: &mut [u8],
     cells: &mut [u64],
     items: &mut [u64],
     said: Read,
-) -> Operated
-    ensures { λ r. ⌜ turned (r .answer) (r .machine) (buffers (now (bytes .exit)) (now (cells .exit)) (now (items .exit)))
-        ≡ turnBy rawBytes (heldOn machine false (now (bytes .entry)) (now (cells .entry)) (now (items .entry))) said ⌝ }
+) -> Answer
+    ensures { λ r. ⌜ inRow r (now (words .exit)) (now (bytes .exit)) (now (cells .exit)) (now (items .exit))
+        ≡ answered said (now (words .entry)) (buffers (now (bytes .entry)) (now (cells .entry)) (now (items .entry))) ⌝ }
 {
     match said {
-        Read::Operation(op) => machine.operate(bytes, cells, items, op),
-        Read::Making { .. } => Operated {
-            answer: Answer::Refusal(Refusal {
-                number: 18,
-                amount: 0,
-            }),
-            machine,
-        },
-        Read::Malformed => Operated {
-            answer: Answer::Refusal(Refusal {
-                number: 18,
-                amount: 0,
-            }),
-            machine,
-        },
+        Read::Operation(op) => row::operate(words, bytes, cells, items, op),
+        Read::Making { .. } => malformed(),
+        Read::Malformed => malformed(),
     }
 }
 
@@ -133,41 +131,21 @@ fn fuel_left(fuel: Fuel) -> u64
     0
 }
 
-// The three columns of the answer, and the machine's words.
-fn tell(words: &mut [u64], done: Operated, value: &mut u64, fuel: &mut u64) -> u8
-    requires { ⌜ rowLength ≤ length (now words) ⌝ }
-    ensures { λ r. ⌜ Told done (now (words .entry)) r (now (value .exit)) (now (fuel .exit)) (now (words .exit)) ⌝ }
+// The columns of the answer; 19 tells nothing else.
+fn tell(words: &[u64], answer: Answer, value: &mut u64, fuel: &mut u64) -> u8
+    ensures { λ r. ⌜ ((b : Buffers) → call r (now (value .exit)) (now (fuel .exit)) (now (words .entry)) b
+        ≡ told (now (value .entry)) (now (fuel .entry)) (record { answer = answer; words = now (words .entry); buffers = b })) ⌝ }
 {
-    let machine = done.machine;
-    let answer = done.answer;
-    words::put_machine(words, machine);
+    let number = answer.number();
+    if number == 19 {
+        return 19;
+    }
     *value = answer.shown();
-    *fuel = fuel_left(machine.fuel);
-    answer.number()
+    *fuel = fuel_left(row::fuel_of(words));
+    number
 }
 
-// The operation of a line's numbers on the machine of a row.
-fn operate_on(
-    words: &mut [u64],
-    bytes: &mut [u8],
-    cells: &mut [u64],
-    items: &mut [u64],
-    line: Line,
-    value: &mut u64,
-    fuel: &mut u64,
-) -> u8
-    requires { ⌜ rowLength ≤ length (now words) ⌝ }
-    ensures { λ r. ⌜ call r (now (value .exit)) (now (fuel .exit)) (now (words .exit)) (buffers (now (bytes .exit)) (now (cells .exit)) (now (items .exit)))
-        ≡ toldOf (now (words .entry))
-        (turnBy rawBytes (heldOn (machineFrom (now (words .entry))) false (now (bytes .entry)) (now (cells .entry)) (now (items .entry))) (operationOf line)) ⌝ }
-{
-    let machine = words::machine_from(words);
-    let said = code::operation_of(line);
-    let done = turn(machine, bytes, cells, items, said);
-    tell(words, done, value, fuel)
-}
-
-// One operation on the machine of a row, as a session answers a line that is not its first; 19 for a row that is not in form, which changes nothing.
+// One operation on the machine of a row. 18 for what is no operation, then 19 for a row or buffers that do not hold a machine, which changes nothing.
 #[no_mangle]
 pub extern "C" fn ysh_operate(
     words: &mut [u64],
@@ -183,66 +161,18 @@ pub extern "C" fn ysh_operate(
         ≡ operateOf (now (words .entry)) (buffers (now (bytes .entry)) (now (cells .entry)) (now (items .entry)))
         (lineFrom code (now (fields .entry))) (now (value .entry)) (now (fuel .entry)) ⌝ }
 {
-    if !words::in_form(words) {
-        return 19;
-    }
     let line = line_from(code, fields);
-    operate_on(words, bytes, cells, items, line, value, fuel)
+    let said = code::operation_of(line);
+    let answer = answered(words, bytes, cells, items, said);
+    tell(words, answer, value, fuel)
 }
 
-// A record's size, of a number that is in use and has a place.
-fn pages_in(machine: Machine, memory: u64) -> Answer
-    ensures { λ r. ⌜ r ≡ pagesIn machine memory ⌝ }
-{
-    if (machine.counts.memories as u64) <= memory {
-        return refused(16);
-    }
-    if 8 <= memory {
-        return refused(16);
-    }
-    let record = machine.memories[memory as usize];
-    Answer::Value(Value::Number(record.pages()))
-}
-
-fn cells_in(machine: Machine, table: u64) -> Answer
-    ensures { λ r. ⌜ r ≡ cellsIn machine table ⌝ }
-{
-    if (machine.counts.tables as u64) <= table {
-        return refused(16);
-    }
-    if 8 <= table {
-        return refused(16);
-    }
-    let record = machine.tables[table as usize];
-    Answer::Value(Value::Number(record.size))
-}
-
-fn row_pages(words: &[u64], memory: u64) -> Answer
-    ensures { λ r. ⌜ r ≡ rowPages (now (words .entry)) memory ⌝ }
-{
-    if !words::in_form(words) {
-        return refused(19);
-    }
-    let machine = words::machine_from(words);
-    pages_in(machine, memory)
-}
-
-fn row_cells(words: &[u64], table: u64) -> Answer
-    ensures { λ r. ⌜ r ≡ rowCells (now (words .entry)) table ⌝ }
-{
-    if !words::in_form(words) {
-        return refused(19);
-    }
-    let machine = words::machine_from(words);
-    cells_in(machine, table)
-}
-
-// A memory's size in pages; 16 for an unknown number, 19 for a row that is not in form. The buffers are not needed.
+// A memory's size in pages: of the row, one record alone is read. 16 for an unknown number; 19 for a short row or that record out of form.
 #[no_mangle]
 pub extern "C" fn ysh_memory_pages(words: &[u64], memory: u64, value: &mut u64) -> u8
     ensures { λ r. ⌜ Given (rowPages (now (words .entry)) memory) (now (value .entry)) r (now (value .exit)) ⌝ }
 {
-    let answer = row_pages(words, memory);
+    let answer = row::memory_pages(words, memory);
     deliver(answer, value)
 }
 
@@ -251,6 +181,6 @@ pub extern "C" fn ysh_memory_pages(words: &[u64], memory: u64, value: &mut u64) 
 pub extern "C" fn ysh_table_cells(words: &[u64], table: u64, value: &mut u64) -> u8
     ensures { λ r. ⌜ Given (rowCells (now (words .entry)) table) (now (value .entry)) r (now (value .exit)) ⌝ }
 {
-    let answer = row_cells(words, table);
+    let answer = row::table_cells(words, table);
     deliver(answer, value)
 }

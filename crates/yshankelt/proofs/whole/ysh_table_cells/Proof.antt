@@ -3,8 +3,8 @@ use borrow.Author.Needs.{needs}
 use Rattle.yshankelt.proofs.whole.ysh_table_cells.Statement.{statement}
 use Rattle.yshankelt.proofs.whole.ysh_table_cells.Tie as tie
 
-row-cells-requires : tie.Need-row-cells-requires
-row-cells-requires c κs = search needs
+table-cells-requires : tie.Need-table-cells-requires
+table-cells-requires c κs = search needs
 
 deliver-requires : tie.Need-deliver-requires
 deliver-requires c κs = search needs
@@ -13,4 +13,4 @@ returns : tie.Need-returns
 returns c = record { number = cc; out = cc }
 
 pub ysh-table-cells-spec : {M : Type 1} → statement M
-ysh-table-cells-spec = tie.close (tie.spec row-cells-requires deliver-requires returns)
+ysh-table-cells-spec = tie.close (tie.spec table-cells-requires deliver-requires returns)

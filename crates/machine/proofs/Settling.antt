@@ -1,0 +1,303 @@
+-- What an operation writes to a row that holds its machine's words are the words of the machine after it, and the row then says that machine. Assumes nothing.
+use Prim.Native.Nat.{ℕ, _+_, _*_, _≤_, _<_}
+use mathlib.Core.Path.{_≡_, refl, sym, ap, subst, _∙_}
+use mathlib.Core.Bool.{Bool, true, false, false≢true}
+use mathlib.Core.List.{List, _++_}
+use native.Mathlib.Omega.{arith}
+use lib.Dec.{ltb}
+use lib.ListN.{length, set, length-set}
+use borrow.Author.Tests.{ltb-true, leb-true, le-leb, lt-leb}
+use Rattle.types.specs.Pick.{pick}
+use Rattle.types.specs.Span.{over}
+use Rattle.types.specs.Raw.{rawBytes}
+use Rattle.types.specs.declared.fuel.Fuel.{Fuel}
+use Rattle.types.specs.declared.limiter.Limiter.{Limiter}
+use Rattle.types.specs.Answer.{refuse}
+use Rattle.types.proofs.Picks.{pick-true, pick-false, both-true, both-left, both-right, both-1, both-2, either}
+use Rattle.memory.specs.declared.memory.Memory.{Memory}
+use Rattle.table.specs.declared.table.Table.{Table}
+use Rattle.table.specs.declared.element.ElementSegment.{ElementSegment}
+use Rattle.machine.specs.Machine.{Buffers, noMemory, noTable, noSegment}
+use Rattle.machine.specs.Sound.{soundOver}
+use Rattle.machine.specs.Operation.{wellFormed}
+use Rattle.machine.specs.Outcome.{keeps, withMemories, withTables, withSegments, changed, settled}
+use Rattle.machine.specs.Step.{Stepped, onNone, after, perform, decide, step}
+use Rattle.machine.specs.Words.{recordLength, segmentLength, tablesAt, segmentsAt, countsAt, rowLength}
+use Rattle.machine.specs.Words.{memoryWords, tableWords, segmentWords, countWords, fuelWords, placeWords, rowsOf, instanceWords, limiterWords, stateWords, wordsOf, machineFrom, inForm}
+use Rattle.machine.specs.Row.{InRow, rowKeeps, rowAfter, operateRow}
+use Rattle.machine.specs.stages.Rows.{Inside, endsInside, Fits, Shaped, changedRow, settledRow, rowSettled, Goes, Holds, proceedRow, Steps, Proceeds}
+use Rattle.machine.specs.declared.records.Machine.{Machine}
+use Rattle.machine.specs.declared.records.Counts.{Counts}
+use Rattle.machine.specs.declared.outcome.Outcome.{Outcome}
+use Rattle.machine.specs.declared.outcome.Change.{Change}
+use Rattle.machine.specs.declared.outcome.Change.the-variants as change
+use Rattle.machine.specs.declared.operation.Operation.{Operation}
+use Rattle.machine.proofs.Lengths.{length-memory, length-table, length-segment, length-count, length-fuel, length-place}
+use Rattle.machine.proofs.Rows.{rows-length, length-both, over-all}
+use Rattle.machine.proofs.Places.{over-left, over-right, over-in, rows-set}
+use Rattle.machine.proofs.Back.{row-back, shaped-from}
+use Rattle.machine.proofs.Formed.{form-holds}
+use Rattle.machine.proofs.Rooms.{next-byte-inside, next-cell-inside, next-item-inside}
+
+-- how long the parts are
+state-long : (k : Counts) (f : Fuel) (p : Limiter) → length (p .script) ≡ 16 → length (stateWords k f p) ≡ 26
+state-long k f p e =
+    length-both (countWords k ++ fuelWords f) (limiterWords p) 8 18 26 (length-both (countWords k) (fuelWords f) 3 5 8 (length-count k) (length-fuel f) refl)
+    (length-both (placeWords p) (p .script) 2 16 18 (length-place p) e refl) refl
+
+-- a machine whose lists have 8 places
+record Eights (m : Machine) : Type 0 where
+  memories : length (m .memories) ≡ 8
+  tables : length (m .tables) ≡ 8
+  segments : length (m .segments) ≡ 8
+
+eights : (m : Machine) → Shaped m → Eights m
+eights m h = record { memories = h .memories; tables = h .tables; segments = h .segments }
+
+module _ (m : Machine) (h : Eights m) where
+  mems-long : length (rowsOf memoryWords (m .memories)) ≡ 64
+  mems-long = rows-length memoryWords noMemory 8 length-memory (m .memories) ∙ omega (arith, h .memories)
+
+  tabs-long : length (rowsOf tableWords (m .tables)) ≡ 64
+  tabs-long = rows-length tableWords noTable 8 length-table (m .tables) ∙ omega (arith, h .tables)
+
+  segs-long : length (rowsOf segmentWords (m .segments)) ≡ 32
+  segs-long = rows-length segmentWords noSegment 4 length-segment (m .segments) ∙ omega (arith, h .segments)
+
+  both-long : length (rowsOf memoryWords (m .memories) ++ rowsOf tableWords (m .tables)) ≡ 128
+  both-long = length-both (rowsOf memoryWords (m .memories)) (rowsOf tableWords (m .tables)) 64 64 128 mems-long tabs-long refl
+
+  instances-long : length (instanceWords m) ≡ 160
+  instances-long = length-both (rowsOf memoryWords (m .memories) ++ rowsOf tableWords (m .tables)) (rowsOf segmentWords (m .segments)) 128 32 160 both-long segs-long refl
+
+  -- a record among a machine's words
+  memory-among : (s : List ℕ) (i : ℕ) (r : Memory) → i < 8
+      → over (instanceWords m ++ s) (recordLength * i) (memoryWords r) ≡ instanceWords (withMemories m (set (m .memories) i r)) ++ s
+  memory-among s i r k =
+      let n = length-memory r in
+      let a = rowsOf memoryWords (m .memories) in
+      let b = rowsOf tableWords (m .tables) in
+      let d = rowsOf segmentWords (m .segments) in
+      let g : 8 * i + length (memoryWords r) ≤ 64 = omega (arith, n, k) in
+      over-left ((a ++ b) ++ d) s (8 * i) (memoryWords r) (omega (arith, g, instances-long))
+      ∙ ap (λ (z : List ℕ). z ++ s)
+      (over-left (a ++ b) d (8 * i) (memoryWords r) (omega (arith, g, both-long))
+      ∙ ap (λ (z : List ℕ). z ++ d)
+      (over-left a b (8 * i) (memoryWords r) (omega (arith, g, mems-long))
+      ∙ ap (λ (z : List ℕ). z ++ b) (rows-set memoryWords 8 length-memory (m .memories) i r (omega (arith, k, h .memories)))))
+
+  table-among : (s : List ℕ) (i : ℕ) (r : Table) → i < 8
+      → over (instanceWords m ++ s) (tablesAt + recordLength * i) (tableWords r) ≡ instanceWords (withTables m (set (m .tables) i r)) ++ s
+  table-among s i r k =
+      let n = length-table r in
+      let a = rowsOf memoryWords (m .memories) in
+      let b = rowsOf tableWords (m .tables) in
+      let d = rowsOf segmentWords (m .segments) in
+      let g : 64 + 8 * i + length (tableWords r) ≤ 128 = omega (arith, n, k) in
+      let q : 64 + 8 * i ≡ length a + 8 * i = omega (arith, mems-long) in
+      over-left ((a ++ b) ++ d) s (64 + 8 * i) (tableWords r) (omega (arith, g, instances-long))
+      ∙ ap (λ (z : List ℕ). z ++ s)
+      (over-left (a ++ b) d (64 + 8 * i) (tableWords r) (omega (arith, g, both-long))
+      ∙ ap (λ (z : List ℕ). z ++ d)
+      (over-right a b (8 * i) (64 + 8 * i) (tableWords r) q
+      ∙ ap (λ (z : List ℕ). a ++ z) (rows-set tableWords 8 length-table (m .tables) i r (omega (arith, k, h .tables)))))
+
+  segment-among : (s : List ℕ) (i : ℕ) (r : ElementSegment) → i < 8
+      → over (instanceWords m ++ s) (segmentsAt + segmentLength * i) (segmentWords r) ≡ instanceWords (withSegments m (set (m .segments) i r)) ++ s
+  segment-among s i r k =
+      let n = length-segment r in
+      let a = rowsOf memoryWords (m .memories) in
+      let b = rowsOf tableWords (m .tables) in
+      let d = rowsOf segmentWords (m .segments) in
+      let g : 128 + 4 * i + length (segmentWords r) ≤ 160 = omega (arith, n, k) in
+      let q : 128 + 4 * i ≡ length (a ++ b) + 4 * i = omega (arith, both-long) in
+      over-left ((a ++ b) ++ d) s (128 + 4 * i) (segmentWords r) (omega (arith, g, instances-long))
+      ∙ ap (λ (z : List ℕ). z ++ s)
+      (over-right (a ++ b) d (4 * i) (128 + 4 * i) (segmentWords r) q
+      ∙ ap (λ (z : List ℕ). (a ++ b) ++ z) (rows-set segmentWords 4 length-segment (m .segments) i r (omega (arith, k, h .segments))))
+
+  -- numbers in use, fuel and limiter
+  state-among : (s t : List ℕ) → length s ≡ 26 → length t ≡ 26 → over (instanceWords m ++ s) countsAt t ≡ instanceWords m ++ t
+  state-among s t p q =
+      let e : 160 ≡ length (instanceWords m) + 0 = omega (arith, instances-long) in
+      over-right (instanceWords m) s 0 160 t e ∙ ap (λ (z : List ℕ). instanceWords m ++ z) (over-all s t 26 p q)
+
+-- a change keeps the lists' lengths
+changed-eights : (x : Change) (m : Machine) → Eights m → Eights (changed x m)
+unfolding changed
+changed-eights change.Nothing m h = h
+changed-eights (change.Memory i r) m h =
+    either (ltb i 8)
+    (λ t. subst Eights (sym (pick-true _ _ _ t)) (record { memories = length-set (m .memories) i r ∙ h .memories; tables = h .tables; segments = h .segments }))
+    (λ t. subst Eights (sym (pick-false _ _ _ t)) h)
+changed-eights (change.Table i r) m h =
+    either (ltb i 8)
+    (λ t. subst Eights (sym (pick-true _ _ _ t)) (record { memories = h .memories; tables = length-set (m .tables) i r ∙ h .tables; segments = h .segments }))
+    (λ t. subst Eights (sym (pick-false _ _ _ t)) h)
+changed-eights (change.Segment i r) m h =
+    either (ltb i 8)
+    (λ t. subst Eights (sym (pick-true _ _ _ t)) (record { memories = h .memories; tables = h .tables; segments = length-set (m .segments) i r ∙ h .segments }))
+    (λ t. subst Eights (sym (pick-false _ _ _ t)) h)
+
+module _ (l s : List ℕ) (m : Machine) (h : Eights m) (long : length s ≡ 26) where
+  row-long : length (instanceWords m ++ s) ≡ 186
+  row-long = length-both (instanceWords m) s 160 26 186 (instances-long m h) long refl
+
+  abbrev rowFor : Machine → List ℕ
+  rowFor k = over l 0 (instanceWords k ++ s)
+
+  either-row : (t : Bool) {a : List ℕ} (k : Machine) → (t ≡ true → a ≡ rowFor k) → pick t a (rowFor m) ≡ rowFor (pick t k m)
+  either-row t {a = a} k f =
+      either t (λ e. pick-true _ _ _ e ∙ f e ∙ ap rowFor (sym (pick-true t k m e))) (λ e. pick-false _ _ _ e ∙ ap rowFor (sym (pick-false t k m e)))
+
+  -- a change to a row that holds a machine's words
+  change-row : (x : Change) → changedRow (rowFor m) x ≡ rowFor (changed x m)
+  unfolding changedRow changed
+  change-row change.Nothing = refl
+  change-row (change.Memory i r) =
+      either-row (ltb i 8) (withMemories m (set (m .memories) i r))
+      (λ t. let k = ltb-true i 8 t in
+      over-in l _ (8 * i) (memoryWords r) (omega (arith, k, length-memory r, row-long)) ∙ ap (over l 0) (memory-among m h s i r k))
+  change-row (change.Table i r) =
+      either-row (ltb i 8) (withTables m (set (m .tables) i r))
+      (λ t. let k = ltb-true i 8 t in
+      over-in l _ (64 + 8 * i) (tableWords r) (omega (arith, k, length-table r, row-long)) ∙ ap (over l 0) (table-among m h s i r k))
+  change-row (change.Segment i r) =
+      either-row (ltb i 8) (withSegments m (set (m .segments) i r))
+      (λ t. let k = ltb-true i 8 t in
+      over-in l _ (128 + 4 * i) (segmentWords r) (omega (arith, k, length-segment r, row-long)) ∙ ap (over l 0) (segment-among m h s i r k))
+
+-- the machine after an outcome whose fuel and limiter a program holds
+settled-shaped : (m : Machine) (o : Outcome) → Eights m → Fits (o .fuel) (o .limiter) → Shaped (settled m o)
+unfolding settled
+settled-shaped m o h f =
+    let e = changed-eights (o .change) m h in
+    record { memories = e .memories; tables = e .tables; segments = e .segments; fits = f }
+
+-- what settling writes are the words of the machine after it
+settle-words : (l : List ℕ) (o : Outcome) → Holds l → Fits (o .fuel) (o .limiter) → settledRow l o ≡ over l 0 (wordsOf (settled (machineFrom l) o))
+unfolding settledRow settled wordsOf
+settle-words l o h f =
+    let m = machineFrom l in
+    let s = stateWords (m .counts) (m .fuel) (m .limiter) in
+    let t = stateWords (o .counts) (o .fuel) (o .limiter) in
+    let shape = shaped-from l in
+    let n : length s ≡ 26 = state-long (m .counts) (m .fuel) (m .limiter) (shape .fits .script) in
+    let k : length t ≡ 26 = state-long (o .counts) (o .fuel) (o .limiter) (f .script) in
+    let e = eights m shape in
+    let x = changed (o .change) m in
+    let d = changed-eights (o .change) m e in
+    let row : length (instanceWords x ++ s) ≡ 186 = row-long l s x d n in
+    ap (λ (z : List ℕ). over (changedRow z (o .change)) 160 t) h
+    ∙ ap (λ (z : List ℕ). over z 160 t) (change-row l s m e n (o .change))
+    ∙ over-in l (instanceWords x ++ s) 160 t (omega (arith, k, row))
+    ∙ ap (over l 0) (state-among x d s t n k)
+
+-- the step of a well-formed operation on a sound machine
+goes : (r : ℕ) (m : Machine) (b : Buffers) (o : Operation) → wellFormed o ≡ true → soundOver m b ≡ true → step r m b o ≡ after m (perform r m b o)
+unfolding step decide
+goes r m b o w e = ap (after m) (pick-true _ _ _ w ∙ pick-true _ _ _ e)
+
+-- an operation that goes on a row which holds a sound machine's words is the step in place
+pub goes-steps : (l : List ℕ) (b : Buffers) (op : Operation) {x : InRow} → Holds l → wellFormed op ≡ true → soundOver (machineFrom l) b ≡ true
+    → Fits (perform rawBytes (machineFrom l) b op .out .fuel) (perform rawBytes (machineFrom l) b op .out .limiter)
+    → x ≡ rowSettled l (perform rawBytes (machineFrom l) b op) → Steps l x (step rawBytes (machineFrom l) b op)
+goes-steps l b op h w e f q =
+    let m = machineFrom l in
+    let p = perform rawBytes m b op in
+    let g = goes rawBytes m b op w e in
+    let words = settle-words l (p .out) h f in
+    let row : rowSettled l p ≡ rowAfter l (after m p) = ap (λ (z : List ℕ). record { answer = p .out .answer; words = z; buffers = p .buffers }) words in
+    let back : machineFrom (over l 0 (wordsOf (settled m (p .out)))) ≡ settled m (p .out) = row-back (settled m (p .out)) l (settled-shaped m (p .out) (eights m (shaped-from l)) f) in
+    record {
+      row = q ∙ row ∙ ap (rowAfter l) (sym g);
+      says = ap (λ (z : InRow). machineFrom (z .words)) (q ∙ row) ∙ back ∙ ap (λ (s : Stepped). s .machine) (sym g);
+    }
+
+-- a sound machine's next rooms start inside its buffers
+pub sound-inside : (m : Machine) (b : Buffers) → soundOver m b ≡ true → Inside m (length (b .bytes)) (length (b .cells)) (length (b .items))
+sound-inside m b e =
+    record {
+      byte = next-byte-inside m (length (b .bytes)) (length (b .cells)) (length (b .items)) e;
+      cell = next-cell-inside m (length (b .bytes)) (length (b .cells)) (length (b .items)) e;
+      item = next-item-inside m (length (b .bytes)) (length (b .cells)) (length (b .items)) e;
+    }
+
+pub tested-inside : (m : Machine) (bytes cells items : ℕ) → endsInside m bytes cells items ≡ true → Inside m bytes cells items
+unfolding endsInside
+tested-inside m bytes cells items e =
+    let f = both-2 _ _ e in
+    record { byte = leb-true _ _ (both-1 _ _ e); cell = leb-true _ _ (both-1 _ _ f); item = leb-true _ _ (both-2 _ _ f) }
+
+pub inside-tested : (m : Machine) (bytes cells items : ℕ) → Inside m bytes cells items → endsInside m bytes cells items ≡ true
+unfolding endsInside
+inside-tested m bytes cells items h = both-true _ _ (le-leb _ _ (h .byte)) (both-true _ _ (le-leb _ _ (h .cell)) (le-leb _ _ (h .item)))
+
+-- an operation that says something wrong changes nothing, in place too
+stops : (r : ℕ) (m : Machine) (b : Buffers) (o : Operation) → wellFormed o ≡ false → step r m b o ≡ after m (onNone (keeps m (refuse 18 0)) b)
+unfolding step decide
+stops r m b o w = ap (after m) (pick-false _ _ _ w)
+
+unsound-stops : (r : ℕ) (m : Machine) (b : Buffers) (o : Operation) → wellFormed o ≡ true → soundOver m b ≡ false → step r m b o ≡ after m (onNone (keeps m (refuse 19 0)) b)
+unfolding step decide
+unsound-stops r m b o w e = ap (after m) (pick-true _ _ _ w ∙ pick-false _ _ _ e)
+
+kept-row : (l : List ℕ) (b : Buffers) (n : ℕ) → Holds l → rowKeeps l b n ≡ rowAfter l (after (machineFrom l) (onNone (keeps (machineFrom l) (refuse n 0)) b))
+unfolding settled changed
+kept-row l b n h = ap (λ (z : List ℕ). record { answer = refuse n 0; words = z; buffers = b }) h
+
+stops-steps : (l : List ℕ) (b : Buffers) (op : Operation) {x : InRow} → Holds l → wellFormed op ≡ false → x ≡ rowKeeps l b 18 → Steps l x (step rawBytes (machineFrom l) b op)
+unfolding settled changed
+stops-steps l b op h w q =
+    let g = stops rawBytes (machineFrom l) b op w in
+    record { row = q ∙ kept-row l b 18 h ∙ ap (rowAfter l) (sym g); says = ap (λ (z : InRow). machineFrom (z .words)) q ∙ ap (λ (s : Stepped). s .machine) (sym g) }
+
+-- the exits of `proceed`
+module _ (l : List ℕ) (b : Buffers) (op : Operation) {x : InRow} where
+  pub proceeds-malformed : wellFormed op ≡ false → x ≡ rowKeeps l b 18 → Proceeds l b op x
+  unfolding proceedRow
+  proceeds-malformed w q = record { is = q ∙ sym (pick-false _ _ _ w); steps = λ long h e. stops-steps l b op h w q }
+
+  pub proceeds-short : wellFormed op ≡ true → length l < rowLength → x ≡ rowKeeps l b 19 → Proceeds l b op x
+  unfolding proceedRow
+  proceeds-short w n q =
+      record {
+        is = q ∙ sym (pick-true _ _ _ w ∙ pick-false _ _ _ (both-left _ _ (lt-leb _ _ n)));
+        steps = λ long h e. absurd (omega (arith, n, long));
+      }
+
+  module _ (w : wellFormed op ≡ true) (n : rowLength ≤ length l) where
+    pub proceeds-outside : endsInside (machineFrom l) (length (b .bytes)) (length (b .cells)) (length (b .items)) ≡ false → x ≡ rowKeeps l b 19 → Proceeds l b op x
+    unfolding proceedRow
+    proceeds-outside t q =
+        record {
+          is = q ∙ sym (pick-true _ _ _ w ∙ pick-false _ _ _ (both-right _ _ t));
+          steps = λ long h e. absurd (false≢true (sym t ∙ inside-tested (machineFrom l) _ _ _ (sound-inside (machineFrom l) b e)));
+        }
+
+    pub proceeds-goes : endsInside (machineFrom l) (length (b .bytes)) (length (b .cells)) (length (b .items)) ≡ true → Goes l b op x → Proceeds l b op x
+    unfolding proceedRow
+    proceeds-goes t g =
+        record {
+          is = g .is ∙ sym (pick-true _ _ _ w ∙ pick-true _ _ _ (both-true _ _ (le-leb _ _ n) t));
+          steps = λ long h e. goes-steps l b op h w e (g .fits) (g .is);
+        }
+
+  -- the exits of `operate`
+  pub operates-malformed : wellFormed op ≡ false → x ≡ rowKeeps l b 18 → x ≡ operateRow rawBytes l b op
+  unfolding operateRow
+  operates-malformed w q = q ∙ sym (pick-false _ _ _ w)
+
+  module _ (w : wellFormed op ≡ true) where
+    pub operates-out-of-form : inForm l ≡ false → x ≡ rowKeeps l b 19 → x ≡ operateRow rawBytes l b op
+    unfolding operateRow
+    operates-out-of-form f q = q ∙ sym (pick-true _ _ _ w ∙ pick-false _ _ _ f)
+
+    pub operates-unsound : inForm l ≡ true → soundOver (machineFrom l) b ≡ false → x ≡ rowKeeps l b 19 → x ≡ operateRow rawBytes l b op
+    unfolding operateRow
+    operates-unsound f e q =
+        q ∙ kept-row l b 19 (form-holds l f) ∙ ap (rowAfter l) (sym (unsound-stops rawBytes (machineFrom l) b op w e)) ∙ sym (pick-true _ _ _ w ∙ pick-true _ _ _ f)
+
+    pub operates-goes : inForm l ≡ true → soundOver (machineFrom l) b ≡ true → Goes l b op x → x ≡ operateRow rawBytes l b op
+    unfolding operateRow
+    operates-goes f e g = goes-steps l b op (form-holds l f) w e (g .fits) (g .is) .row ∙ sym (pick-true _ _ _ w ∙ pick-true _ _ _ f)

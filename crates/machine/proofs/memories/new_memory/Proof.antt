@@ -1,0 +1,79 @@
+-- `machine::memories::new_memory` meets its contract. Assumes nothing.
+use mathlib.Core.Path.{_≡_, sym, ap, _∙_}
+use denote.Ref.{now}
+use Rattle.machine.specs.Words.{machineFrom}
+use Rattle.machine.specs.declared.records.Counts.{Counts}
+use native.Mathlib.Omega.{arith}
+use Rattle.types.specs.Done.{done}
+use Rattle.machine.specs.declared.outcome.Outcome.{Outcome}
+use Rattle.machine.proofs.Laws.{along}
+use Prim.Native.Nat.{ℕ, _-_, _<_}
+use lib.Dec.{leb, ltb}
+use lib.ListN.{length}
+use Rattle.types.specs.Pick.{both}
+use Rattle.types.proofs.Picks.{pick-true, pick-false, both-1}
+use borrow.Author.Tests.{ltb-true}
+use Rattle.memory.specs.New.{newMemory}
+use Rattle.machine.specs.Memories.{memoryMade, newMemoryOn}
+use borrow.Author.Needs.{needs}
+use Rattle.machine.proofs.memories.new_memory.Statement.{statement}
+use Rattle.machine.proofs.memories.new_memory.Tie as tie
+
+counts-from-requires : tie.Need-counts-from-requires
+counts-from-requires c κs = search needs
+
+next-byte-requires : tie.Need-next-byte-requires
+next-byte-requires c κs = search needs
+
+sub-finds-room : tie.Need-sub-finds-room
+sub-finds-room c = search needs
+
+finds-room-requires : tie.Need-finds-room-requires
+finds-room-requires c κs = search needs
+
+make-memory-requires : tie.Need-make-memory-requires
+make-memory-requires c κs =
+    let a = c .before .before .before .before .before .before .before .args in
+    let m = machineFrom (now (a .words)) in
+    let e : (c .before .before .before .before .counts-from .result .memories) ≡ m .counts .memories = ap (λ (k : Counts). k .memories) (c .before .before .before .before .counts-from .ensures) in
+    let h : (c .before .before .before .before .counts-from .result .memories) < 8 = ltb-true (c .before .before .before .before .counts-from .result .memories) 8 (both-1 _ _ (sym (c .before .before .finds-room .ensures) ∙ c .before .if1 .taken)) in
+    (c .before .before .before .before .before .before .before .pre .0, omega (arith, h, e))
+
+same-length : tie.Need-same-length
+same-length c = search needs
+
+returns : tie.Need-returns
+unfolding newMemoryOn
+returns c =
+    let a = c .before .before .before .before .before .before .before .before .before .before .args in
+    let m = machineFrom (now (a .words)) in
+    let e : (c .before .before .before .before .before .before .before .counts-from .result .memories) ≡ m .counts .memories = ap (λ (k : Counts). k .memories) (c .before .before .before .before .before .before .before .counts-from .ensures) in
+    c .before .before .make-memory .ensures
+    ∙ ap (λ (s : ℕ). memoryMade m (newMemory (a .wanted) s (a .room) (now (a .bytes)) (m .limiter))) (c .before .before .before .before .before .before .next-byte .ensures)
+    ∙ sym (pick-true _ _ _ (along (λ (n s : ℕ). both (ltb n 8) (leb (a .room) (length (now (a .bytes)) - s))) (sym e) (sym (c .before .before .before .before .before .before .next-byte .ensures)) ∙ sym (c .before .before .before .before .before .finds-room .ensures) ∙ c .before .before .before .before .if1 .taken))
+
+refuses-requires : tie.Need-refuses-requires
+refuses-requires c κs = search needs
+
+returns-2 : tie.Need-returns-2
+unfolding newMemoryOn
+returns-2 c =
+    let a = c .before .before .before .before .before .before .before .args in
+    let m = machineFrom (now (a .words)) in
+    let e : (c .before .before .before .before .counts-from .result .memories) ≡ m .counts .memories = ap (λ (k : Counts). k .memories) (c .before .before .before .before .counts-from .ensures) in
+    ap (λ (o : Outcome). done o (now (a .bytes))) (c .refuses .ensures)
+    ∙ sym (pick-false _ _ _ (along (λ (n s : ℕ). both (ltb n 8) (leb (a .room) (length (now (a .bytes)) - s))) (sym e) (sym (c .before .before .before .next-byte .ensures)) ∙ sym (c .before .before .finds-room .ensures) ∙ c .before .if1 .left))
+
+pub new-memory-spec : {M : Type 1} → statement M
+new-memory-spec =
+    tie.close
+    (tie.spec
+    counts-from-requires
+    next-byte-requires
+    sub-finds-room
+    finds-room-requires
+    make-memory-requires
+    same-length
+    returns
+    refuses-requires
+    returns-2)

@@ -1,0 +1,55 @@
+-- `machine::row::byte_inside` meets its contract. Assumes nothing.
+use mathlib.Core.Path.{_≡_, sym, ap, _∙_}
+use denote.Ref.{now}
+use Rattle.machine.specs.Words.{machineFrom}
+use Rattle.machine.specs.declared.records.Counts.{Counts}
+use native.Mathlib.Omega.{arith}
+use Prim.Native.Nat.{ℕ, _-_}
+use borrow.Author.Tests.{eq-eqb, ne-eqb, le-leb}
+use Rattle.types.proofs.Picks.{pick-true, pick-false}
+use Rattle.machine.specs.Machine.{memoryAt, nextByte, memoryEnd}
+use lib.Dec.{leb}
+use borrow.Author.Needs.{needs}
+use Rattle.machine.proofs.row.byte_inside.Statement.{statement}
+use Rattle.machine.proofs.row.byte_inside.Tie as tie
+
+counts-from-requires : tie.Need-counts-from-requires
+counts-from-requires c κs = search needs
+
+returns : tie.Need-returns
+unfolding nextByte
+returns c =
+    let a = c .before .before .before .args in
+    let m = machineFrom (now (a .words)) in
+    let e : (c .before .counts-from .result .memories) ≡ m .counts .memories = ap (λ (k : Counts). k .memories) (c .before .counts-from .ensures) in
+    let z : nextByte m ≡ 0 = pick-true _ _ _ (eq-eqb _ _ (sym e ∙ c .if1 .taken)) in
+    sym (le-leb (nextByte m) (a .bytes) (omega (arith, z)))
+
+sub-memory-at : tie.Need-sub-memory-at
+sub-memory-at c = search needs
+
+memory-at-requires : tie.Need-memory-at-requires
+memory-at-requires c κs = search needs
+
+room-inside-requires : tie.Need-room-inside-requires
+room-inside-requires c κs = search needs
+
+returns-2 : tie.Need-returns-2
+unfolding nextByte
+returns-2 c =
+    let a = c .before .before .before .before .before .args in
+    let m = machineFrom (now (a .words)) in
+    let e : (c .before .before .before .counts-from .result .memories) ≡ m .counts .memories = ap (λ (k : Counts). k .memories) (c .before .before .before .counts-from .ensures) in
+    let q : memoryEnd (c .before .memory-at .result) ≡ nextByte m = ap memoryEnd (c .before .memory-at .ensures ∙ ap (λ (n : ℕ). memoryAt m (n - 1)) e) ∙ sym (pick-false _ _ _ (ne-eqb _ _ (λ z. c .before .before .if1 .left (e ∙ z)))) in
+    c .room-inside .ensures ∙ ap (λ (n : ℕ). leb n (a .bytes)) q
+
+pub byte-inside-spec : {M : Type 1} → statement M
+byte-inside-spec =
+    tie.close
+    (tie.spec
+    counts-from-requires
+    returns
+    sub-memory-at
+    memory-at-requires
+    room-inside-requires
+    returns-2)

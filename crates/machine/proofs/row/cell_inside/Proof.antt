@@ -1,0 +1,55 @@
+-- `machine::row::cell_inside` meets its contract. Assumes nothing.
+use mathlib.Core.Path.{_≡_, sym, ap, _∙_}
+use denote.Ref.{now}
+use Rattle.machine.specs.Words.{machineFrom}
+use Rattle.machine.specs.declared.records.Counts.{Counts}
+use native.Mathlib.Omega.{arith}
+use Prim.Native.Nat.{ℕ, _-_}
+use borrow.Author.Tests.{eq-eqb, ne-eqb, le-leb}
+use Rattle.types.proofs.Picks.{pick-true, pick-false}
+use Rattle.machine.specs.Machine.{tableAt, nextCell, tableEnd}
+use lib.Dec.{leb}
+use borrow.Author.Needs.{needs}
+use Rattle.machine.proofs.row.cell_inside.Statement.{statement}
+use Rattle.machine.proofs.row.cell_inside.Tie as tie
+
+counts-from-requires : tie.Need-counts-from-requires
+counts-from-requires c κs = search needs
+
+returns : tie.Need-returns
+unfolding nextCell
+returns c =
+    let a = c .before .before .before .args in
+    let m = machineFrom (now (a .words)) in
+    let e : (c .before .counts-from .result .tables) ≡ m .counts .tables = ap (λ (k : Counts). k .tables) (c .before .counts-from .ensures) in
+    let z : nextCell m ≡ 0 = pick-true _ _ _ (eq-eqb _ _ (sym e ∙ c .if1 .taken)) in
+    sym (le-leb (nextCell m) (a .cells) (omega (arith, z)))
+
+sub-table-at : tie.Need-sub-table-at
+sub-table-at c = search needs
+
+table-at-requires : tie.Need-table-at-requires
+table-at-requires c κs = search needs
+
+room-inside-requires : tie.Need-room-inside-requires
+room-inside-requires c κs = search needs
+
+returns-2 : tie.Need-returns-2
+unfolding nextCell
+returns-2 c =
+    let a = c .before .before .before .before .before .args in
+    let m = machineFrom (now (a .words)) in
+    let e : (c .before .before .before .counts-from .result .tables) ≡ m .counts .tables = ap (λ (k : Counts). k .tables) (c .before .before .before .counts-from .ensures) in
+    let q : tableEnd (c .before .table-at .result) ≡ nextCell m = ap tableEnd (c .before .table-at .ensures ∙ ap (λ (n : ℕ). tableAt m (n - 1)) e) ∙ sym (pick-false _ _ _ (ne-eqb _ _ (λ z. c .before .before .if1 .left (e ∙ z)))) in
+    c .room-inside .ensures ∙ ap (λ (n : ℕ). leb n (a .cells)) q
+
+pub cell-inside-spec : {M : Type 1} → statement M
+cell-inside-spec =
+    tie.close
+    (tie.spec
+    counts-from-requires
+    returns
+    sub-table-at
+    table-at-requires
+    room-inside-requires
+    returns-2)

@@ -1,0 +1,55 @@
+-- `machine::row::item_inside` meets its contract. Assumes nothing.
+use mathlib.Core.Path.{_≡_, sym, ap, _∙_}
+use denote.Ref.{now}
+use Rattle.machine.specs.Words.{machineFrom}
+use Rattle.machine.specs.declared.records.Counts.{Counts}
+use native.Mathlib.Omega.{arith}
+use Prim.Native.Nat.{ℕ, _-_}
+use borrow.Author.Tests.{eq-eqb, ne-eqb, le-leb}
+use Rattle.types.proofs.Picks.{pick-true, pick-false}
+use Rattle.machine.specs.Machine.{segmentAt, nextItem, segmentEnd}
+use lib.Dec.{leb}
+use borrow.Author.Needs.{needs}
+use Rattle.machine.proofs.row.item_inside.Statement.{statement}
+use Rattle.machine.proofs.row.item_inside.Tie as tie
+
+counts-from-requires : tie.Need-counts-from-requires
+counts-from-requires c κs = search needs
+
+returns : tie.Need-returns
+unfolding nextItem
+returns c =
+    let a = c .before .before .before .args in
+    let m = machineFrom (now (a .words)) in
+    let e : (c .before .counts-from .result .segments) ≡ m .counts .segments = ap (λ (k : Counts). k .segments) (c .before .counts-from .ensures) in
+    let z : nextItem m ≡ 0 = pick-true _ _ _ (eq-eqb _ _ (sym e ∙ c .if1 .taken)) in
+    sym (le-leb (nextItem m) (a .items) (omega (arith, z)))
+
+sub-segment-at : tie.Need-sub-segment-at
+sub-segment-at c = search needs
+
+segment-at-requires : tie.Need-segment-at-requires
+segment-at-requires c κs = search needs
+
+room-inside-requires : tie.Need-room-inside-requires
+room-inside-requires c κs = search needs
+
+returns-2 : tie.Need-returns-2
+unfolding nextItem
+returns-2 c =
+    let a = c .before .before .before .before .before .args in
+    let m = machineFrom (now (a .words)) in
+    let e : (c .before .before .before .counts-from .result .segments) ≡ m .counts .segments = ap (λ (k : Counts). k .segments) (c .before .before .before .counts-from .ensures) in
+    let q : segmentEnd (c .before .segment-at .result) ≡ nextItem m = ap segmentEnd (c .before .segment-at .ensures ∙ ap (λ (n : ℕ). segmentAt m (n - 1)) e) ∙ sym (pick-false _ _ _ (ne-eqb _ _ (λ z. c .before .before .if1 .left (e ∙ z)))) in
+    c .room-inside .ensures ∙ ap (λ (n : ℕ). leb n (a .items)) q
+
+pub item-inside-spec : {M : Type 1} → statement M
+item-inside-spec =
+    tie.close
+    (tie.spec
+    counts-from-requires
+    returns
+    sub-segment-at
+    segment-at-requires
+    room-inside-requires
+    returns-2)

@@ -1,0 +1,36 @@
+-- `machine::row::memory_at` meets its contract. Assumes nothing.
+use mathlib.Core.Path.{_≡_, sym, ap, _∙_}
+use denote.Ref.{now}
+use native.Mathlib.Omega.{arith}
+use Prim.Native.Nat.{_+_, _*_}
+use Rattle.machine.specs.Machine.{noMemory}
+use Rattle.machine.specs.Words.{recordLength, memoryFrom, recordsFrom}
+use Rattle.machine.proofs.Places.{records-at, records-length}
+use Rattle.machine.proofs.Lists.{past}
+use borrow.Author.Needs.{needs}
+use Rattle.machine.proofs.row.memory_at.Statement.{statement}
+use Rattle.machine.proofs.row.memory_at.Tie as tie
+
+mul-memory-from : tie.Need-mul-memory-from
+mul-memory-from c = search needs
+
+memory-from-requires : tie.Need-memory-from-requires
+memory-from-requires c κs = search needs
+
+returns : tie.Need-returns
+returns c =
+    let a = c .before .before .before .args in
+    let z : 8 * (a .i) ≡ 0 + 8 * (a .i) = omega arith in
+    c .memory-from .ensures ∙ ap (memoryFrom (now (a .words))) z ∙ sym (records-at memoryFrom recordLength (now (a .words)) noMemory 0 8 (a .i) (c .before .if1 .taken))
+
+no-memory-requires : tie.Need-no-memory-requires
+no-memory-requires c κs = search needs
+
+returns-2 : tie.Need-returns-2
+returns-2 c =
+    let a = c .before .before .before .args in
+    c .no-memory .ensures ∙ sym (past (recordsFrom memoryFrom recordLength (now (a .words)) 0 8) noMemory (a .i) (records-length memoryFrom recordLength (now (a .words)) 0 8) (c .before .if1 .left))
+
+pub memory-at-spec : {M : Type 1} → statement M
+memory-at-spec =
+    tie.close (tie.spec mul-memory-from memory-from-requires returns no-memory-requires returns-2)

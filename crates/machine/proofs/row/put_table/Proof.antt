@@ -1,0 +1,52 @@
+-- `machine::row::put_table` meets its contract. Assumes nothing.
+use mathlib.Core.Path.{sym, ap, _∙_}
+use denote.Ref.{now}
+use Prim.Native.Nat.{_+_, _*_}
+use borrow.Author.Tests.{lt-ltb, le-ltb}
+use Rattle.types.specs.Span.{over}
+use Rattle.types.proofs.Picks.{pick-true, pick-false}
+use Rattle.machine.specs.stages.Rows.{changedRow}
+use borrow.Author.Needs.{needs}
+use Rattle.machine.proofs.row.put_table.Statement.{statement}
+use Rattle.machine.proofs.row.put_table.Tie as tie
+
+table-words-requires : tie.Need-table-words-requires
+table-words-requires c κs = search needs
+
+mul-put : tie.Need-mul-put
+mul-put c = search needs
+
+add-put : tie.Need-add-put
+add-put c = search needs
+
+slice-aggregate-put : tie.Need-slice-aggregate-put
+slice-aggregate-put c = search needs
+
+put-requires : tie.Need-put-requires
+put-requires c κs = search needs
+
+same-length : tie.Need-same-length
+same-length c = search needs
+
+returns : tie.Need-returns
+unfolding changedRow
+returns c =
+    let a = c .before .before .before .before .before .before .before .before .args in
+    c .before .before .put .ensures ∙ ap (over (now (a .words)) (64 + 8 * (a .i))) (c .before .before .before .before .before .table-words .ensures) ∙ sym (pick-true _ _ _ (lt-ltb _ _ (c .before .before .before .before .before .before .if1 .taken)))
+
+returns-2 : tie.Need-returns-2
+unfolding changedRow
+returns-2 c = sym (pick-false _ _ _ (le-ltb _ _ (c .if1 .left)))
+
+pub put-table-spec : {M : Type 1} → statement M
+put-table-spec =
+    tie.close
+    (tie.spec
+    table-words-requires
+    mul-put
+    add-put
+    slice-aggregate-put
+    put-requires
+    same-length
+    returns
+    returns-2)

@@ -1,0 +1,24 @@
+-- `machine::row::room_inside` meets its contract. Assumes nothing.
+use mathlib.Core.Path.{sym}
+use native.Mathlib.Omega.{arith}
+use Prim.Native.Nat.{_+_, _<_}
+use borrow.Author.Tests.{lt-leb}
+use Rattle.types.specs.Span.{inside}
+use Rattle.types.proofs.Spans.{shift-leb}
+use Rattle.machine.proofs.row.room_inside.Statement.{statement}
+use Rattle.machine.proofs.row.room_inside.Tie as tie
+
+returns : tie.Need-returns
+returns c =
+    let a = c .before .args in
+    let g : a .len < a .start + a .room = omega (arith, c .if1 .taken) in
+    sym (lt-leb _ _ g)
+
+returns-2 : tie.Need-returns-2
+unfolding inside
+returns-2 c =
+    let a = c .before .args in
+    shift-leb (a .start) (a .room) (a .len) (omega (arith, c .if1 .left))
+
+pub room-inside-spec : {M : Type 1} → statement M
+room-inside-spec = tie.close (tie.spec returns returns-2)

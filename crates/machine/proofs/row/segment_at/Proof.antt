@@ -1,0 +1,43 @@
+-- `machine::row::segment_at` meets its contract. Assumes nothing.
+use mathlib.Core.Path.{sym, _∙_}
+use denote.Ref.{now}
+use Rattle.machine.specs.Machine.{noSegment}
+use Rattle.machine.specs.Words.{segmentLength, segmentsAt, segmentFrom, recordsFrom}
+use Rattle.machine.proofs.Places.{records-at, records-length}
+use Rattle.machine.proofs.Lists.{past}
+use borrow.Author.Needs.{needs}
+use Rattle.machine.proofs.row.segment_at.Statement.{statement}
+use Rattle.machine.proofs.row.segment_at.Tie as tie
+
+mul-segment-from : tie.Need-mul-segment-from
+mul-segment-from c = search needs
+
+add-segment-from : tie.Need-add-segment-from
+add-segment-from c = search needs
+
+segment-from-requires : tie.Need-segment-from-requires
+segment-from-requires c κs = search needs
+
+returns : tie.Need-returns
+returns c =
+    let a = c .before .before .before .args in
+    c .segment-from .ensures ∙ sym (records-at segmentFrom segmentLength (now (a .words)) noSegment segmentsAt 8 (a .i) (c .before .if1 .taken))
+
+no-segment-requires : tie.Need-no-segment-requires
+no-segment-requires c κs = search needs
+
+returns-2 : tie.Need-returns-2
+returns-2 c =
+    let a = c .before .before .before .args in
+    c .no-segment .ensures ∙ sym (past (recordsFrom segmentFrom segmentLength (now (a .words)) segmentsAt 8) noSegment (a .i) (records-length segmentFrom segmentLength (now (a .words)) segmentsAt 8) (c .before .if1 .left))
+
+pub segment-at-spec : {M : Type 1} → statement M
+segment-at-spec =
+    tie.close
+    (tie.spec
+    mul-segment-from
+    add-segment-from
+    segment-from-requires
+    returns
+    no-segment-requires
+    returns-2)

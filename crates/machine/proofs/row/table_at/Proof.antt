@@ -1,0 +1,43 @@
+-- `machine::row::table_at` meets its contract. Assumes nothing.
+use mathlib.Core.Path.{sym, _∙_}
+use denote.Ref.{now}
+use Rattle.machine.specs.Machine.{noTable}
+use Rattle.machine.specs.Words.{recordLength, tablesAt, tableFrom, recordsFrom}
+use Rattle.machine.proofs.Places.{records-at, records-length}
+use Rattle.machine.proofs.Lists.{past}
+use borrow.Author.Needs.{needs}
+use Rattle.machine.proofs.row.table_at.Statement.{statement}
+use Rattle.machine.proofs.row.table_at.Tie as tie
+
+mul-table-from : tie.Need-mul-table-from
+mul-table-from c = search needs
+
+add-table-from : tie.Need-add-table-from
+add-table-from c = search needs
+
+table-from-requires : tie.Need-table-from-requires
+table-from-requires c κs = search needs
+
+returns : tie.Need-returns
+returns c =
+    let a = c .before .before .before .args in
+    c .table-from .ensures ∙ sym (records-at tableFrom recordLength (now (a .words)) noTable tablesAt 8 (a .i) (c .before .if1 .taken))
+
+no-table-requires : tie.Need-no-table-requires
+no-table-requires c κs = search needs
+
+returns-2 : tie.Need-returns-2
+returns-2 c =
+    let a = c .before .before .before .args in
+    c .no-table .ensures ∙ sym (past (recordsFrom tableFrom recordLength (now (a .words)) tablesAt 8) noTable (a .i) (records-length tableFrom recordLength (now (a .words)) tablesAt 8) (c .before .if1 .left))
+
+pub table-at-spec : {M : Type 1} → statement M
+table-at-spec =
+    tie.close
+    (tie.spec
+    mul-table-from
+    add-table-from
+    table-from-requires
+    returns
+    no-table-requires
+    returns-2)

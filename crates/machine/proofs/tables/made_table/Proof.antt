@@ -1,0 +1,53 @@
+-- `machine::tables::made_table` meets its contract. Assumes nothing.
+use mathlib.Core.Path.{_≡_, ap}
+use denote.Ref.{now}
+use Rattle.machine.specs.Words.{machineFrom}
+use Rattle.machine.specs.declared.records.Counts.{Counts}
+use native.Mathlib.Omega.{arith}
+use Rattle.machine.specs.Tables.{madeTable}
+use borrow.Author.Needs.{needs}
+use Rattle.machine.proofs.tables.made_table.Statement.{statement}
+use Rattle.machine.proofs.tables.made_table.Tie as tie
+
+counts-from-requires : tie.Need-counts-from-requires
+counts-from-requires c κs = search needs
+
+fuel-from-requires : tie.Need-fuel-from-requires
+fuel-from-requires c κs = search needs
+
+enum-known-made : tie.Need-enum-known-made
+enum-known-made c = search needs
+
+leaves-requires : tie.Need-leaves-requires
+leaves-requires c κs = search needs
+
+enum-known-made-2 : tie.Need-enum-known-made-2
+enum-known-made-2 c = search needs
+
+add-t14 : tie.Need-add-t14
+add-t14 c =
+    let a = c .before .before .before .before .before .before .before .args in
+    let m = machineFrom (now (a .words)) in
+    let e : (c .before .before .before .before .before .counts-from .result .tables) ≡ m .counts .tables = ap (λ (k : Counts). k .tables) (c .before .before .before .before .before .counts-from .ensures) in
+    record { fits = omega (arith, e, c .before .before .before .before .before .before .before .pre .1) }
+
+returns : tie.Need-returns
+unfolding madeTable
+returns c = rw (c .before .before .made .given .1) cc
+
+returns-2 : tie.Need-returns-2
+unfolding madeTable
+returns-2 c = rw (c .before .before .made2 .given .1) cc
+
+pub made-table-spec : {M : Type 1} → statement M
+made-table-spec =
+    tie.close
+    (tie.spec
+    counts-from-requires
+    fuel-from-requires
+    enum-known-made
+    leaves-requires
+    enum-known-made-2
+    add-t14
+    returns
+    returns-2)

@@ -1,0 +1,14 @@
+-- `machine::tables::table_out` meets its contract. Assumes nothing.
+use mathlib.Core.Path.{refl}
+use borrow.Author.Needs.{needs}
+use Rattle.machine.proofs.tables.table_out.Statement.{statement}
+use Rattle.machine.proofs.tables.table_out.Tie as tie
+
+counts-from-requires : tie.Need-counts-from-requires
+counts-from-requires c κs = search needs
+
+returns : tie.Need-returns
+returns c = rw (c .before .before .counts-from .ensures) refl
+
+pub table-out-spec : {M : Type 1} → statement M
+table-out-spec = tie.close (tie.spec counts-from-requires returns)

@@ -1,0 +1,98 @@
+-- `machine::words::put_tables` meets its contract. Assumes nothing.
+use Prim.Native.Nat.{_-_, _≤_}
+use Rattle.machine.specs.Machine.{noTable}
+use Rattle.machine.specs.Words.{tableWords, rowsOf}
+use Rattle.machine.proofs.Rows.{rows-none, rows-turn, rows-done, rows-length}
+use Rattle.machine.proofs.Lengths.{length-table}
+use Rattle.types.specs.Span.{over}
+use borrow.Author.Needs.{needs}
+use lib.ListN.{length, take}
+use mathlib.Core.Path.{_≡_, refl, _∙_}
+use native.Mathlib.Omega.{arith}
+use Rattle.machine.proofs.words.put_tables.Statement.{statement}
+use Rattle.machine.proofs.words.put_tables.Tie as tie
+
+abbrev Inv-loop : tie.InvT-loop
+Inv-loop words₀ at tables i₀ words i = (words ≡ over words₀ at (rowsOf tableWords (take i tables))) × (i ≤ 8) × (length words ≡ length words₀) × (length tables ≡ 8)
+
+abbrev μ-loop : tie.MeasureT-loop
+μ-loop words₀ at tables i₀ words i = 8 - i
+
+loop-holds : tie.Need-loop-holds Inv-loop μ-loop
+loop-holds c = (
+  rows-none tableWords noTable 8 length-table _ (c .before .args .t3) (c .before .args .at),
+  omega arith,
+  refl,
+  c .before .good .1 .1 .0 .1 .0 .1,
+)
+
+mul-table-words : tie.Need-mul-table-words Inv-loop μ-loop
+mul-table-words c = search needs
+
+array-copy-out-table-words : tie.Need-array-copy-out-table-words Inv-loop μ-loop
+array-copy-out-table-words c = search needs
+
+table-words-requires : tie.Need-table-words-requires Inv-loop μ-loop
+table-words-requires c κs = search needs
+
+mul-put : tie.Need-mul-put Inv-loop μ-loop
+mul-put c = search needs
+
+add-put : tie.Need-add-put Inv-loop μ-loop
+add-put c = search needs
+
+slice-aggregate-put : tie.Need-slice-aggregate-put Inv-loop μ-loop
+slice-aggregate-put c = search needs
+
+put-requires : tie.Need-put-requires Inv-loop μ-loop
+put-requires c κs = search needs
+
+add-i : tie.Need-add-i Inv-loop μ-loop
+add-i c = search needs
+
+loop-less : tie.Need-loop-less Inv-loop μ-loop
+loop-less c = search needs
+
+loop-again : tie.Need-loop-again Inv-loop μ-loop
+loop-again c =
+    let l = c .before .before .before .before .before .before .before .before .loop in
+    let a = c .before .before .before .before .before .before .before .before .before .before .args in
+    let pre = c .before .before .before .before .before .before .before .before .before .before .pre in
+    let more = c .before .before .before .before .before .before .before .loop-test .taken in
+    let r = c .before .before .before .before .before .table-words .ensures in
+    let e = c .before .before .put .ensures in (
+      rows-turn tableWords noTable 8 length-table _ (l .words) _ _ (a .t3) (a .at) (l .i) _ (omega (arith, more, l .inv .3)) (omega (arith, more, pre)) refl (l .inv .0) r e,
+      omega arith,
+      omega (arith, c .before .before .put .kept .0, l .inv .2),
+      l .inv .3,
+    )
+
+same-length : tie.Need-same-length Inv-loop μ-loop
+same-length c = c .before .loop .inv .2
+
+returns : tie.Need-returns Inv-loop μ-loop
+returns c =
+    let l = c .before .loop in
+    let a = c .before .before .before .args in
+    let n = l .inv .3 in
+    (rows-done tableWords noTable 8 length-table _ (l .words) (a .t3) (a .at) (l .i) (omega (arith, n)) (l .inv .0), rows-length tableWords noTable 8 length-table (a .t3) ∙ omega (arith, n))
+
+pub put-tables-spec : {M : Type 1} → statement M
+put-tables-spec =
+    tie.close
+    (tie.spec
+    Inv-loop
+    μ-loop
+    loop-holds
+    mul-table-words
+    array-copy-out-table-words
+    table-words-requires
+    mul-put
+    add-put
+    slice-aggregate-put
+    put-requires
+    add-i
+    loop-less
+    loop-again
+    same-length
+    returns)

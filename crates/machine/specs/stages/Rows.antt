@@ -1,0 +1,92 @@
+-- For the code alone: what is written to a row, and an operation on a row whose form and soundness its caller carries.
+use Prim.Native.Nat.{ℕ, _+_, _*_, _≤_, _<_}
+use mathlib.Core.Path.{_≡_}
+use mathlib.Core.Bool.{Bool, true}
+use mathlib.Core.List.{List}
+use lib.Dec.{leb, ltb}
+use lib.ListN.{length, getD}
+use Rattle.types.specs.Pick.{pick, unless, both}
+use Rattle.types.specs.Span.{over}
+use Rattle.types.specs.Raw.{rawBytes}
+use Rattle.types.specs.declared.fuel.Fuel.{Fuel}
+use Rattle.types.specs.declared.limiter.Limiter.{Limiter}
+use Rattle.machine.specs.Machine.{Buffers, nextByte, nextCell, nextItem}
+use Rattle.machine.specs.Sound.{soundOver}
+use Rattle.machine.specs.Operation.{wellFormed}
+use Rattle.machine.specs.Step.{Performed, Stepped, perform, step}
+use Rattle.machine.specs.Words.{recordLength, segmentLength, tablesAt, segmentsAt, countsAt, rowLength, memoryWords, tableWords, segmentWords, stateWords, wordsOf, machineFrom}
+use Rattle.machine.specs.Row.{InRow, rowKeeps, rowAfter}
+use Rattle.machine.specs.declared.records.Machine.{Machine}
+use Rattle.machine.specs.declared.outcome.Outcome.{Outcome}
+use Rattle.machine.specs.declared.outcome.Change.{Change}
+use Rattle.machine.specs.declared.outcome.Change.the-variants as change
+use Rattle.machine.specs.declared.operation.Operation.{Operation}
+
+-- the next rooms start inside their buffers
+pub record Inside (m : Machine) (bytes cells items : ℕ) : Type 0 where
+  pub byte : nextByte m ≤ bytes
+  pub cell : nextCell m ≤ cells
+  pub item : nextItem m ≤ items
+
+unfoldable pub endsInside : Machine → ℕ → ℕ → ℕ → Bool
+endsInside m bytes cells items = both (leb (nextByte m) bytes) (both (leb (nextCell m) cells) (leb (nextItem m) items))
+
+-- what every fuel and limiter that a program holds is: costs of 32 bits, a script of 16 places with answers of 8 bits
+pub record Fits (f : Fuel) (p : Limiter) : Type 0 where
+  pub script : length (p .script) ≡ 16
+  pub copied : f .costs .copied < 4294967296
+  pub translated : f .costs .translated < 4294967296
+  pub validated : f .costs .validated < 4294967296
+  pub answers : (i : ℕ) → getD (p .script) i 0 < 256
+
+-- and every machine: 8 places of each kind
+pub record Shaped (m : Machine) : Type 0 where
+  pub memories : length (m .memories) ≡ 8
+  pub tables : length (m .tables) ≡ 8
+  pub segments : length (m .segments) ≡ 8
+  pub fits : Fits (m .fuel) (m .limiter)
+
+-- the record at a place is another; past the eighth place there is none
+unfoldable pub changedRow : List ℕ → Change → List ℕ
+changedRow l change.Nothing = l
+changedRow l (change.Memory i r) = pick (ltb i 8) (over l (recordLength * i) (memoryWords r)) l
+changedRow l (change.Table i r) = pick (ltb i 8) (over l (tablesAt + recordLength * i) (tableWords r)) l
+changedRow l (change.Segment i r) = pick (ltb i 8) (over l (segmentsAt + segmentLength * i) (segmentWords r)) l
+
+-- the row after an operation: the record that changed, the numbers in use, fuel and limiter
+unfoldable pub settledRow : List ℕ → Outcome → List ℕ
+settledRow l o = over (changedRow l (o .change)) countsAt (stateWords (o .counts) (o .fuel) (o .limiter))
+
+-- what settling a row leaves
+pub record Settles (l : List ℕ) (o : Outcome) (after : List ℕ) : Type 0 where
+  pub row : after ≡ settledRow l o
+  pub fits : Fits (o .fuel) (o .limiter)
+
+-- an operation's answer, row and buffers
+abbrev pub rowSettled : List ℕ → Performed → InRow
+rowSettled l p = record { answer = p .out .answer; words = settledRow l (p .out); buffers = p .buffers }
+
+-- what an operation leaves, of which only the next rooms' starts were tested
+pub record Goes (l : List ℕ) (b : Buffers) (op : Operation) (x : InRow) : Type 0 where
+  pub is : x ≡ rowSettled l (perform rawBytes (machineFrom l) b op)
+  pub fits : Fits (perform rawBytes (machineFrom l) b op .out .fuel) (perform rawBytes (machineFrom l) b op .out .limiter)
+
+-- a row holds the words of the machine that it says
+abbrev pub Holds : List ℕ → Type 0
+Holds l = l ≡ over l 0 (wordsOf (machineFrom l))
+
+-- an operation on a row of which only the length and the next rooms' starts are tested; on a sound row in form it is the step
+unfoldable pub proceedRow : ℕ → List ℕ → Buffers → Operation → InRow
+proceedRow r l b op =
+    unless (wellFormed op) (rowKeeps l b 18)
+    (unless (both (leb rowLength (length l)) (endsInside (machineFrom l) (length (b .bytes)) (length (b .cells)) (length (b .items)))) (rowKeeps l b 19)
+    (rowSettled l (perform r (machineFrom l) b op)))
+
+-- what a step in place leaves, and that the row says the machine after it
+pub record Steps (l : List ℕ) (x : InRow) (s : Stepped) : Type 0 where
+  pub row : x ≡ rowAfter l s
+  pub says : machineFrom (x .words) ≡ s .machine
+
+pub record Proceeds (l : List ℕ) (b : Buffers) (op : Operation) (x : InRow) : Type 0 where
+  pub is : x ≡ proceedRow rawBytes l b op
+  pub steps : rowLength ≤ length l → Holds l → soundOver (machineFrom l) b ≡ true → Steps l x (step rawBytes (machineFrom l) b op)

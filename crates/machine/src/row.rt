@@ -1,0 +1,394 @@
+// The records of a row by number, where the next room starts, and one operation on a machine in place.
+use super::form;
+use super::operate;
+use super::operation::Operation;
+use super::outcome::Change;
+use super::outcome::Outcome;
+use super::records;
+use super::records::Machine;
+use super::sound;
+use super::words;
+use super::words::RECORD;
+use super::words::ROW;
+use super::words::SEGMENT;
+use super::words::SEGMENTS;
+use super::words::TABLES;
+use memory::memory::Memory;
+use table::element::ElementSegment;
+use table::table::Table;
+use types::answer::Answer;
+use types::answer::Refusal;
+use types::answer::Value;
+use types::fuel::Fuel;
+use types::fuel::FuelCosts;
+ghost use mathlib.Core.Path.{_≡_};
+ghost use Prim.Native.Nat.{_+_, _≤_, _<_, _^_};
+ghost use lib.Dec.{leb};
+ghost use lib.ListN.{length};
+ghost use Rattle.types.specs.Answer.{refuse};
+ghost use Rattle.types.specs.Pick.{both};
+ghost use Rattle.types.specs.Raw.{rawBytes};
+ghost use Rattle.machine.specs.Machine.{buffers, memoryAt, tableAt, segmentAt, nextByte, nextCell, nextItem};
+ghost use Rattle.machine.specs.Words.{rowLength, machineFrom, inForm};
+ghost use Rattle.machine.specs.Row.{rowed, freshRow, inRow, operateRow, fuelOf, pagesAt, cellsAt, rowPages, rowCells};
+ghost use Rattle.machine.specs.Sound.{soundMachine};
+ghost use Rattle.machine.specs.declared.outcome.Change.the-variants as change;
+ghost use Rattle.machine.specs.stages.Rows.{Inside, endsInside, changedRow, Settles, Goes, Proceeds};
+
+// The record of a memory.
+pub(crate) fn memory_at(words: &[u64], i: usize) -> Memory
+    requires { ⌜ rowLength ≤ length (now words) ⌝ }
+    ensures { λ r. ⌜ r ≡ memoryAt (machineFrom (now (words .entry))) i ⌝ }
+{
+    if i < 8 {
+        return words::memory_from(words, RECORD * i);
+    }
+    records::no_memory()
+}
+
+// The record of a table.
+pub(crate) fn table_at(words: &[u64], i: usize) -> Table
+    requires { ⌜ rowLength ≤ length (now words) ⌝ }
+    ensures { λ r. ⌜ r ≡ tableAt (machineFrom (now (words .entry))) i ⌝ }
+{
+    if i < 8 {
+        return words::table_from(words, TABLES + RECORD * i);
+    }
+    records::no_table()
+}
+
+// The record of a segment.
+pub(crate) fn segment_at(words: &[u64], i: usize) -> ElementSegment
+    requires { ⌜ rowLength ≤ length (now words) ⌝ }
+    ensures { λ r. ⌜ r ≡ segmentAt (machineFrom (now (words .entry))) i ⌝ }
+{
+    if i < 8 {
+        return words::segment_from(words, SEGMENTS + SEGMENT * i);
+    }
+    records::no_segment()
+}
+
+// Where the next memory's room starts.
+pub(crate) fn next_byte(words: &[u64]) -> usize
+    requires { ⌜ (rowLength ≤ length (now words)) × (nextByte (machineFrom (now words)) < 2 ^ 64) ⌝ }
+    ensures { λ r. ⌜ r ≡ nextByte (machineFrom (now (words .entry))) ⌝ }
+{
+    let counts = words::counts_from(words);
+    let count = counts.memories;
+    if count == 0 {
+        return 0;
+    }
+    let last = memory_at(words, count - 1);
+    last.start + (last.room as usize)
+}
+
+// Where the next table's room starts.
+pub(crate) fn next_cell(words: &[u64]) -> usize
+    requires { ⌜ (rowLength ≤ length (now words)) × (nextCell (machineFrom (now words)) < 2 ^ 64) ⌝ }
+    ensures { λ r. ⌜ r ≡ nextCell (machineFrom (now (words .entry))) ⌝ }
+{
+    let counts = words::counts_from(words);
+    let count = counts.tables;
+    if count == 0 {
+        return 0;
+    }
+    let last = table_at(words, count - 1);
+    last.start + (last.room as usize)
+}
+
+// Where the next segment's places start.
+pub(crate) fn next_item(words: &[u64]) -> usize
+    requires { ⌜ (rowLength ≤ length (now words)) × (nextItem (machineFrom (now words)) < 2 ^ 64) ⌝ }
+    ensures { λ r. ⌜ r ≡ nextItem (machineFrom (now (words .entry))) ⌝ }
+{
+    let counts = words::counts_from(words);
+    let count = counts.segments;
+    if count == 0 {
+        return 0;
+    }
+    let last = segment_at(words, count - 1);
+    last.start + (last.places as usize)
+}
+
+// Whether the next rooms start inside buffers of these lengths.
+fn ends_inside(words: &[u64], bytes: usize, cells: usize, items: usize) -> bool
+    requires { ⌜ rowLength ≤ length (now words) ⌝ }
+    ensures { λ r. ⌜ r ≡ endsInside (machineFrom (now (words .entry))) bytes cells items ⌝ }
+{
+    if !byte_inside(words, bytes) {
+        return false;
+    }
+    if !cell_inside(words, cells) {
+        return false;
+    }
+    item_inside(words, items)
+}
+
+// Whether a room ends within so many cells; the sum may pass 2^64.
+fn room_inside(start: usize, room: u64, len: usize) -> bool
+    ensures { λ r. ⌜ r ≡ leb (start + room) len ⌝ }
+{
+    if len < start {
+        return false;
+    }
+    room <= ((len - start) as u64)
+}
+
+fn byte_inside(words: &[u64], bytes: usize) -> bool
+    requires { ⌜ rowLength ≤ length (now words) ⌝ }
+    ensures { λ r. ⌜ r ≡ leb (nextByte (machineFrom (now (words .entry)))) bytes ⌝ }
+{
+    let counts = words::counts_from(words);
+    let count = counts.memories;
+    if count == 0 {
+        return true;
+    }
+    let last = memory_at(words, count - 1);
+    room_inside(last.start, last.room, bytes)
+}
+
+fn cell_inside(words: &[u64], cells: usize) -> bool
+    requires { ⌜ rowLength ≤ length (now words) ⌝ }
+    ensures { λ r. ⌜ r ≡ leb (nextCell (machineFrom (now (words .entry)))) cells ⌝ }
+{
+    let counts = words::counts_from(words);
+    let count = counts.tables;
+    if count == 0 {
+        return true;
+    }
+    let last = table_at(words, count - 1);
+    room_inside(last.start, last.room, cells)
+}
+
+fn item_inside(words: &[u64], items: usize) -> bool
+    requires { ⌜ rowLength ≤ length (now words) ⌝ }
+    ensures { λ r. ⌜ r ≡ leb (nextItem (machineFrom (now (words .entry)))) items ⌝ }
+{
+    let counts = words::counts_from(words);
+    let count = counts.segments;
+    if count == 0 {
+        return true;
+    }
+    let last = segment_at(words, count - 1);
+    room_inside(last.start, last.places, items)
+}
+
+fn put_memory(words: &mut [u64], i: usize, memory: Memory)
+    requires { ⌜ rowLength ≤ length (now words) ⌝ }
+    ensures { λ _. ⌜ now (words .exit) ≡ changedRow (now (words .entry)) (change.Memory i memory) ⌝ }
+{
+    if i < 8 {
+        let row = words::memory_words(memory);
+        words::put(words, RECORD * i, &row);
+    }
+}
+
+fn put_table(words: &mut [u64], i: usize, table: Table)
+    requires { ⌜ rowLength ≤ length (now words) ⌝ }
+    ensures { λ _. ⌜ now (words .exit) ≡ changedRow (now (words .entry)) (change.Table i table) ⌝ }
+{
+    if i < 8 {
+        let row = words::table_words(table);
+        words::put(words, TABLES + RECORD * i, &row);
+    }
+}
+
+fn put_segment(words: &mut [u64], i: usize, segment: ElementSegment)
+    requires { ⌜ rowLength ≤ length (now words) ⌝ }
+    ensures { λ _. ⌜ now (words .exit) ≡ changedRow (now (words .entry)) (change.Segment i segment) ⌝ }
+{
+    if i < 8 {
+        let row = words::segment_words(segment);
+        words::put(words, SEGMENTS + SEGMENT * i, &row);
+    }
+}
+
+// The record that changed goes back to its place.
+fn put_change(words: &mut [u64], change: Change)
+    requires { ⌜ rowLength ≤ length (now words) ⌝ }
+    ensures { λ _. ⌜ now (words .exit) ≡ changedRow (now (words .entry)) change ⌝ }
+{
+    match change {
+        Change::Nothing => {}
+        Change::Memory(i, memory) => put_memory(words, i, memory),
+        Change::Table(i, table) => put_table(words, i, table),
+        Change::Segment(i, segment) => put_segment(words, i, segment),
+    }
+}
+
+// The row after an operation.
+fn settle(words: &mut [u64], outcome: Outcome)
+    requires { ⌜ rowLength ≤ length (now words) ⌝ }
+    ensures { λ _. ⌜ Settles (now (words .entry)) outcome (now (words .exit)) ⌝ }
+{
+    let change = outcome.change;
+    let counts = outcome.counts;
+    let fuel = outcome.fuel;
+    let limiter = outcome.limiter;
+    put_change(words, change);
+    words::put_state(words, counts, fuel, limiter);
+}
+
+// The operation's own checks, and what it changed.
+fn go(
+    words: &mut [u64],
+    bytes: &mut [u8],
+    cells: &mut [u64],
+    items: &mut [u64],
+    op: Operation,
+) -> Answer
+    requires { ⌜ (rowLength ≤ length (now words)) × Inside (machineFrom (now words)) (length (now bytes)) (length (now cells)) (length (now items)) ⌝ }
+    ensures { λ r. ⌜ Goes (now (words .entry)) (buffers (now (bytes .entry)) (now (cells .entry)) (now (items .entry))) op
+        (inRow r (now (words .exit)) (now (bytes .exit)) (now (cells .exit)) (now (items .exit))) ⌝ }
+{
+    let outcome = operate::perform(words, bytes, cells, items, op);
+    let answer = outcome.answer;
+    settle(words, outcome);
+    answer
+}
+
+fn refused(number: u8) -> Answer
+    ensures { λ r. ⌜ r ≡ refuse number 0 ⌝ }
+{
+    Answer::Refusal(Refusal { number, amount: 0 })
+}
+
+// One operation on a row whose form and soundness the caller carries from call to call: only its length and the next rooms' starts are tested.
+pub fn proceed(
+    words: &mut [u64],
+    bytes: &mut [u8],
+    cells: &mut [u64],
+    items: &mut [u64],
+    op: Operation,
+) -> Answer
+    ensures { λ r. ⌜ Proceeds (now (words .entry)) (buffers (now (bytes .entry)) (now (cells .entry)) (now (items .entry))) op
+        (inRow r (now (words .exit)) (now (bytes .exit)) (now (cells .exit)) (now (items .exit))) ⌝ }
+{
+    if !op.is_well_formed() {
+        return refused(18);
+    }
+    if words.len() < ROW {
+        return refused(19);
+    }
+    if !ends_inside(words, bytes.len(), cells.len(), items.len()) {
+        return refused(19);
+    }
+    go(words, bytes, cells, items, op)
+}
+
+// One operation on a machine in place: 18, 19 for a row out of form or unsound, then the rest.
+pub fn operate(
+    words: &mut [u64],
+    bytes: &mut [u8],
+    cells: &mut [u64],
+    items: &mut [u64],
+    op: Operation,
+) -> Answer
+    ensures { λ r. ⌜ inRow r (now (words .exit)) (now (bytes .exit)) (now (cells .exit)) (now (items .exit))
+        ≡ operateRow rawBytes (now (words .entry)) (buffers (now (bytes .entry)) (now (cells .entry)) (now (items .entry))) op ⌝ }
+{
+    if !op.is_well_formed() {
+        return refused(18);
+    }
+    if !form::in_form(words) {
+        return refused(19);
+    }
+    if !sound::is_sound(words, bytes.len(), cells.len(), items.len()) {
+        return refused(19);
+    }
+    go(words, bytes, cells, items, op)
+}
+
+// Whether a row is in form and its records are sound over buffers of these lengths.
+pub fn is_ready(words: &[u64], bytes: usize, cells: usize, items: usize) -> bool
+    ensures { λ r. ⌜ r ≡ both (inForm (now (words .entry))) (soundMachine (machineFrom (now (words .entry))) bytes cells items) ⌝ }
+{
+    if !form::in_form(words) {
+        return false;
+    }
+    sound::is_sound(words, bytes, cells, items)
+}
+
+// A fresh machine in place: 0, or 19 where the row is too short.
+pub fn fresh(words: &mut [u64], metering: bool, costs: FuelCosts) -> u8
+    ensures { λ r. ⌜ rowed r (now (words .exit)) ≡ freshRow (now (words .entry)) metering costs ⌝ }
+{
+    if words.len() < ROW {
+        return 19;
+    }
+    words::put_machine(words, Machine::new(metering, costs));
+    0
+}
+
+// The fuel of a row; a row that is too short has none.
+pub fn fuel_of(words: &[u64]) -> Fuel
+    ensures { λ r. ⌜ r ≡ fuelOf (now (words .entry)) ⌝ }
+{
+    if words.len() < ROW {
+        return Fuel::new(
+            false,
+            FuelCosts {
+                copied: 0,
+                translated: 0,
+                validated: 0,
+            },
+        );
+    }
+    words::fuel_from(words)
+}
+
+fn pages_at(words: &[u64], i: usize) -> Answer
+    requires { ⌜ (rowLength ≤ length (now words)) × (i < 8) ⌝ }
+    ensures { λ r. ⌜ r ≡ pagesAt (now (words .entry)) i ⌝ }
+{
+    if !form::record_in_form(words, RECORD * i) {
+        return refused(19);
+    }
+    let memory = memory_at(words, i);
+    Answer::Value(Value::Number(memory.pages()))
+}
+
+fn cells_at(words: &[u64], i: usize) -> Answer
+    requires { ⌜ (rowLength ≤ length (now words)) × (i < 8) ⌝ }
+    ensures { λ r. ⌜ r ≡ cellsAt (now (words .entry)) i ⌝ }
+{
+    if !form::record_in_form(words, TABLES + RECORD * i) {
+        return refused(19);
+    }
+    let table = table_at(words, i);
+    Answer::Value(Value::Number(table.size))
+}
+
+// A memory's size in pages: one record is read.
+pub fn memory_pages(words: &[u64], number: u64) -> Answer
+    ensures { λ r. ⌜ r ≡ rowPages (now (words .entry)) number ⌝ }
+{
+    if words.len() < ROW {
+        return refused(19);
+    }
+    let counts = words::counts_from(words);
+    if (counts.memories as u64) <= number {
+        return refused(16);
+    }
+    if 8 <= number {
+        return refused(16);
+    }
+    pages_at(words, number as usize)
+}
+
+// A table's size in cells, likewise.
+pub fn table_cells(words: &[u64], number: u64) -> Answer
+    ensures { λ r. ⌜ r ≡ rowCells (now (words .entry)) number ⌝ }
+{
+    if words.len() < ROW {
+        return refused(19);
+    }
+    let counts = words::counts_from(words);
+    if (counts.tables as u64) <= number {
+        return refused(16);
+    }
+    if 8 <= number {
+        return refused(16);
+    }
+    cells_at(words, number as usize)
+}
