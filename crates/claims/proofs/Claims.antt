@@ -1,4 +1,6 @@
 -- The claims hold. Assumes nothing.
+use mathlib.Core.Path.{sym}
+use Rattle.machine.proofs.Formed.{form-holds}
 use Rattle.machine.proofs.Kept.{step-sound, fresh-sound}
 use Rattle.machine.proofs.Apart.{others-stay, only-sizes}
 use Rattle.lines.proofs.Text.{read-write, read-unique}
@@ -31,9 +33,12 @@ claims =
       stays-sound = step-sound;
       never-unsound = never-unsound;
       operate-is-step = λ κs a x s p. p;
+      row-is-step = λ κs a x s p. p;
+      form-holds = λ l e. sym (form-holds l e);
       lent-is-step = λ κs a x s p. p;
       session-is-run = session-is-run;
       replies-run = replies-run;
+      piece-is-session = λ κs a x s p. p;
       any-cut = fed-whole;
       read-write = read-write;
       read-unique = read-unique;

@@ -1,6 +1,6 @@
 -- A session's bytes are the answer lines of the run of what its lines say. Assumes nothing.
 use Prim.Native.Nat.{ℕ}
-use mathlib.Core.Path.{_≡_, refl, ap, _∙_}
+use mathlib.Core.Path.{_≡_, refl, ap}
 use mathlib.Core.Bool.{true, false}
 use mathlib.Core.List.{List, [], _∷_, _++_}
 use Rattle.types.specs.Pick.{pick}
@@ -12,7 +12,7 @@ use Rattle.machine.specs.declared.records.Machine.{Machine}
 use Rattle.machine.specs.declared.operation.Operation.{Operation}
 use Rattle.lines.specs.AnswerLine.{answerLine}
 use Rattle.lines.specs.Code.{readLine}
-use Rattle.lines.specs.Session.{Held, Turn, costsOf, turnBy, turnOf, textOf, linesOf, answersOf, session}
+use Rattle.lines.specs.Session.{Held, costsOf, turnBy, turnOf, textOf, linesOf, answersOf, session}
 use Rattle.lines.specs.declared.code.Read.{Read}
 use Rattle.lines.specs.declared.code.Read.the-variants as read
 use Rattle.claims.specs.Sessions.{replies, answersIn, readAll, operationsIn, lined, replyText, runText, sessionText}

@@ -4,11 +4,17 @@ use contract.Lifetimes.{Lfts}
 use borrow.Fn.Kinds.{Dens, resT, endedOf}
 use denote.Triple.Clauses.{AtExit}
 use denote.Ref.{now}
-use Rattle.types.specs.Names.{rawBytes, FuelCosts}
+use Rattle.types.specs.Names.{over, rawBytes, FuelCosts}
 use Rattle.machine.specs.Names.{Buffers, buffers, freshMachine, soundReferences, soundOver, stepped, step, run, OthersStay, OnlySizes}
 use Rattle.machine.specs.Names.{Machine, Operation}
 use Rattle.machine.proofs.records.Machine.operate.Reads as operate-reads
 use Rattle.machine.proofs.records.Machine.operate.Kinds as operate-kinds
+use Rattle.machine.specs.{Words.wordsOf, Words.machineFrom, Words.inForm, Row.inRow, Row.operateRow}
+use Rattle.machine.proofs.row.operate.Reads as row-reads
+use Rattle.machine.proofs.row.operate.Kinds as row-kinds
+use Rattle.lines.proofs.session.piece.Reads as piece-reads
+use Rattle.lines.proofs.session.piece.Kinds as piece-kinds
+use Rattle.lines.specs.Progress.{progressed, pieceIn}
 use Rattle.lines.specs.{Code.readLine, Writing.writeLine, Sayable.Sayable, Pieces.Feed, Pieces.fedAll, Pieces.whole, declared.code.Read.Read}
 use Rattle.lines.specs.Session.{Held, costsOf, linesOf, session}
 use Rattle.lines.proofs.Pieces.{started}
@@ -63,6 +69,13 @@ pub record Claims : Type 0 where
       → operate-reads.Post κs a x s
       → stepped (x .answer) (x .machine) (now (s .1 .0)) (now (s .1 .1 .0)) (now (s .1 .1 .1 .0))
       ≡ step rawBytes (a .0) (buffers (now (a .1 .0)) (now (a .1 .1 .0)) (now (a .1 .1 .1 .0))) (a .1 .1 .1 .1 .0)
+  -- In place, `row::operate`: 18, 19 for a row out of form, else `step` on the machine that the row says, whose words then stand in the row.
+  pub row-is-step : (κs : Lfts 4) (a : Dens κs row-kinds.ps) (x : resT row-kinds.r κs .Denot) (s : AtExit (endedOf 4 row-kinds.ps row-kinds.r) κs)
+      → row-reads.Post κs a x s
+      → inRow x (now (s .0)) (now (s .1 .0)) (now (s .1 .1 .0)) (now (s .1 .1 .1 .0))
+      ≡ operateRow rawBytes (now (a .0)) (buffers (now (a .1 .0)) (now (a .1 .1 .0)) (now (a .1 .1 .1 .0))) (a .1 .1 .1 .1 .0)
+  -- A row in form holds exactly the words of the machine that it says.
+  pub form-holds : (l : List ℕ) → inForm l ≡ true → over l 0 (wordsOf (machineFrom l)) ≡ l
   -- The same of `operate_kept`, which runs an operation through records in lent lists and lent fuel.
   pub lent-is-step : (κs : Lfts 3) (a : Dens κs lent-kinds.ps) (x : resT lent-kinds.r κs .Denot) (s : AtExit (endedOf 3 lent-kinds.ps lent-kinds.r) κs)
       → lent-reads.Post κs a x s
@@ -72,6 +85,11 @@ pub record Claims : Type 0 where
   pub session-is-run : (r : ℕ) (m : Machine) (b : Buffers) (l : List ℕ)
       → session r (record { machine = m; first = true; buffers = b }) l ≡ sessionText r m b (readAll (linesOf l))
   pub replies-run : (r : ℕ) (m : Machine) (b : Buffers) (ops : List Operation) → answersIn (replies r m b ops) ≡ run r m b ops .answers
+  -- What `piece` gives back, and leaves in the row, the buffers and the output: 19 for a row out of form or unsound, else the piece's lines.
+  pub piece-is-session : (κs : Lfts 6) (a : Dens κs piece-kinds.ps) (x : resT piece-kinds.r κs .Denot) (s : AtExit (endedOf 6 piece-kinds.ps piece-kinds.r) κs)
+      → piece-reads.Post κs a x s
+      → progressed x (now (s .1 .0)) (now (s .1 .1 .0)) (now (s .1 .1 .1 .0)) (now (s .1 .1 .1 .1 .0)) (now (s .1 .1 .1 .1 .1 .1 .0))
+      ≡ pieceIn (a .0) (now (a .1 .0)) (buffers (now (a .1 .1 .0)) (now (a .1 .1 .1 .0)) (now (a .1 .1 .1 .1 .0))) (now (a .1 .1 .1 .1 .1 .0)) (now (a .1 .1 .1 .1 .1 .1 .0))
   -- However the input is cut, the bytes sent are the session's.
   pub any-cut : (r : ℕ) (h : Held) (xs : List Feed) → fedAll r (started h) xs .skip ≡ false → fedAll r (started h) xs .tail ≡ []
       → fedAll r (started h) xs .sent ≡ session r h (whole xs)

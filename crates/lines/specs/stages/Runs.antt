@@ -1,4 +1,4 @@
--- For the code alone: what the functions of a session give back, beside the buffers that they are lent.
+-- For the code alone: what the functions of a session give back, beside the row and the buffers that they are lent.
 use Prim.Native.Nat.{ℕ, _+_, _-_, _/_, _≤_}
 use mathlib.Core.Path.{_≡_}
 use mathlib.Core.Bool.{true}
@@ -8,40 +8,57 @@ use lib.ListN.{length, drop}
 use Rattle.types.specs.Pick.{pick}
 use Rattle.types.specs.Span.{over}
 use Rattle.types.specs.Raw.{rawBytes}
-use Rattle.machine.specs.Machine.{buffers}
-use Rattle.machine.specs.declared.operate.Operated.{Operated}
+use Rattle.types.specs.declared.answer.Answer.{Answer}
+use Rattle.machine.specs.Machine.{Buffers}
+use Rattle.machine.specs.Sound.{soundOver}
+use Rattle.machine.specs.Words.{rowLength, machineFrom}
+use Rattle.machine.specs.stages.Rows.{Holds}
 use Rattle.lines.specs.Line.{longest}
 use Rattle.lines.specs.AnswerLine.{answerBytes}
-use Rattle.lines.specs.Session.{Held, Turn, turned}
+use Rattle.lines.specs.Session.{Held, turned, turnBy}
 use Rattle.lines.specs.Pieces.{lfAt, Run, wholeLines}
-use Rattle.lines.specs.Progress.{Progressed, sessionAs}
+use Rattle.lines.specs.Progress.{Progressed, rowWith, sessionAs}
+use Rattle.lines.specs.declared.code.Read.{Read}
 use Rattle.lines.specs.declared.session.Session.{Session}
 use Rattle.lines.specs.declared.session.Progress.{Progress}
 
--- what a line gave, and the buffers after it
-abbrev pub turnedBy : Operated → List ℕ → List ℕ → List ℕ → Turn
-turnedBy x bytes cells items = turned (x .answer) (x .machine) (buffers bytes cells items)
+-- what is tested once a piece and carried from line to line: the row is long enough and holds its machine's words, and that machine is sound
+pub record Ready (l : List ℕ) (b : Buffers) : Type 0 where
+  pub long : rowLength ≤ length l
+  pub holds : Holds l
+  pub sound : soundOver (machineFrom l) b ≡ true
+
+-- what a row and buffers are held as
+abbrev pub heldIn : List ℕ → Buffers → Held
+heldIn l b = record { machine = machineFrom l; first = true; buffers = b }
+
+-- what the first line gave, on a row that is ready before it and after it
+pub record Turned (l : List ℕ) (b : Buffers) (said : Read) (a : Answer) (after : List ℕ) (c : Buffers) : Type 0 where
+  pub is : turned a (machineFrom after) c ≡ turnBy rawBytes (heldIn l b) said
+  pub ready : Ready after c
+  pub behind : drop rowLength after ≡ drop rowLength l
 
 -- a run, where so many bytes were used and so many written before it
-unfoldable pub endOf : ℕ → ℕ → List ℕ → Run → Progressed
-endOf from put out x =
+unfoldable pub endOf : List ℕ → ℕ → ℕ → List ℕ → Run → Progressed
+endOf l from put out x =
     record {
-      progress = record { session = sessionAs (x .held) (x .skip); used = from + x .used; wrote = put + length (x .out) };
+      progress = record { number = 0; session = sessionAs (x .held) (x .skip); used = from + x .used; wrote = put + length (x .out) };
+      words = rowWith l (x .held .machine);
       buffers = x .held .buffers;
       out = over out put (x .out);
     }
 
 -- what a run over the whole lines from a place on gives
-pub record WholeRan (p : Progressed) (from put : ℕ) (h : Held) (out input : List ℕ) : Type 0 where
-  pub is : p ≡ endOf from put out (wholeLines ((length out - put) / answerBytes) rawBytes h (drop from input))
+pub record WholeRan (p : Progressed) (l : List ℕ) (from put : ℕ) (h : Held) (out input : List ℕ) : Type 0 where
+  pub is : p ≡ endOf l from put out (wholeLines ((length out - put) / answerBytes) rawBytes h (drop from input))
   pub used : p .progress .used ≤ length input
 
 -- a session that goes on inside a line that is too long
 abbrev pub skipping : Session → Session
-skipping s = record { machine = s .machine; first = s .first; skip = true }
+skipping s = record { first = s .first; skip = true }
 
 -- the end of a run: what it left, if that is a line that is too long already, is passed over
 unfoldable pub closedOf : List ℕ → Progress → Progress
 closedOf l p =
     pick (ltb (p .used + lfAt (drop (p .used) l)) (length l)) p
-    (pick (leb (length l - p .used) longest) p (record { session = skipping (p .session); used = length l; wrote = p .wrote }))
+    (pick (leb (length l - p .used) longest) p (record { number = p .number; session = skipping (p .session); used = length l; wrote = p .wrote }))

@@ -6,8 +6,6 @@ use lib.ListN.{length}
 use borrow.Author.Needs.{needs}
 use Rattle.session.proofs.keep.Statement.{statement}
 use Rattle.session.proofs.keep.Tie as tie
-use Rattle.session.proofs.keep.Reads as reads
-use Rattle.session.proofs.keep.Lts as lts
 
 abbrev Inv-loop : tie.InvT-loop
 Inv-loop input₀ from end to₀ at₀ input to at =

@@ -1,3 +1,4 @@
+-- `lines::session::close` meets its contract. Assumes nothing.
 use Rattle.lines.proofs.Runs.{closed-in, closed-short, closed-long}
 use borrow.Author.Needs.{needs}
 use Rattle.lines.proofs.session.close.Statement.{statement}
@@ -19,4 +20,11 @@ returns-3 : tie.Need-returns-3
 returns-3 c = closed-long _ _ _ (c .before .before .before .find-lf .ensures) (c .before .before .if1 .left) (c .before .if2 .left)
 
 pub close-spec : {M : Type 1} → statement M
-close-spec = tie.close (tie.spec find-lf-requires returns sub-if2 returns-2 returns-3)
+close-spec =
+    tie.close
+    (tie.spec
+    find-lf-requires
+    returns
+    sub-if2
+    returns-2
+    returns-3)

@@ -1,38 +1,42 @@
 -- `lines::session::more_lines` meets its contract. Assumes nothing.
 use mathlib.Core.Path.{_≡_, refl, ap, _∙_}
+use native.Mathlib.Omega.{arith}
+use denote.Ref.{now}
+use Rattle.machine.specs.Words.{machineFrom}
+use Rattle.machine.specs.Machine.{buffers}
 use mathlib.Core.Bool.{false}
 use mathlib.Core.Logic.{⊎-elim}
 use Prim.Native.Nat.{_≤_, _+_, _-_, _*_, _/_}
-use native.Mathlib.Omega.{arith}
-use borrow.Author.Needs.{needs}
 use lib.ListN.{length, drop}
 use Rattle.types.specs.Raw.{rawBytes}
+use Rattle.machine.specs.Words.{rowLength}
 use Rattle.lines.specs.AnswerLine.{answerBytes}
 use Rattle.lines.specs.Session.{heldOn}
 use Rattle.lines.specs.Pieces.{wholeLines}
-use Rattle.lines.specs.Progress.{progressed}
-use Rattle.lines.specs.stages.Runs.{endOf}
+use Rattle.lines.specs.stages.Runs.{Ready, endOf}
 use Rattle.lines.specs.declared.session.Progress.{Progress}
 use Rattle.lines.proofs.Runs.{turned-line, turn-does, turn-later, turn-on, run-stop, run-full, came}
+use Rattle.lines.proofs.Carried.{proceed-ready, proceed-behind, proceed-step, ready-came, reached-row, row-line}
+use borrow.Author.Needs.{needs}
 use Rattle.lines.proofs.session.more_lines.Statement.{statement}
 use Rattle.lines.proofs.session.more_lines.Tie as tie
 
 abbrev Inv-loop : tie.InvT-loop
-Inv-loop t bytes₀ cells₀ items₀ input out₀ from put last₀ used₀ wrote₀ room₀ bytes cells items out last used wrote room =
+Inv-loop t words₀ bytes₀ cells₀ items₀ input out₀ from put used₀ wrote₀ room₀ words bytes cells items out used wrote room =
     (used ≤ length input) × (wrote + answerBytes * room ≤ length out) ×
-    (length bytes ≡ length bytes₀) × (length cells ≡ length cells₀) × (length items ≡ length items₀) × (length out ≡ length out₀) ×
-    (endOf used wrote out (wholeLines room rawBytes (heldOn (last .machine) false bytes cells items) (drop used input))
-    ≡ endOf from put out₀ (wholeLines ((length out₀ - put) / answerBytes) rawBytes (heldOn (last₀ .machine) false bytes₀ cells₀ items₀) (drop from input)))
+    (length bytes ≡ length bytes₀) × (length cells ≡ length cells₀) × (length items ≡ length items₀) × (length out ≡ length out₀) × (length words ≡ length words₀) ×
+    Ready words (buffers bytes cells items) × (drop rowLength words ≡ drop rowLength words₀) ×
+    (endOf words₀ used wrote out (wholeLines room rawBytes (heldOn (machineFrom words) false bytes cells items) (drop used input))
+    ≡ endOf words₀ from put out₀ (wholeLines ((length out₀ - put) / answerBytes) rawBytes (heldOn (machineFrom words₀) false bytes₀ cells₀ items₀) (drop from input)))
 
 abbrev μ-loop : tie.MeasureT-loop
-μ-loop t bytes₀ cells₀ items₀ input out₀ from put last₀ used₀ wrote₀ room₀ bytes cells items out last used wrote room =
-    room
+μ-loop t words₀ bytes₀ cells₀ items₀ input out₀ from put used₀ wrote₀ room₀ words bytes cells items out used wrote room = room
 
 sub-room : tie.Need-sub-room Inv-loop μ-loop
 sub-room c = omega arith
 
 loop-holds : tie.Need-loop-holds Inv-loop μ-loop
-loop-holds c = (omega arith, omega arith, refl, refl, refl, refl, refl)
+loop-holds c = (omega arith, omega arith, refl, refl, refl, refl, refl, c .before .before .before .before .before .before .pre .3, refl, refl)
 
 find-lf-requires : tie.Need-find-lf-requires Inv-loop μ-loop
 find-lf-requires c κs = omega arith
@@ -52,15 +56,16 @@ same-length-3 c = search needs
 same-length-4 : tie.Need-same-length-4 Inv-loop μ-loop
 same-length-4 c = search needs
 
+same-length-5 : tie.Need-same-length-5 Inv-loop μ-loop
+same-length-5 c = search needs
+
 returns : tie.Need-returns Inv-loop μ-loop
 returns c =
-    let d = c .before .before in
-    let l = d .before .before .loop in
+    let l = c .before .before .before .before .loop in
     let stop = c .stopped .ensures in
     record {
-      is = ap (λ (p : Progress). progressed p (l .bytes) (l .cells) (l .items) (l .out)) stop
-          ∙ run-stop rawBytes _ (l .used) (l .wrote) (l .room) _ _ (l .out) (d .before .loop-test .taken) (l .inv .0) (d .find-lf .ensures)
-          (c .before .if1 .taken) (l .inv .6);
+      is = reached-row (now (c .before .before .before .before .before .before .before .before .before .before .before .args .words)) (l .words) (l .bytes) (l .cells) (l .items) (l .out) false (l .used) (l .wrote) (l .inv .7) (l .inv .8) stop
+          ∙ run-stop _ rawBytes _ (l .used) (l .wrote) (l .room) _ _ (l .out) (c .before .before .before .loop-test .taken) (l .inv .0) (c .before .before .find-lf .ensures) (c .before .if1 .taken) (l .inv .9);
       used = omega (arith, ap (λ (p : Progress). p .used) stop, l .inv .0);
     }
 
@@ -82,29 +87,29 @@ operation-of-requires c κs = search needs
 enum-known-said : tie.Need-enum-known-said Inv-loop μ-loop
 enum-known-said c = search needs
 
-operate-requires : tie.Need-operate-requires Inv-loop μ-loop
-operate-requires c κs = search needs
+proceed-requires : tie.Need-proceed-requires Inv-loop μ-loop
+proceed-requires c κs = search needs
+
+fuel-of-requires : tie.Need-fuel-of-requires Inv-loop μ-loop
+fuel-of-requires c κs = search needs
 
 put-answer-requires : tie.Need-put-answer-requires Inv-loop μ-loop
-put-answer-requires c κs =
-    let d = c .before .before .before .before .before .before .before .before .before .before in
-    let e = d .before .before .before .before .before .before .before .before .before .before in
-    omega (arith, e .before .loop .inv .1, e .loop-test .taken)
+put-answer-requires c κs = omega (arith, c .before .before .before .before .before .before .before .before .before .before .before .before .before .before .before .before .before .before .before .before .before .before .before .before .before .loop .inv .1, c .before .before .before .before .before .before .before .before .before .before .before .before .before .before .before .before .before .before .before .before .before .before .before .before .loop-test .taken)
+
+fuel-of-requires-2 : tie.Need-fuel-of-requires-2 Inv-loop μ-loop
+fuel-of-requires-2 c κs = search needs
 
 refused-requires : tie.Need-refused-requires Inv-loop μ-loop
 refused-requires c κs = tt
 
 put-answer-requires-2 : tie.Need-put-answer-requires-2 Inv-loop μ-loop
-put-answer-requires-2 c κs = let d = c .before .before .before .before .before .before .before .before .before in omega (arith, d .before .loop .inv .1, d .loop-test .taken)
+put-answer-requires-2 c κs = omega (arith, c .before .before .before .before .before .before .before .before .before .before .before .loop .inv .1, c .before .before .before .before .before .before .before .before .before .before .loop-test .taken)
 
 add-used : tie.Need-add-used Inv-loop μ-loop
-add-used c = let d = c .before .before .before .before in omega (arith, d .if1 .left, d .before .before .before .before .before .before .before .before .before .good .1 .1 .1 .1 .1 .0 .0)
+add-used c = omega (arith, c .before .before .before .before .if1 .left, c .before .before .before .before .before .before .before .before .before .before .before .before .before .before .good .1 .1 .1 .1 .1 .0 .0)
 
 add-wrote : tie.Need-add-wrote Inv-loop μ-loop
-add-wrote c =
-    let d = c .before .before .before .before .before .before in
-    let l = d .before .loop in
-    omega (arith, l .inv .1, d .loop-test .taken, l .inv .5, d .before .before .before .before .before .before .before .good .1 .1 .1 .1 .1 .1 .0 .0)
+add-wrote c = omega (arith, c .before .before .before .before .before .before .before .loop .inv .1, c .before .before .before .before .before .before .loop-test .taken, c .before .before .before .before .before .before .before .loop .inv .5, c .before .before .before .before .before .before .before .before .before .before .before .before .before .before .good .1 .1 .1 .1 .1 .1 .0 .0)
 
 sub-room-2 : tie.Need-sub-room-2 Inv-loop μ-loop
 sub-room-2 c = omega (arith, c .before .before .before .before .before .before .loop-test .taken)
@@ -114,44 +119,51 @@ loop-less c = omega (arith, c .before .before .before .before .before .before .l
 
 loop-again : tie.Need-loop-again Inv-loop μ-loop
 loop-again c =
-    let d = c .before .before .before .before in
-    let l = d .before .before .before .loop in
-    let test = d .before .before .loop-test .taken in
-    let lf-is = d .before .find-lf .ensures in
+    let l = c .before .before .before .before .before .before .before .loop in
+    let b = buffers (l .bytes) (l .cells) (l .items) in
+    let test = c .before .before .before .before .before .before .loop-test .taken in
+    let lf-is = c .before .before .before .before .before .find-lf .ensures in
+    let inside = c .before .before .before .before .if1 .left in
     let read = c .before .before .read-by-table .ensures in
     let said = c .before .operation-of .ensures in
+    let r = l .inv .7 in
     ⊎-elim
-    (λ a. (
-      omega (arith, d .if1 .left),
-      omega (arith, l .inv .1, test, ap length (a .21), a .16 .given),
-      omega (arith, l .inv .2, ap length (a .18), a .7 .given),
-      omega (arith, l .inv .3, ap length (a .19), a .9 .given),
-      omega (arith, l .inv .4, ap length (a .20), a .11 .given),
-      omega (arith, l .inv .5, ap length (a .21), a .16 .given),
-      came _ _ _ _ (a .18) (a .19) (a .20) (a .21) (a .22)
-          (turn-on rawBytes _ (l .used) (l .wrote) (l .room) _ _ (l .out) _ _ test (l .inv .1) (l .inv .0) lf-is (d .if1 .left)
-          (turned-line _ _ read said (turn-does (l .last .machine) false _ _ _ (a .1 .given .1) (a .6 .ensures)))
-          (a .15 .ensures) (l .inv .6)),
+    (λ a.
+    let p = a .7 .ensures in
+    let ready = proceed-ready (l .words) b _ r p in (
+      omega (arith, inside),
+      omega (arith, l .inv .1, test, ap length (a .26), a .20 .given),
+      omega (arith, l .inv .2, ap length (a .23), a .10 .given),
+      omega (arith, l .inv .3, ap length (a .24), a .12 .given),
+      omega (arith, l .inv .4, ap length (a .25), a .14 .given),
+      omega (arith, l .inv .5, ap length (a .26), a .20 .given),
+      omega (arith, l .inv .6, ap length (a .22), a .8 .given),
+      ready-came (a .22) (a .23) (a .24) (a .25) ready,
+      ap (drop rowLength) (a .22) ∙ proceed-behind (l .words) b _ r p ∙ l .inv .8,
+      came _ _ _ _ _ (a .22) (a .23) (a .24) (a .25) (a .26)
+          (turn-on _ rawBytes _ (l .used) (l .wrote) (l .room) _ _ (l .out) _ _ test (l .inv .1) (l .inv .0) lf-is inside
+          (turned-line _ _ read said (turn-does (machineFrom (l .words)) false b _ _ (a .1 .given .1) (proceed-step (l .words) b _ r p)))
+          (row-line (l .out) _ _ (l .wrote) _ _ ready (a .17 .ensures) (a .19 .ensures)) (l .inv .9)),
     ))
     (λ a. (
-      omega (arith, d .if1 .left),
-      omega (arith, l .inv .1, test, ap length (a .10), a .5 .given),
-      omega (arith, l .inv .2, ap length (a .7)),
-      omega (arith, l .inv .3, ap length (a .8)),
-      omega (arith, l .inv .4, ap length (a .9)),
-      omega (arith, l .inv .5, ap length (a .10), a .5 .given),
-      came _ _ _ _ (a .7) (a .8) (a .9) (a .10) (a .11)
-          (turn-on rawBytes _ (l .used) (l .wrote) (l .room) _ _ (l .out) _ _ test (l .inv .1) (l .inv .0) lf-is (d .if1 .left)
-          (turned-line _ _ read said (turn-later (l .last .machine) _ _ (a .0 .keys2) (a .3 .ensures)))
-          (a .4 .ensures) (l .inv .6)),
+      omega (arith, inside),
+      omega (arith, l .inv .1, test, ap length (a .12), a .6 .given),
+      omega (arith, l .inv .2, ap length (a .9)),
+      omega (arith, l .inv .3, ap length (a .10)),
+      omega (arith, l .inv .4, ap length (a .11)),
+      omega (arith, l .inv .5, ap length (a .12), a .6 .given),
+      omega (arith, l .inv .6, ap length (a .8)),
+      ready-came (a .8) (a .9) (a .10) (a .11) r,
+      ap (drop rowLength) (a .8) ∙ l .inv .8,
+      came _ _ _ _ _ (a .8) (a .9) (a .10) (a .11) (a .12)
+          (turn-on _ rawBytes _ (l .used) (l .wrote) (l .room) _ _ (l .out) _ _ test (l .inv .1) (l .inv .0) lf-is inside
+          (turned-line _ _ read said (turn-later (machineFrom (l .words)) b _ (a .0 .keys2) (a .4 .ensures)))
+          (row-line (l .out) _ (l .words) (l .wrote) b _ r (a .2 .ensures) (a .5 .ensures)) (l .inv .9)),
     ))
     (c .match .came)
 
 stopped-requires-2 : tie.Need-stopped-requires-2 Inv-loop μ-loop
 stopped-requires-2 c κs = tt
-
-same-length-5 : tie.Need-same-length-5 Inv-loop μ-loop
-same-length-5 c = search needs
 
 same-length-6 : tie.Need-same-length-6 Inv-loop μ-loop
 same-length-6 c = search needs
@@ -162,13 +174,19 @@ same-length-7 c = search needs
 same-length-8 : tie.Need-same-length-8 Inv-loop μ-loop
 same-length-8 c = search needs
 
+same-length-9 : tie.Need-same-length-9 Inv-loop μ-loop
+same-length-9 c = search needs
+
+same-length-10 : tie.Need-same-length-10 Inv-loop μ-loop
+same-length-10 c = search needs
+
 returns-2 : tie.Need-returns-2 Inv-loop μ-loop
 returns-2 c =
     let l = c .before .before .loop in
     let stop = c .stopped2 .ensures in
     record {
-      is = ap (λ (p : Progress). progressed p (l .bytes) (l .cells) (l .items) (l .out)) stop
-          ∙ run-full rawBytes _ (l .used) (l .wrote) (l .room) _ (l .out) (c .before .loop-test .left) (l .inv .6);
+      is = reached-row (now (c .before .before .before .before .before .before .before .before .before .args .words)) (l .words) (l .bytes) (l .cells) (l .items) (l .out) false (l .used) (l .wrote) (l .inv .7) (l .inv .8) stop
+          ∙ run-full _ rawBytes _ (l .used) (l .wrote) (l .room) _ (l .out) (c .before .loop-test .left) (l .inv .9);
       used = omega (arith, ap (λ (p : Progress). p .used) stop, l .inv .0);
     }
 
@@ -186,6 +204,7 @@ more-lines-spec =
     same-length-2
     same-length-3
     same-length-4
+    same-length-5
     returns
     sub-read-by-table
     part-read-by-table-start
@@ -193,8 +212,10 @@ more-lines-spec =
     read-by-table-requires
     operation-of-requires
     enum-known-said
-    operate-requires
+    proceed-requires
+    fuel-of-requires
     put-answer-requires
+    fuel-of-requires-2
     refused-requires
     put-answer-requires-2
     add-used
@@ -203,8 +224,9 @@ more-lines-spec =
     loop-less
     loop-again
     stopped-requires-2
-    same-length-5
     same-length-6
     same-length-7
     same-length-8
+    same-length-9
+    same-length-10
     returns-2)

@@ -1,17 +1,33 @@
-use mathlib.Core.Path.{refl}
-use mathlib.Core.Bool.{true, false}
+-- `lines::session::piece` meets its contract. Assumes nothing.
+use mathlib.Core.Path.{refl, sym, _∙_}
+use denote.Ref.{now}
+use Rattle.machine.specs.Machine.{buffers}
+use borrow.Author.Tests.{not-true, not-false}
+use Rattle.types.proofs.Picks.{both-1, both-2}
 use Rattle.lines.specs.stages.Digits.{digitTable}
-use Rattle.lines.proofs.Runs.{by-skip}
+use Rattle.lines.proofs.Runs.{piece-stuck, piece-goes}
+use Rattle.lines.proofs.Carried.{form-ready}
 use borrow.Author.Needs.{needs}
 use Rattle.lines.proofs.session.piece.Statement.{statement}
 use Rattle.lines.proofs.session.piece.Tie as tie
 
-skip-on-requires : tie.Need-skip-on-requires
-unfolding digitTable
-skip-on-requires c κs = refl
+is-ready-requires : tie.Need-is-ready-requires
+is-ready-requires c κs = search needs
 
 same-length : tie.Need-same-length
 same-length c = search needs
+
+returns : tie.Need-returns
+returns c =
+    let a = c .before .before .before .before .before .before .before .before .before .args in
+    piece-stuck (a .session) (now (a .words)) (buffers (now (a .bytes)) (now (a .cells)) (now (a .items))) (now (a .input)) (now (a .out)) (sym (c .before .is-ready .ensures) ∙ not-true _ (c .if1 .taken))
+
+lines-requires : tie.Need-lines-requires
+unfolding digitTable
+lines-requires c κs =
+    let a = c .before .before .before .before .before .before .before .before .before .before .before .before .before .before .before .args in
+    let t = sym (c .before .before .before .before .before .before .before .is-ready .ensures) ∙ not-false _ (c .before .before .before .before .before .before .if1 .left) in
+    (refl, form-ready (now (a .words)) (buffers (now (a .bytes)) (now (a .cells)) (now (a .items))) (both-1 _ _ t) (both-2 _ _ t))
 
 same-length-2 : tie.Need-same-length-2
 same-length-2 c = search needs
@@ -22,45 +38,28 @@ same-length-3 c = search needs
 same-length-4 : tie.Need-same-length-4
 same-length-4 c = search needs
 
-returns : tie.Need-returns
-returns c =
-    let d = c .before .before .before .before .before .before .before .before in
-    by-skip _ true _ _ _ _ _ (d .before .before .before .before .before .if1 .taken) (d .skip-on .ensures)
-
-go-on-requires : tie.Need-go-on-requires
-unfolding digitTable
-go-on-requires c κs = refl
-
 same-length-5 : tie.Need-same-length-5
 same-length-5 c = search needs
 
 same-length-6 : tie.Need-same-length-6
 same-length-6 c = search needs
 
-same-length-7 : tie.Need-same-length-7
-same-length-7 c = search needs
-
-same-length-8 : tie.Need-same-length-8
-same-length-8 c = search needs
-
 returns-2 : tie.Need-returns-2
 returns-2 c =
-    let d = c .before .before .before .before .before .before .before .before in
-    by-skip _ false _ _ _ _ _ (d .before .before .before .before .before .if1 .left) (d .go-on .ensures)
+    let a = c .before .before .before .before .before .before .before .before .before .before .before .before .before .before .before .before .before .before .before .before .before .before .before .before .before .before .args in
+    piece-goes (a .session) (now (a .words)) (buffers (now (a .bytes)) (now (a .cells)) (now (a .items))) (now (a .input)) (now (a .out)) (sym (c .before .before .before .before .before .before .before .before .before .before .before .before .before .before .before .before .before .before .is-ready .ensures) ∙ not-false _ (c .before .before .before .before .before .before .before .before .before .before .before .before .before .before .before .before .before .if1 .left)) (c .before .before .before .before .before .before .before .before .before .before .lines .ensures)
 
 pub piece-spec : {M : Type 1} → statement M
 piece-spec =
     tie.close
     (tie.spec
-    skip-on-requires
+    is-ready-requires
     same-length
+    returns
+    lines-requires
     same-length-2
     same-length-3
     same-length-4
-    returns
-    go-on-requires
     same-length-5
     same-length-6
-    same-length-7
-    same-length-8
     returns-2)

@@ -1,9 +1,7 @@
 -- `timing::text::rounds_line` meets its contract. Assumes nothing.
 use mathlib.Core.Path.{ap, _∙_}
 use mathlib.Core.Bool.{true}
-use Rattle.types.specs.Fuel.{newFuel, defaultCosts}
-use Rattle.types.specs.declared.answer.Answer.{Answer}
-use Rattle.types.specs.declared.fuel.Fuel.{Fuel}
+use Rattle.types.specs.Fuel.{newFuel}
 use Rattle.timing.specs.Text.{echoOf}
 use Rattle.timing.proofs.Written.{answered-as}
 use borrow.Author.Needs.{needs}
