@@ -1,17 +1,23 @@
-// Operation lines on standard input, run as one session on buffers that are full of other cells than 0 before: one answer line
-// for each on standard output, and after them the cells of every memory and table.
+// Operation lines on standard input, each run through records in lent lists on buffers that are full of other cells than 0 before: one
+// answer line for each on standard output, and after them the cells of every memory and table.
 mod cells;
 
-use lines::session::Session;
-use lines::session::piece;
+use lent::operate::operate_kept;
+use lines::answer_line::write_answer_line;
+use lines::code::Read;
+use lines::code::read_line;
+use machine::operate::Operated;
+use machine::records::Machine;
+use types::answer::Answer;
+use types::answer::Refusal;
+use types::answer::Value;
 use types::fuel::FuelCosts;
 ghost use Prim.Native.Nat.{_≤_};
 ghost use lib.ListN.{length};
 
-// A session after some input, how much of that it used, and whether its answers were sent.
-struct Handled {
-    session: Session,
-    used: usize,
+// The machine after all lines, and whether their answers were sent.
+struct Replayed {
+    machine: Machine,
     fine: bool,
 }
 
@@ -33,61 +39,105 @@ fn at_end() -> bool {
     true
 }
 
-// The lines of a piece, as far as there is room for their answers.
-fn handle(
-    session: Session,
+// 18: the machine stays.
+fn malformed(machine: Machine) -> Operated {
+    Operated {
+        answer: Answer::Refusal(Refusal {
+            number: 18,
+            amount: 0,
+        }),
+        machine,
+    }
+}
+
+// 00 makes the machine anew, on the first line alone.
+fn made(machine: Machine, first: bool, metering: bool, copied: u32) -> Operated {
+    if !first {
+        return malformed(machine);
+    }
+    let mut costs = FuelCosts::default_costs();
+    costs.copied = copied;
+    let fresh = Machine::new(metering, costs);
+    Operated {
+        answer: Answer::Value(Value::Number(0)),
+        machine: fresh,
+    }
+}
+
+// One line, through records in lent lists and lent fuel.
+fn one_line(
+    machine: Machine,
+    first: bool,
     bytes: &mut [u8],
     cells: &mut [u64],
     items: &mut [u64],
-    input: &[u8],
-    out: &mut [u8],
-) -> Handled
-    ensures { λ r. ⌜ r .used ≤ length (now (input .entry)) ⌝ }
-{
-    let p = piece(session, bytes, cells, items, input, out);
-    let used = p.used;
-    let next = p.session;
-    let fine = cells::send(out, p.wrote);
-    Handled {
-        session: next,
-        used,
-        fine,
+    line: &[u8],
+) -> Operated {
+    let said = read_line(line);
+    match said {
+        Read::Operation(op) => operate_kept(machine, bytes, cells, items, op),
+        Read::Making { metering, copied } => made(machine, first, metering, copied),
+        Read::Malformed => malformed(machine),
     }
+}
+
+// The answer's line is written and sent.
+fn tell(out: &mut [u8], done: Operated) -> bool {
+    let answer = done.answer;
+    let machine = done.machine;
+    let fuel = machine.fuel;
+    if !write_answer_line(out, answer, fuel) {
+        return false;
+    }
+    cells::send(out, 37)
+}
+
+// The first line's end from a place on, or the length.
+fn line_end(input: &[u8], from: usize) -> usize
+    requires { ⌜ from ≤ length (now input) ⌝ }
+    ensures { λ r. ⌜ (from ≤ r) × (r ≤ length (now (input .entry))) ⌝ }
+{
+    let mut i = from;
+    while i < input.len() {
+        if input[i] == 10 {
+            return i;
+        }
+        i += 1;
+    }
+    i
 }
 
 // All lines of the input, the last of which ends in LF.
 fn answer_all(
-    session: Session,
+    start: Machine,
     bytes: &mut [u8],
     cells: &mut [u64],
     items: &mut [u64],
     input: &[u8],
     out: &mut [u8],
-) -> Handled {
-    let mut next = session;
+) -> Replayed {
+    let mut machine = start;
     let mut at = 0;
     while at < input.len() {
-        let h = handle(next, bytes, cells, items, &input[at..input.len()], out);
-        next = h.session;
-        at += h.used;
-        if !h.fine {
-            return Handled {
-                session: next,
-                used: at,
+        let e = line_end(input, at);
+        let done = one_line(machine, at == 0, bytes, cells, items, &input[at..e]);
+        machine = done.machine;
+        if !tell(out, done) {
+            return Replayed {
+                machine,
                 fine: false,
             };
         }
-        if h.used == 0 {
-            return Handled {
-                session: next,
-                used: at,
-                fine: false,
+        if input.len() <= e {
+            return Replayed {
+                machine,
+                fine: true,
             };
         }
+        at = e + 1;
     }
-    Handled {
-        session: next,
-        used: at,
+    Replayed {
+        machine,
         fine: true,
     }
 }
@@ -119,13 +169,12 @@ fn replay(
     if input.len() < end {
         return;
     }
-    let session = Session::new(true, FuelCosts::default_costs());
-    let h = answer_all(session, bytes, cells, items, &input[0..end], out);
-    if !h.fine {
+    let start = Machine::new(true, FuelCosts::default_costs());
+    let last = answer_all(start, bytes, cells, items, &input[0..end], out);
+    if !last.fine {
         io::write_all(libc::STDERR_FILENO, b"replay: not all lines are answered\n");
         return;
     }
-    let last = h.session;
     let machine = last.machine;
     if !cells::send_all(machine, bytes, cells, out) {
         os::fail(b"replay: not all cells are written");

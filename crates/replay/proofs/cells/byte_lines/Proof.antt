@@ -5,9 +5,6 @@ use lib.ListN.{length}
 use borrow.Author.Needs.{needs}
 use Rattle.replay.proofs.cells.byte_lines.Statement.{statement}
 use Rattle.replay.proofs.cells.byte_lines.Tie as tie
-use Rattle.replay.proofs.cells.byte_lines.Reads as reads
-use Rattle.replay.proofs.cells.byte_lines.Lts as lts
-use Rattle.replay.proofs.cells.byte_line.Reads as byte-line-reads
 
 abbrev Inv-loop : tie.InvT-loop
 Inv-loop bytes out₀ at₀ out at = (length out ≡ length out₀) × (at ≤ length bytes)

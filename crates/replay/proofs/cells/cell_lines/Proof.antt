@@ -4,9 +4,6 @@ use lib.ListN.{length}
 use borrow.Author.Needs.{needs}
 use Rattle.replay.proofs.cells.cell_lines.Statement.{statement}
 use Rattle.replay.proofs.cells.cell_lines.Tie as tie
-use Rattle.replay.proofs.cells.cell_lines.Reads as reads
-use Rattle.replay.proofs.cells.cell_lines.Lts as lts
-use Rattle.replay.proofs.cells.cell_line.Reads as cell-line-reads
 
 abbrev Inv-loop : tie.InvT-loop
 Inv-loop cells i₀ i = i ≤ length cells

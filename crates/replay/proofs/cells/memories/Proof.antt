@@ -5,9 +5,6 @@ use lib.ListN.{length}
 use borrow.Author.Needs.{needs}
 use Rattle.replay.proofs.cells.memories.Statement.{statement}
 use Rattle.replay.proofs.cells.memories.Tie as tie
-use Rattle.replay.proofs.cells.memories.Reads as reads
-use Rattle.replay.proofs.cells.memories.Lts as lts
-use Rattle.replay.proofs.cells.memory.Reads as memory-reads
 
 abbrev Inv-loop : tie.InvT-loop
 Inv-loop bytes out₀ machine count i₀ out i = (length out ≡ length out₀) × (i ≤ 8)

@@ -5,9 +5,6 @@ use lib.ListN.{length}
 use borrow.Author.Needs.{needs}
 use Rattle.replay.proofs.cells.put_line.Statement.{statement}
 use Rattle.replay.proofs.cells.put_line.Tie as tie
-use Rattle.replay.proofs.cells.put_line.Reads as reads
-use Rattle.replay.proofs.cells.put_line.Lts as lts
-use Rattle.replay.proofs.cells.put_byte.Reads as put-byte-reads
 
 abbrev Inv-loop : tie.InvT-loop
 Inv-loop out₀ part i₀ out i = (length out ≡ length out₀) × (i ≤ length part)

@@ -4,8 +4,6 @@ use lib.ListN.{length-set}
 use borrow.Author.Needs.{needs}
 use Rattle.replay.proofs.cells.put_two.Statement.{statement}
 use Rattle.replay.proofs.cells.put_two.Tie as tie
-use Rattle.replay.proofs.cells.put_two.Reads as reads
-use Rattle.replay.proofs.cells.put_two.Lts as lts
 
 slice-write-out : tie.Need-slice-write-out
 slice-write-out c = search needs

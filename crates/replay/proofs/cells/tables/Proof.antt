@@ -3,9 +3,6 @@ use Prim.Native.Nat.{_-_, _≤_}
 use borrow.Author.Needs.{needs}
 use Rattle.replay.proofs.cells.tables.Statement.{statement}
 use Rattle.replay.proofs.cells.tables.Tie as tie
-use Rattle.replay.proofs.cells.tables.Reads as reads
-use Rattle.replay.proofs.cells.tables.Lts as lts
-use Rattle.replay.proofs.cells.table.Reads as table-reads
 
 abbrev Inv-loop : tie.InvT-loop
 Inv-loop cells machine count i₀ i = i ≤ 8
