@@ -6,7 +6,7 @@ use native.Mathlib.Omega.{arith}
 use native.Mathlib.Numerals.{add-one}
 use native.Mathlib.Nat.{add-zero}
 use lib.ListN.{length, take, drop, set, getD, replicate, length-take, length-drop, length-replicate, drop-of-length-le}
-use lib.Seq.{take-suc, getD-drop, take-add, drop-drop, take-all}
+use lib.Seq.{take-suc, take-add, drop-drop, take-all}
 use borrow.Rule.Slice.PartMut.{putMid, midOf, mid-len}
 use Rattle.types.specs.Span.{over, cut}
 use Rattle.types.specs.stages.Facts.{Two}
@@ -80,40 +80,7 @@ module _ (l cs : List ℕ) (to from n i k : ℕ) (f : Two to from n (length l)) 
       ∙ over-under l (to + i) ws vs (omega (arith, lw, f .there))
       ∙ ap (over l (to + i)) cut-both
 
--- a store of what stands at another place
-step : (l : List ℕ) (to from j : ℕ) → Two to from (suc j) (length l)
-    → set (over l to (cut l from j)) (to + j) (getD l (from + j) 0) ≡ over l to (cut l from (suc j))
-unfolding cut
-step l to from j f =
-    ap (set (over l to (cut l from j)) (to + j)) (sym (getD-drop from l j 0))
-    ∙ put-more l (drop from l) to j (omega (arith, f .there)) (simp length-drop (omega (arith, f .here)))
-
-pub move-one : (l : List ℕ) (to from : ℕ) → Two to from 1 (length l) → set l to (getD l from 0) ≡ over l to (cut l from 1)
-move-one l to from f =
-    ap (λ (z : List ℕ). set z to (getD l from 0)) (cut-none l to from)
-    ∙ rw (add-zero to, add-zero from) at (step l to from 0 f)
-
--- a turn of a loop over cells, up and down
-module _ (l cs : List ℕ) (to from n i : ℕ) (f : Two to from n (length l)) where
-  pub forth-turn : to ≤ from → i < n → cs ≡ over l to (cut l from i) → set cs (to + i) (getD cs (from + i) 0) ≡ over l to (cut l from (i + 1))
-  forth-turn g h e =
-      let q : length cs ≡ length l = ap length e ∙ length-cut-over l to from i (record { there = omega (arith, f .there); here = omega (arith, f .here) }) in
-      move-one cs (to + i) (from + i) (record { there = omega (arith, q, f .there); here = omega (arith, q, f .here) })
-      ∙ forth-more l cs to from i 1 (record { there = omega (arith, f .there); here = omega (arith, f .here) }) e g
-
-  pub back-turn : from ≤ to → i + 1 ≤ n → cs ≡ over l (to + (i + 1)) (cut l (from + (i + 1)) (n - (i + 1))) → length cs ≡ length l
-      → set cs (to + i) (getD cs (from + i) 0) ≡ over l (to + i) (cut l (from + i) (n - i))
-  back-turn g h e q =
-      move-one cs (to + i) (from + i) (record { there = omega (arith, f .there); here = omega (arith, f .here) })
-      ∙ back-more l cs to from n i 1 f h e g
-
--- nothing yet, from the high end; and all
-pub back-none : (l : List ℕ) (to from n : ℕ) → l ≡ over l (to + n) (cut l (from + n) (n - n))
-unfolding cut
-back-none l to from n =
-    let e : n - n ≡ 0 = omega arith in
-    cut-none l (to + n) (from + n) ∙ ap (λ (k : ℕ). over l (to + n) (cut l (from + n) k)) (sym e)
-
+-- all, from the high end
 pub back-all : (l cs : List ℕ) (to from n i : ℕ) → i ≡ 0 → cs ≡ over l (to + i) (cut l (from + i) (n - i)) → cs ≡ over l to (cut l from n)
 back-all l cs to from n i z e =
     let p : to + i ≡ to = omega arith in

@@ -7,7 +7,7 @@ use native.Mathlib.Omega.{arith}
 use native.Mathlib.Nat.{add-zero}
 use lib.Dec.{leb}
 use lib.ListN.{length, take, drop, set, getD, length-append, length-drop, length-set, take-append-drop}
-use lib.Seq.{take-at, drop-at, set-at, length-take-le, drop-cons, take-suc, take-suc-set, drop-set-lt, take-set-le, append-snoc, drop-append-add, drop-drop, getD-set-same, take-take, take-nil}
+use lib.Seq.{take-at, drop-at, set-at, length-take-le, drop-cons, take-suc-set, drop-set-lt, take-set-le, append-snoc, drop-append-add, drop-drop, getD-set-same, take-take, take-nil}
 use borrow.Author.Tests.{le-leb, lt-leb, leb-true, leb-false}
 use Rattle.types.specs.Span.{inside, over, cut}
 
@@ -70,16 +70,6 @@ over-put l a vs x h =
     ∙ ap (λ (z : List ℕ). z ++ drop (suc k) l) (append-assoc (take a l) vs (x ∷ []))
     ∙ ap (λ (n : ℕ). (take a l ++ (vs ++ x ∷ [])) ++ drop n l) (end-is a vs x)
     ∙ sym (over-flat l a (vs ++ x ∷ []))
-
--- one cell more, at the start
-pub over-front : (l : List ℕ) (a : ℕ) (vs : List ℕ) (x : ℕ) → a < length l
-    → set (over l (suc a) vs) a x ≡ over l a (x ∷ vs)
-unfolding over
-over-front l a vs x h =
-    ap (λ (z : List ℕ). set (z ++ (vs ++ drop (suc a + length vs) l)) a x) (take-suc l a 0 h)
-    ∙ ap (λ (z : List ℕ). set z a x) (append-assoc (take a l) (getD l a 0 ∷ []) (vs ++ drop (suc a + length vs) l))
-    ∙ set-at (take a l) (getD l a 0) (vs ++ drop (suc a + length vs) l) x a (length-take-le a l (omega arith))
-    ∙ ap (λ (n : ℕ). take a l ++ (x ∷ (vs ++ drop n l))) (front-is a (length vs))
 
 -- a store just before the span, or just after it, and then the span
 pub over-first : (l : List ℕ) (a : ℕ) (vs : List ℕ) (x : ℕ) → a < length l

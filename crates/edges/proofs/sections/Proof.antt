@@ -4,10 +4,6 @@ use lib.ListN.{length}
 use borrow.Author.Needs.{needs}
 use Rattle.edges.proofs.sections.Statement.{statement}
 use Rattle.edges.proofs.sections.Tie as tie
-use Rattle.edges.proofs.sections.Reads as reads
-use Rattle.edges.proofs.sections.Lts as lts
-use Rattle.edges.proofs.memories.section.Reads as memories-section-reads
-use Rattle.edges.proofs.tables.section.Reads as tables-section-reads
 
 abbrev Inv-loop : tie.InvT-loop
 Inv-loop input at₀ at = at₀ ≤ at

@@ -5,12 +5,6 @@ use lib.ListN.{length}
 use borrow.Author.Needs.{needs}
 use Rattle.edges.proofs.memories.lines.Statement.{statement}
 use Rattle.edges.proofs.memories.lines.Tie as tie
-use Rattle.edges.proofs.memories.lines.Reads as reads
-use Rattle.edges.proofs.memories.lines.Lts as lts
-use Rattle.edges.proofs.memories.fresh.Reads as fresh-reads
-use Rattle.edges.proofs.memories.obey.Reads as obey-reads
-use Rattle.edges.proofs.text.find.Reads as find-reads
-use Rattle.edges.proofs.text.section_at.Reads as section-at-reads
 
 abbrev Inv-loop : tie.InvT-loop
 Inv-loop input from bytes₀ m₀ at₀ bytes m at = length bytes ≡ length bytes₀

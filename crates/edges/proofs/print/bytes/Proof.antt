@@ -5,10 +5,6 @@ use lib.ListN.{length}
 use borrow.Author.Needs.{needs}
 use Rattle.edges.proofs.print.bytes.Statement.{statement}
 use Rattle.edges.proofs.print.bytes.Tie as tie
-use Rattle.edges.proofs.print.bytes.Reads as reads
-use Rattle.edges.proofs.print.bytes.Lts as lts
-use Rattle.io.proofs.print_hex.Reads as print-hex-reads
-use Rattle.io.proofs.write_all.Reads as write-all-reads
 
 abbrev Inv-loop : tie.InvT-loop
 Inv-loop bytes i₀ t4 i = i ≤ length bytes

@@ -4,10 +4,6 @@ use lib.ListN.{length}
 use borrow.Author.Needs.{needs}
 use Rattle.edges.proofs.print.cells.Statement.{statement}
 use Rattle.edges.proofs.print.cells.Tie as tie
-use Rattle.edges.proofs.print.cells.Reads as reads
-use Rattle.edges.proofs.print.cells.Lts as lts
-use Rattle.io.proofs.print_hex.Reads as print-hex-reads
-use Rattle.io.proofs.write_all.Reads as write-all-reads
 
 abbrev Inv-loop : tie.InvT-loop
 Inv-loop cells i₀ t3 t4 i = i ≤ length cells

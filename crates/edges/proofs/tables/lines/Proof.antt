@@ -6,12 +6,6 @@ use lib.ListN.{length}
 use borrow.Author.Needs.{needs}
 use Rattle.edges.proofs.tables.lines.Statement.{statement}
 use Rattle.edges.proofs.tables.lines.Tie as tie
-use Rattle.edges.proofs.tables.lines.Reads as reads
-use Rattle.edges.proofs.tables.lines.Lts as lts
-use Rattle.edges.proofs.tables.fresh.Reads as fresh-reads
-use Rattle.edges.proofs.tables.obey.Reads as obey-reads
-use Rattle.edges.proofs.text.find.Reads as find-reads
-use Rattle.edges.proofs.text.section_at.Reads as section-at-reads
 
 abbrev Inv-loop : tie.InvT-loop
 Inv-loop input from cells₀ items t₀ at₀ cells t at = length cells ≡ length cells₀

@@ -4,8 +4,6 @@ use lib.ListN.{length}
 use borrow.Author.Needs.{needs}
 use Rattle.edges.proofs.text.find.Statement.{statement}
 use Rattle.edges.proofs.text.find.Tie as tie
-use Rattle.edges.proofs.text.find.Reads as reads
-use Rattle.edges.proofs.text.find.Lts as lts
 
 abbrev Inv-loop : tie.InvT-loop
 Inv-loop s from b i₀ i = (from ≤ i) × (i ≤ length s)

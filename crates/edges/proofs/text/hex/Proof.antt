@@ -4,9 +4,6 @@ use lib.ListN.{length}
 use borrow.Author.Needs.{needs}
 use Rattle.edges.proofs.text.hex.Statement.{statement}
 use Rattle.edges.proofs.text.hex.Tie as tie
-use Rattle.edges.proofs.text.hex.Reads as reads
-use Rattle.edges.proofs.text.hex.Lts as lts
-use Rattle.edges.proofs.text.digit.Reads as digit-reads
 
 abbrev Inv-loop : tie.InvT-loop
 Inv-loop s v₀ i₀ v i = i ≤ length s

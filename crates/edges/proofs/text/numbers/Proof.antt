@@ -5,11 +5,6 @@ use lib.ListN.{length}
 use borrow.Author.Needs.{needs}
 use Rattle.edges.proofs.text.numbers.Statement.{statement}
 use Rattle.edges.proofs.text.numbers.Tie as tie
-use Rattle.edges.proofs.text.numbers.Reads as reads
-use Rattle.edges.proofs.text.numbers.Lts as lts
-use Rattle.edges.proofs.text.byte.Reads as byte-reads
-use Rattle.edges.proofs.text.find.Reads as find-reads
-use Rattle.edges.proofs.text.hex.Reads as hex-reads
 
 abbrev Inv-loop : tie.InvT-loop
 Inv-loop s word args₀ low₀ count₀ at₀ args low count at = (at ≤ length s) × (count ≤ 20) × (length args ≡ length args₀) × (length low ≡ length low₀)

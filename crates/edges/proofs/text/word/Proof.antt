@@ -5,8 +5,6 @@ use lib.ListN.{length}
 use borrow.Author.Needs.{needs}
 use Rattle.edges.proofs.text.word.Statement.{statement}
 use Rattle.edges.proofs.text.word.Tie as tie
-use Rattle.edges.proofs.text.word.Reads as reads
-use Rattle.edges.proofs.text.word.Lts as lts
 
 abbrev Inv-loop : tie.InvT-loop
 Inv-loop s v₀ i₀ v i = (i ≤ length s) × (v < 72057594037927936)
