@@ -21,7 +21,7 @@ unsafe extern "C" {
         instances: u64,
         rounds: u64,
     ) -> u64;
-    /// The same in place, in a row of words: with every test, or without those of the row's form and soundness.
+    /// So many rounds of the line's operation on the machine of a row: with every test, or without those of the row's form and soundness.
     fn rounds_in_place(
         words: *mut u64,
         word_count: usize,
@@ -34,9 +34,13 @@ unsafe extern "C" {
         tested: bool,
         line: *const u8,
         length: usize,
-        instances: u64,
         rounds: u64,
     ) -> u64;
+}
+
+// Archive libyshankelt.a: include/yshankelt.h.
+unsafe extern "C" {
+    fn ysh_machine_new(words: *mut u64, words_len: usize, metering: bool, copied: u32) -> u8;
 }
 
 /// How a machine is handed over.
@@ -82,20 +86,39 @@ struct Buffers {
     items: Vec<u64>,
 }
 
+impl Buffers {
+    /// So many rounds of a line in place.
+    fn in_place(&mut self, tested: bool, line: &str, rounds: u64) -> u64 {
+        let (words, bytes) = (self.words.as_mut_ptr(), self.bytes.as_mut_ptr());
+        let (cells, items) = (self.cells.as_mut_ptr(), self.items.as_mut_ptr());
+        let [w, n, c, i] = [self.words.len(), self.bytes.len(), self.cells.len(), self.items.len()];
+        unsafe { rounds_in_place(words, w, bytes, n, cells, c, items, i, tested, line.as_ptr(), line.len(), rounds) }
+    }
+
+    /// A machine in the row with so many memories, tables and segments, made anew, as the rounds by value begin.
+    fn make(&mut self, instances: u64) {
+        assert_eq!(unsafe { ysh_machine_new(self.words.as_mut_ptr(), self.words.len(), true, 64) }, 0);
+        let room = ROOM as u64;
+        self.in_place(true, &text("10", &[room, 0, 0, 64, 0, 0]), instances);
+        self.in_place(true, &text("20", &[room, 0, 0, 0, 64, 0, 0, 0]), instances);
+        self.in_place(true, &text("29", &[0, 4, 1, 2, 3, 4]), instances);
+    }
+}
+
 /// The nanoseconds of one call.
 fn spent(b: &mut Buffers, way: Way, line: &str, instances: u64, rounds: u64) -> f64 {
-    let (words, bytes) = (b.words.as_mut_ptr(), b.bytes.as_mut_ptr());
-    let (cells, items) = (b.cells.as_mut_ptr(), b.items.as_mut_ptr());
-    let [w, n, c, i] = [b.words.len(), b.bytes.len(), b.cells.len(), b.items.len()];
+    let (bytes, cells, items) = (b.bytes.as_mut_ptr(), b.cells.as_mut_ptr(), b.items.as_mut_ptr());
+    let [n, c, i] = [b.bytes.len(), b.cells.len(), b.items.len()];
     let (text, length) = (line.as_ptr(), line.len());
+    if matches!(way, Way::Proceed | Way::Operate) {
+        b.make(instances);
+    }
     let start = Instant::now();
-    let left = unsafe {
-        match way {
-            Way::Value => rounds_operate(bytes, n, cells, c, items, i, false, text, length, instances, rounds),
-            Way::Lent => rounds_operate(bytes, n, cells, c, items, i, true, text, length, instances, rounds),
-            Way::Proceed => rounds_in_place(words, w, bytes, n, cells, c, items, i, false, text, length, instances, rounds),
-            Way::Operate => rounds_in_place(words, w, bytes, n, cells, c, items, i, true, text, length, instances, rounds),
-        }
+    let left = match way {
+        Way::Value => unsafe { rounds_operate(bytes, n, cells, c, items, i, false, text, length, instances, rounds) },
+        Way::Lent => unsafe { rounds_operate(bytes, n, cells, c, items, i, true, text, length, instances, rounds) },
+        Way::Proceed => b.in_place(false, line, rounds),
+        Way::Operate => b.in_place(true, line, rounds),
     };
     std::hint::black_box(left);
     start.elapsed().as_nanos() as f64

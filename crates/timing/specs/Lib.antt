@@ -1,3 +1,4 @@
 pub mod Timing
 pub mod Rounds
+pub mod InPlace
 pub mod Text

@@ -1,12 +1,11 @@
-// One operation line again and again on a machine in place, in a row that is lent. It is said only that this is safe and ends.
-use super::operate::one_memory;
-use super::operate::one_segment;
-use super::operate::one_table;
+// One operation line again and again on a machine in place, in a row that is lent.
 use lines::code::Read;
 use lines::code::read_line;
 use machine::operation::Operation;
 use machine::row;
-use types::fuel::FuelCosts;
+ghost use mathlib.Core.Path.{_≡_};
+ghost use Rattle.lines.specs.Code.{readLine};
+ghost use Rattle.timing.specs.InPlace.{rowing, again, timedIn, Rounded};
 
 // One operation: with every test, or without those of the row's form and soundness.
 fn once(
@@ -16,7 +15,10 @@ fn once(
     items: &mut [u64],
     tested: bool,
     op: Operation,
-) {
+)
+    ensures { λ _. ⌜ rowing (now (words .exit)) (now (bytes .exit)) (now (cells .exit)) (now (items .exit))
+        ≡ again tested 1 (rowing (now (words .entry)) (now (bytes .entry)) (now (cells .entry)) (now (items .entry))) op ⌝ }
+{
     if tested {
         row::operate(words, bytes, cells, items, op);
         return;
@@ -32,25 +34,15 @@ fn repeat(
     tested: bool,
     op: Operation,
     rounds: u64,
-) {
+)
+    ensures { λ _. ⌜ rowing (now (words .exit)) (now (bytes .exit)) (now (cells .exit)) (now (items .exit))
+        ≡ again tested rounds (rowing (now (words .entry)) (now (bytes .entry)) (now (cells .entry)) (now (items .entry))) op ⌝ }
+{
     let mut left = rounds;
     while left > 0 {
         once(words, bytes, cells, items, tested, op);
         left -= 1;
     }
-}
-
-// So many memories, tables and segments more.
-fn set_up(
-    words: &mut [u64],
-    bytes: &mut [u8],
-    cells: &mut [u64],
-    items: &mut [u64],
-    instances: u64,
-) {
-    repeat(words, bytes, cells, items, true, one_memory(), instances);
-    repeat(words, bytes, cells, items, true, one_table(), instances);
-    repeat(words, bytes, cells, items, true, one_segment(), instances);
 }
 
 fn timed_by(
@@ -61,7 +53,10 @@ fn timed_by(
     tested: bool,
     parsed: Read,
     rounds: u64,
-) {
+)
+    ensures { λ _. ⌜ rowing (now (words .exit)) (now (bytes .exit)) (now (cells .exit)) (now (items .exit))
+        ≡ timedIn tested rounds (rowing (now (words .entry)) (now (bytes .entry)) (now (cells .entry)) (now (items .entry))) parsed ⌝ }
+{
     match parsed {
         Read::Operation(op) => repeat(words, bytes, cells, items, tested, op, rounds),
         Read::Making { .. } => {}
@@ -69,8 +64,7 @@ fn timed_by(
     }
 }
 
-// So many rounds of the line's operation on a machine with so many memories, tables and segments, made in the row. The result is the
-// fuel left.
+// So many rounds of the line's operation on the machine of a row. The result is the fuel left.
 #[no_mangle]
 pub extern "C" fn rounds_in_place(
     words: &mut [u64],
@@ -79,11 +73,11 @@ pub extern "C" fn rounds_in_place(
     items: &mut [u64],
     tested: bool,
     line: &[u8],
-    instances: u64,
     rounds: u64,
-) -> u64 {
-    row::fresh(words, true, FuelCosts::default_costs());
-    set_up(words, bytes, cells, items, instances);
+) -> u64
+    ensures { λ r. ⌜ Rounded (timedIn tested rounds (rowing (now (words .entry)) (now (bytes .entry)) (now (cells .entry)) (now (items .entry))) (readLine (now (line .entry))))
+        r (now (words .exit)) (now (bytes .exit)) (now (cells .exit)) (now (items .exit)) ⌝ }
+{
     timed_by(words, bytes, cells, items, tested, read_line(line), rounds);
     let fuel = row::fuel_of(words);
     fuel.remaining

@@ -20,7 +20,7 @@ ghost use mathlib.Core.Bool.{true};
 ghost use Rattle.timing.specs.Rounds.{oneMemory, oneTable, oneSegment, held, again, places, setUp, timedBy, Timed};
 
 // Pages of one byte, 64 of them at first.
-pub(crate) fn one_memory() -> Operation
+fn one_memory() -> Operation
     ensures { λ r. ⌜ r ≡ oneMemory ⌝ }
 {
     let limits = Limits {
@@ -38,7 +38,7 @@ pub(crate) fn one_memory() -> Operation
     }
 }
 
-pub(crate) fn one_table() -> Operation
+fn one_table() -> Operation
     ensures { λ r. ⌜ r ≡ oneTable ⌝ }
 {
     let limits = Limits {
@@ -60,7 +60,7 @@ pub(crate) fn one_table() -> Operation
     }
 }
 
-pub(crate) fn one_segment() -> Operation
+fn one_segment() -> Operation
     ensures { λ r. ⌜ r ≡ oneSegment ⌝ }
 {
     Operation::NewSegment {

@@ -13,10 +13,12 @@ use types::fuel::FuelCosts;
 ghost use mathlib.Core.Path.{_≡_};
 ghost use mathlib.Core.Bool.{true};
 ghost use Rattle.types.specs.Fuel.{newFuel, defaultCosts};
+ghost use lib.ListN.{replicate};
+ghost use Rattle.machine.specs.Machine.{buffers};
 ghost use Rattle.lines.specs.Code.{readLine};
 ghost use Rattle.types.specs.Done.{done};
 ghost use Rattle.lines.specs.AnswerLine.{answeredOf};
-ghost use Rattle.timing.specs.Text.{echoOf};
+ghost use Rattle.timing.specs.Text.{echoOf, sessionOn, Sent};
 
 // Whether a line is an operation's.
 fn echo(parsed: Read) -> Answer
@@ -46,11 +48,13 @@ pub extern "C" fn rounds_line(line: &[u8], out: &mut [u8]) -> bool
     write_answer_line(out, answer, fuel)
 }
 
-fn blank() -> [u64; 186] {
+fn blank() -> [u64; 186]
+    ensures { λ r. ⌜ r ≡ replicate 186 0 ⌝ }
+{
     [0u64; 186]
 }
 
-// A session on a fresh machine over one piece: how many bytes of answers it wrote. It is said only that this is safe and ends.
+// A session on a fresh machine over one piece: how many bytes of answers it wrote.
 #[no_mangle]
 pub extern "C" fn rounds_session(
     bytes: &mut [u8],
@@ -58,7 +62,10 @@ pub extern "C" fn rounds_session(
     items: &mut [u64],
     input: &[u8],
     out: &mut [u8],
-) -> usize {
+) -> usize
+    ensures { λ r. ⌜ Sent (sessionOn (buffers (now (bytes .entry)) (now (cells .entry)) (now (items .entry))) (now (input .entry)) (now (out .entry)))
+        r (now (bytes .exit)) (now (cells .exit)) (now (items .exit)) (now (out .exit)) ⌝ }
+{
     let mut words = blank();
     row::fresh(&mut words, true, FuelCosts::default_costs());
     let p = piece(Session::new(), &mut words, bytes, cells, items, input, out);
