@@ -1,4 +1,4 @@
--- One operation on a machine in place: document 01's step on the machine that a row says, whose words then stand in the row.
+-- Document 01, "First check wins", in place: one operation on the machine that a row says, whose words then stand in the row.
 use Rattle.types.specs.Prelude.{ℕ, _+_, _*_, Bool, false, List, leb, ltb, length}
 use Rattle.types.specs.Names.{unless, over, refuse, accept, newFuel, Answer, Fuel, FuelCosts}
 use Rattle.memory.specs.Names.{pagesOf}

@@ -1,4 +1,4 @@
--- A machine in place: a row of 64-bit words that whoever runs it lends. What each word is, the machine that a row says, and when a row is in form.
+-- Document 01, "The machine", in place: its records, fuel and limiter as a row of 64-bit words that whoever runs it lends, and when a row is in form.
 use Rattle.types.specs.Prelude.{ℕ, zero, suc, _+_, _*_, _%_, _^_, Bool, true, false, List, [], _∷_, _++_, eqb, leb, ltb, length, getD}
 use Rattle.types.specs.Names.{both, is64, indexOf, Fuel, Limiter, Limits, PageSize, RefType}
 use Rattle.memory.specs.Names.{Memory}

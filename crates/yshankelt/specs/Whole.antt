@@ -1,4 +1,4 @@
--- What C gets of a whole machine in a row of words: one operation by its code and fields. A fresh row and the sizes are the machine's own.
+-- Document 01, "Operation lines", for C: one operation on a machine in a row of words, by its code and fields. A fresh row and the sizes are the machine's own.
 use Rattle.types.specs.Prelude.{ℕ, true, List, eqb, leb, length, replicate}
 use Rattle.types.specs.Names.{pick, over, numberOf, shownOf, rawBytes}
 use Rattle.machine.specs.{Machine.Buffers, Row.InRow, Row.rowKeeps, Row.operateRow, Row.fuelOf}
