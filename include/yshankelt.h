@@ -1,8 +1,10 @@
 /* Yshankelt: loads and stores of a WebAssembly memory's bytes, the price of copying, and whole machines, for hosts in C.
  *
- * Every function takes every input. The result of a load or a store is document 01's number: 0 accepted, 9 outside
+ * Every function takes every number. The result of a load or a store is document 01's number: 0 accepted, 9 outside
  * (pointer plus offset passes 2^64-1, or some byte lies past the end). A refusal leaves `out` and every byte alone.
- * `bytes` and `len` are the memory's cells; `bytes` may be null where `len` is 0. `out` must not be null.
+ * What C must see to itself, since no function can test it: each pointer points to as many elements as the length beside it says (it may
+ * be null where that is 0); an out parameter is not null; and what is written (an out parameter, a buffer without `const`) lies apart from
+ * everything else that the call is given.
  * Link with the archive that `rt staticlib yshankelt` writes, target/staticlib/libyshankelt.a.
  */
 #ifndef YSHANKELT_H
@@ -153,12 +155,13 @@ uint8_t ysh_operate(uint64_t *words, size_t words_len, uint8_t *bytes, size_t by
 
 /* A memory's size in pages, by the row alone: the buffers are not needed, and are not looked at.
  * Of the records the memory's alone is read: 0 and the size in *value, or *value as it was and 19 for a row of fewer words, 16 for an
- * unknown number, 19 where a flag of the record is above 1. */
+ * unknown number, 19 where the record's flags are above 1 or it is sound over no buffer (its type invalid, its size outside type or room or
+ * no whole pages). That other records and the buffers are sound is tested by ysh_operate, with 12. */
 uint8_t ysh_memory_pages(const uint64_t *words, size_t words_len, uint64_t memory, uint64_t *value);
 
 /* A table's size in cells, by the row alone: the buffers are not needed, and are not looked at.
  * Of the records the table's alone is read: 0 and the size in *value, or *value as it was and 19 for a row of fewer words, 16 for an
- * unknown number, 19 where a flag of the record is above 1. */
+ * unknown number, 19 where the record's flags are above 1 or it is sound over no buffer. As for the rest, see there. */
 uint8_t ysh_table_cells(const uint64_t *words, size_t words_len, uint64_t table, uint64_t *value);
 
 #ifdef __cplusplus

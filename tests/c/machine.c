@@ -278,11 +278,11 @@ static void odd_rows(void)
             not_in_form(&h, W, "a spoiled word", i);
             sizes(&h, W, i < 8 ? 19 : 0, i >= 64 && i < 72 ? 19 : 0, "a size beside a spoiled word", i);
         }
-        /* the largest word is in form: what is no operation is 18, and a size is told */
+        /* the largest word is in form: what is no operation is 18, and a size is told, but where it makes that record unsound: 8 bytes are
+         * no whole page of 64 KiB, and a maximum of 0 is below the minimum */
         h = made;
         h.words[i] = largest(i);
-        if (i != 1) /* at 1 it makes the memory's pages larger than the memory */
-            sizes(&h, W, 0, 0, "a size beside the largest word", i);
+        sizes(&h, W, i == 1 || i == 3 ? 19 : 0, i == 67 ? 19 : 0, "a size beside the largest word", i);
         stays(&h, W, 0xff, 0, 18, "the largest word", i);
     }
     /* any other word makes some machine, sound or not: the row is left as it was, and 19 leaves the out parameters */
@@ -300,20 +300,30 @@ static void odd_rows(void)
         expect((h.value == MARK) == (number == 19) && (h.fuel == MARK) == (number == 19), "19 tells nothing else", i, number, h.value);
         if (i >= 170)
             expect(number == 0, "an answer of at most 2", i, number, 0);
+        /* where 12 answers, the size is its answer; where the size is refused, 12 is too */
+        uint64_t v = MARK;
+        uint8_t size = ysh_memory_pages(h.words, W, 0, &v);
+        expect(number == 19 ? size == 0 || size == 19 : size == 0 && v == h.value, "a size as 12 tells it", i, number, size);
     }
-    /* records that are not sound: 19 in an operation, while a size reads its own record alone */
+    /* records that are not sound: 19 in an operation. A size reads its own record alone: 19 where that is sound over no buffer, as with a size above
+     * its room or below its minimum, or a room that passes 2^64-1 bytes or 2^32 cells */
     static const struct {
         unsigned at;
         uint64_t word;
-    } unsound[] = {{5, 1}, {6, 1000}, {7, 17}, {69, 1}, {70, 1000}, {71, 9}, {160, 9}, {161, 9}, {162, 9}, {160, UINT64_MAX}};
+        uint8_t pages, cells;
+    } unsound[] = {{5, 1, 0, 0}, {6, 1000, 0, 0}, {7, 17, 19, 0}, {7, 7, 19, 0}, {5, UINT64_MAX, 19, 0}, {6, 7, 19, 0}, {69, 1, 0, 0}, {70, 1000, 0, 0},
+        {71, 9, 0, 19}, {71, 1, 0, 19}, {69, UINT64_C(0x100000000), 0, 19}, {160, 9, 0, 0}, {161, 9, 0, 0}, {162, 9, 0, 0}, {160, UINT64_MAX, 0, 0}};
     for (unsigned i = 0; i < sizeof unsound / sizeof *unsound; i++) {
         h = made;
         h.words[unsound[i].at] = unsound[i].word;
         stays(&h, W, 0x02, 0, 19, "unsound records", unsound[i].at);
         stays(&h, W, 0xff, 0, 18, "unsound records", unsound[i].at);
-        uint64_t v = MARK, size = h.words[7], cells = h.words[71];
-        expect(ysh_memory_pages(h.words, W, 0, &v) == 0 && v == size, "the size of an unsound record", unsound[i].at, v, 0);
-        expect(ysh_table_cells(h.words, W, 0, &v) == 0 && v == cells, "the size of an unsound record", unsound[i].at, v, 0);
+        uint64_t v = MARK;
+        expect(ysh_memory_pages(h.words, W, 0, &v) == unsound[i].pages, "the size of an unsound record", unsound[i].at, v, 0);
+        expect(v == (unsound[i].pages == 0 ? h.words[7] : MARK), "the size of an unsound record", unsound[i].at, v, 0);
+        v = MARK;
+        expect(ysh_table_cells(h.words, W, 0, &v) == unsound[i].cells, "the size of an unsound record", unsound[i].at, v, 0);
+        expect(v == (unsound[i].cells == 0 ? h.words[71] : MARK), "the size of an unsound record", unsound[i].at, v, 0);
     }
     /* sizes of unknown numbers, and of counts that no machine has */
     h = made;

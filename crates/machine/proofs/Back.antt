@@ -65,7 +65,7 @@ answer-back : (n : ℕ) → n < 256 → answerFrom n ≡ n
 answer-back n h = omega (arith, h)
 
 -- a list of 8 or of 16, place by place
-abbrev eightOf : {A : Type 0} → A → List A → List A
+abbrev pub eightOf : {A : Type 0} → A → List A → List A
 eightOf d xs = getD xs 0 d ∷ getD xs 1 d ∷ getD xs 2 d ∷ getD xs 3 d ∷ getD xs 4 d ∷ getD xs 5 d ∷ getD xs 6 d ∷ getD xs 7 d ∷ []
 
 eight : {A : Type 0} (d : A) (xs : List A) → length xs ≡ 8 → eightOf d xs ≡ xs
@@ -80,7 +80,7 @@ eight d (x0 ∷ x1 ∷ x2 ∷ x3 ∷ x4 ∷ x5 ∷ x6 ∷ []) e = absurd (omega 
 eight d (x0 ∷ x1 ∷ x2 ∷ x3 ∷ x4 ∷ x5 ∷ x6 ∷ x7 ∷ []) e = refl
 eight d (x0 ∷ x1 ∷ x2 ∷ x3 ∷ x4 ∷ x5 ∷ x6 ∷ x7 ∷ x8 ∷ xs) e = absurd (omega (arith, e))
 
-abbrev sixteenOf : ℕ → List ℕ → List ℕ
+abbrev pub sixteenOf : ℕ → List ℕ → List ℕ
 sixteenOf d xs =
     getD xs 0 d ∷ getD xs 1 d ∷ getD xs 2 d ∷ getD xs 3 d ∷ getD xs 4 d ∷ getD xs 5 d ∷ getD xs 6 d ∷ getD xs 7 d
     ∷ getD xs 8 d ∷ getD xs 9 d ∷ getD xs 10 d ∷ getD xs 11 d ∷ getD xs 12 d ∷ getD xs 13 d ∷ getD xs 14 d ∷ getD xs 15 d ∷ []
@@ -106,7 +106,7 @@ sixteen d (x0 ∷ x1 ∷ x2 ∷ x3 ∷ x4 ∷ x5 ∷ x6 ∷ x7 ∷ x8 ∷ x9 ∷
 sixteen d (x0 ∷ x1 ∷ x2 ∷ x3 ∷ x4 ∷ x5 ∷ x6 ∷ x7 ∷ x8 ∷ x9 ∷ x10 ∷ x11 ∷ x12 ∷ x13 ∷ x14 ∷ x15 ∷ x16 ∷ xs) e = absurd (omega (arith, e))
 
 -- the same machine, its lists place by place
-abbrev placed : Machine → Machine
+abbrev pub placed : Machine → Machine
 placed m =
     record {
       memories = eightOf noMemory (m .memories);
@@ -117,7 +117,7 @@ placed m =
       limiter = record { script = sixteenOf 0 (m .limiter .script); count = m .limiter .count; at = m .limiter .at };
     }
 
-placed-same : (m : Machine) → Shaped m → placed m ≡ m
+pub placed-same : (m : Machine) → Shaped m → placed m ≡ m
 placed-same m h =
     let a = eight noMemory (m .memories) (h .memories) in
     let b = eight noTable (m .tables) (h .tables) in

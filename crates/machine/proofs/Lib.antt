@@ -11,5 +11,7 @@ pub mod Rows
 pub mod Places
 pub mod Back
 pub mod Formed
+pub mod Forming
 pub mod Settling
+pub mod Sizes
 pub mod Unique

@@ -194,7 +194,7 @@ settle-words l o h f =
     ∙ ap (over l 0) (state-among x d s t n k)
 
 -- the step of a well-formed operation on a sound machine
-goes : (r : ℕ) (m : Machine) (b : Buffers) (o : Operation) → wellFormed o ≡ true → soundOver m b ≡ true → step r m b o ≡ after m (perform r m b o)
+pub goes : (r : ℕ) (m : Machine) (b : Buffers) (o : Operation) → wellFormed o ≡ true → soundOver m b ≡ true → step r m b o ≡ after m (perform r m b o)
 unfolding step decide
 goes r m b o w e = ap (after m) (pick-true _ _ _ w ∙ pick-true _ _ _ e)
 

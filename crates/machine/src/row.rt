@@ -35,6 +35,11 @@ ghost use Rattle.machine.specs.Sound.{soundMachine};
 ghost use Rattle.machine.specs.declared.outcome.Change.the-variants as change;
 ghost use Rattle.machine.specs.stages.Rows.{Inside, endsInside, changedRow, Settles, Goes, Proceeds};
 
+// The longest buffers that a record can be sound over.
+const MOST_BYTES: usize = 18446744073709551615;
+
+const MOST_CELLS: usize = 4294967296;
+
 // The record of a memory.
 pub(crate) fn memory_at(words: &[u64], i: usize) -> Memory
     requires { ⌜ rowLength ≤ length (now words) ⌝ }
@@ -345,6 +350,9 @@ fn pages_at(words: &[u64], i: usize) -> Answer
         return refused(19);
     }
     let memory = memory_at(words, i);
+    if !memory.is_sound(MOST_BYTES) {
+        return refused(19);
+    }
     Answer::Value(Value::Number(memory.pages()))
 }
 
@@ -356,10 +364,13 @@ fn cells_at(words: &[u64], i: usize) -> Answer
         return refused(19);
     }
     let table = table_at(words, i);
+    if !table.is_sound(MOST_CELLS) {
+        return refused(19);
+    }
     Answer::Value(Value::Number(table.size))
 }
 
-// A memory's size in pages: one record is read.
+// A memory's size in pages: one record is read, and 19 where that is sound over no buffer.
 pub fn memory_pages(words: &[u64], number: u64) -> Answer
     ensures { λ r. ⌜ r ≡ rowPages (now (words .entry)) number ⌝ }
 {

@@ -167,7 +167,8 @@ pub extern "C" fn ysh_operate(
     tell(words, answer, value, fuel)
 }
 
-// A memory's size in pages: of the row, one record alone is read. 16 for an unknown number; 19 for a short row or that record out of form.
+// A memory's size in pages: of the row, one record alone is read. 16 for an unknown number; 19 for a short row, or that record out of form or
+// sound over no buffer.
 #[no_mangle]
 pub extern "C" fn ysh_memory_pages(words: &[u64], memory: u64, value: &mut u64) -> u8
     ensures { λ r. ⌜ Given (rowPages (now (words .entry)) memory) (now (value .entry)) r (now (value .exit)) ⌝ }
