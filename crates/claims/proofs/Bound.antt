@@ -137,7 +137,7 @@ module _ (r : ℕ) (m : Machine) (b : Buffers) where
       record { affordable = both-2 _ _ last; short = cells-inside i start len k (both-1 _ _ last) }
 
   -- nothing of 01 to 04
-  fuel-free : (o : FuelOp) → meets (fuelMetering o) ≡ false
+  pub fuel-free : (o : FuelOp) → meets (fuelMetering o) ≡ false
   unfolding fuelMetering meets
   fuel-free (fuel.SetFuel amount) = refl
   fuel-free fuel.GetFuel = refl

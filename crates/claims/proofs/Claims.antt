@@ -10,6 +10,7 @@ use Rattle.claims.proofs.Sessions.{session-is-run, replies-run}
 use Rattle.claims.proofs.Exits.{answer-or-refusal, refusal-leaves, accepted-when, accepted-does}
 use Rattle.claims.proofs.Bound.{byte-bound}
 use Rattle.claims.proofs.Reached.{bound-reached}
+use Rattle.claims.proofs.Spans.{span-alone, span-counted, refused-writes-none}
 use Rattle.claims.proofs.Ledger.{ledger}
 use Rattle.claims.proofs.Alike.{alike}
 use Rattle.claims.proofs.Never.{never-unsound}
@@ -25,6 +26,9 @@ claims =
       accepted-does = accepted-does;
       byte-bound = byte-bound;
       bound-reached = bound-reached;
+      span-alone = span-alone;
+      span-counted = span-counted;
+      refused-writes-none = refused-writes-none;
       ledger = ledger;
       others-stay = others-stay;
       only-sizes = only-sizes;

@@ -7,6 +7,7 @@ pub mod TableExits
 pub mod Exits
 pub mod Never
 pub mod Bound
+pub mod Spans
 pub mod Reached
 pub mod Beside
 pub mod Ledger

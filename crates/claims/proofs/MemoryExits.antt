@@ -58,7 +58,8 @@ use Rattle.machine.proofs.Rooms.{memory-sound, next-byte-inside}
 use Rattle.claims.specs.Answers.{accepted}
 use Rattle.claims.specs.Metered.{Free, fuelMetering, memoryMetering, meteringOf, meets, grows, lengthOf, priceOf}
 use Rattle.claims.specs.Occasions.{validWanted, reaches, fuelOccasion, makesMemory, growsMemory, memoryOccasion, occasion}
-use Rattle.claims.specs.Effects.{fuelAnswer, memoryAnswer, answerOf, memoryWritten, written, memorySizeAfter, changeOf, countsAfter, fuelBy, handedTo, limiterAfter, acceptedStep}
+use Rattle.claims.specs.Spans.{memorySpan, spanOf, put}
+use Rattle.claims.specs.Effects.{fuelAnswer, memoryAnswer, answerOf, memorySizeAfter, changeOf, countsAfter, fuelBy, handedTo, limiterAfter, acceptedStep}
 use Rattle.claims.proofs.Exit.{Exit}
 use Rattle.claims.proofs.Exiting.{branch, surely, room-inside, put-back-stays, named, named-7, memory-put-back, Ends, accepted-is, ending, accepting, accepting-by, asks-none, refusing, leaving, creating, unknown}
 use Rattle.claims.proofs.Growth.{Grew, grew, grew-exit}
@@ -70,7 +71,7 @@ module _ (r : ℕ) (m : Machine) (b : Buffers) where
 
   -- 01 to 04: 15, 7, 18
   pub fuel-exit : (o : FuelOp) → soundOver m b ≡ true → wellFormed (op.Fuel o) ≡ true → Exit r m b (op.Fuel o) (occasion r m b (op.Fuel o))
-  unfolding perform onFuel performFuel setBy setFuel getFuel chargedBy consume consumeUnchecked handOver occasion fuelOccasion answerOf fuelAnswer changeOf countsAfter meteringOf fuelMetering fuelBy limiterAfter handedTo written grows accepted
+  unfolding perform onFuel performFuel setBy setFuel getFuel chargedBy consume consumeUnchecked handOver occasion fuelOccasion answerOf fuelAnswer changeOf countsAfter meteringOf fuelMetering fuelBy limiterAfter handedTo put spanOf grows accepted
   fuel-exit (fuel.SetFuel amount) e w =
       ending e w
       (branch (λ (s : FuelStep). Fuels (fuel.SetFuel amount) (setBy s (m .fuel) (m .limiter))) _ _ _
@@ -98,7 +99,7 @@ module _ (r : ℕ) (m : Machine) (b : Buffers) where
   -- 10: 17, 1, 2, limiter 3/4, 5 with notice
   pub new-memory-exit : (room : ℕ) (wanted : WantedMemory) → soundOver m b ≡ true → wellFormed (op.NewMemory room wanted) ≡ true
       → Exit r m b (op.NewMemory room wanted) (occasion r m b (op.NewMemory room wanted))
-  unfolding perform newMemoryOn newMemory madeMemory occasion makesMemory validWanted answerOf changeOf countsAfter meteringOf fuelBy limiterAfter written grows accepted
+  unfolding perform newMemoryOn newMemory madeMemory occasion makesMemory validWanted answerOf changeOf countsAfter meteringOf fuelBy limiterAfter put spanOf grows accepted
   new-memory-exit room wanted e w =
       ending e w
       (branch (λ (d : Done Outcome). Ends r m b (op.NewMemory room wanted) (onBytes d b)) _ _ _
@@ -117,6 +118,13 @@ reaching m i pointer offset n P f g =
     (λ t. branch P _ _ _ (λ y. f (both-true _ _ t y)) (λ y. g (both-right _ _ y)))
     (λ t. g (both-left _ _ t))
 
+-- a sound size is of whole pages, so the new bytes are those of the new pages
+pub more-bytes : (x : Memory) (n len : ℕ) → soundMemory x len ≡ true → grownSize x n ≡ x .size + n * pageBytes (x .ty .page)
+unfolding pagesOf
+more-bytes x n len e =
+    let k = pageBytes (x .ty .page) in
+    omega (arith, add-mul (x .size / k) n k, div-add-mod' (x .size) k, sound-is x len e .pages)
+
 module _ (r : ℕ) (m : Machine) (b : Buffers) (i : ℕ) where
   abbrev old : Memory
   old = memoryAt m i
@@ -133,13 +141,6 @@ module _ (r : ℕ) (m : Machine) (b : Buffers) (i : ℕ) where
     abbrev grow : Operation
     grow = op.Memory i (memory.Grow n)
 
-    -- the size is of whole pages, so the new bytes are those of the new pages
-    more-bytes : soundMemory old (length (b .bytes)) ≡ true → grownSize old n ≡ old .size + n * pageBytes (old .ty .page)
-    unfolding pagesOf
-    more-bytes e =
-        let k = pageBytes (old .ty .page) in
-        omega (arith, add-mul (old .size / k) n k, div-add-mod' (old .size) k, sound-is old _ e .pages)
-
     module _ (e : soundOver m b ≡ true) where
       -- a memory in use is sound
       sound : ltb i (m .counts .memories) ≡ true → soundMemory old (length (b .bytes)) ≡ true
@@ -154,15 +155,15 @@ module _ (r : ℕ) (m : Machine) (b : Buffers) (i : ℕ) where
       -- the price is that of the new pages
       price-is : ltb i (m .counts .memories) ≡ true → growthPrice old n (m .fuel) ≡ priceOf r m grow
       unfolding meteringOf memoryMetering lengthOf
-      price-is h = ap (price (m .fuel .costs .copied)) (omega (arith, more-bytes (sound h)))
+      price-is h = ap (price (m .fuel .costs .copied)) (omega (arith, more-bytes old n _ (sound h)))
 
       -- by 0 pages the size stays, and no byte is new
       by-none : ltb i (m .counts .memories) ≡ true → n ≡ 0
           → after m (out (done (answered (accept (pagesOf old)) old (m .fuel) (m .limiter)) (b .bytes))) ≡ acceptedStep r m b grow
-      unfolding both answerOf memoryAnswer changeOf memorySizeAfter countsAfter meteringOf memoryMetering fuelBy limiterAfter grows meets written memoryWritten
+      unfolding both answerOf memoryAnswer changeOf memorySizeAfter countsAfter meteringOf memoryMetering fuelBy limiterAfter grows meets put spanOf memorySpan
       by-none h z =
           let k = pageBytes (old .ty .page) in
-          let q : grownSize old n ≡ old .size = more-bytes (sound h) ∙ ap (λ (x : ℕ). old .size + x * k) z ∙ omega arith in
+          let q : grownSize old n ≡ old .size = more-bytes old n _ (sound h) ∙ ap (λ (x : ℕ). old .size + x * k) z ∙ omega arith in
           let d : grownSize old n - old .size ≡ 0 = omega (arith, q) in
           let p : ltb 0 n ≡ false = le-ltb 0 n (omega arith) in
           accepted-is r m b grow refl (ap (λ (x : ℕ). change.Memory i (resized old x)) (sym q)) refl (sym (pick-false _ _ _ p)) (sym (pick-false _ _ _ p))
@@ -171,7 +172,7 @@ module _ (r : ℕ) (m : Machine) (b : Buffers) (i : ℕ) where
 
       -- 11: 16, by 0, 6, limiter 6/4, 7 and 8 with notice
       pub memory-grew : Grew r m b grow (ltb i (m .counts .memories)) n true
-      unfolding pick both perform onMemory performMemory growMemory wellFormed memoryWellFormed occasion memoryOccasion growsMemory answerOf memoryAnswer changeOf memorySizeAfter countsAfter meteringOf memoryMetering fuelBy limiterAfter grows meets written memoryWritten accepted
+      unfolding pick both perform onMemory performMemory growMemory wellFormed memoryWellFormed occasion memoryOccasion growsMemory answerOf memoryAnswer changeOf memorySizeAfter countsAfter meteringOf memoryMetering fuelBy limiterAfter grows meets put spanOf memorySpan accepted
       memory-grew =
           grew r m b grow (ltb i (m .counts .memories)) n true out kept
           (λ l. done (answered (accept (pagesOf old)) old (m .fuel) l) (b .bytes))
@@ -195,7 +196,7 @@ module _ (r : ℕ) (m : Machine) (b : Buffers) (i : ℕ) where
   -- 11 to 14, 30, of a memory in use: 9, 1
   used-memory : (o : MemoryOp) → soundOver m b ≡ true → ltb i (m .counts .memories) ≡ true → soundMemory old (length (b .bytes)) ≡ true
       → On o (performMemory old (b .bytes) (m .fuel) (m .limiter) o)
-  unfolding performMemory loadMemory loadAt loadFound loadedOf storeMemory storeAt storeFound linkTo linked buildMemory occasion memoryOccasion validWanted answerOf memoryAnswer changeOf memorySizeAfter countsAfter meteringOf memoryMetering fuelBy limiterAfter grows written memoryWritten accepted
+  unfolding performMemory loadMemory loadAt loadFound loadedOf storeMemory storeAt storeFound linkTo linked buildMemory occasion memoryOccasion validWanted answerOf memoryAnswer changeOf memorySizeAfter countsAfter meteringOf memoryMetering fuelBy limiterAfter grows put spanOf memorySpan accepted
   used-memory (memory.Grow pages) e h s = λ q. grew-exit r m b _ _ _ _ refl (memory-grew pages e)
   used-memory memory.Size e h s = accepting-by refl (asks-none _ Free refl) (both-true _ _ h refl) refl
   used-memory (memory.Load kind pointer offset) e h s =

@@ -54,7 +54,8 @@ use Rattle.machine.proofs.Rooms.{table-sound, segment-sound}
 use Rattle.claims.specs.Answers.{accepted}
 use Rattle.claims.specs.Metered.{Free, Spans, tableMetering, meteringOf, meets, grows, lengthOf}
 use Rattle.claims.specs.Occasions.{ofKind, makesTable, growsTable, tableOccasion, copies, inits, occasion}
-use Rattle.claims.specs.Effects.{tableAnswer, answerOf, tableWritten, written, tableSizeAfter, changeOf, countsAfter, fuelBy, limiterAfter, acceptedStep}
+use Rattle.claims.specs.Spans.{tableSpan, spanOf, put}
+use Rattle.claims.specs.Effects.{tableAnswer, answerOf, tableSizeAfter, changeOf, countsAfter, fuelBy, limiterAfter, acceptedStep}
 use Rattle.claims.proofs.Exit.{Exit, accepts}
 use Rattle.claims.proofs.Exiting.{branch, surely, put-back-stays, named, table-put-back, nothing-put, Ends, accepted-is, ending, accepting, accepting-by, asks-none, refusing, leaving, creating, paying, spanning, unknown}
 use Rattle.claims.proofs.Growth.{Grew, grew, grew-exit}
@@ -64,7 +65,7 @@ module _ (r : ℕ) (m : Machine) (b : Buffers) where
   -- 20: 17, 1, 14, limiter 3/4, 5 with notice
   pub new-table-exit : (room : ℕ) (wanted : WantedTable) (initial : TypedRawRef) → soundOver m b ≡ true → wellFormed (op.NewTable room wanted initial) ≡ true
       → Exit r m b (op.NewTable room wanted initial) (occasion r m b (op.NewTable room wanted initial))
-  unfolding perform newTableOn newTable madeTable occasion makesTable answerOf changeOf countsAfter meteringOf fuelBy limiterAfter written grows accepted
+  unfolding perform newTableOn newTable madeTable occasion makesTable answerOf changeOf countsAfter meteringOf fuelBy limiterAfter put spanOf grows accepted
   new-table-exit room wanted initial e w =
       ending e w
       (branch (λ (d : Done Outcome). Ends r m b (op.NewTable room wanted initial) (onCells d b)) _ _ _
@@ -75,7 +76,7 @@ module _ (r : ℕ) (m : Machine) (b : Buffers) where
 
   -- 28: 16
   pub drop-segment-exit : (i : ℕ) → soundOver m b ≡ true → wellFormed (op.DropSegment i) ≡ true → Exit r m b (op.DropSegment i) (occasion r m b (op.DropSegment i))
-  unfolding perform dropOn occasion answerOf changeOf countsAfter meteringOf fuelBy limiterAfter written grows accepted
+  unfolding perform dropOn occasion answerOf changeOf countsAfter meteringOf fuelBy limiterAfter put spanOf grows accepted
   drop-segment-exit i e w =
       ending e w
       (branch (λ (o : Outcome). Ends r m b (op.DropSegment i) (onNone o b)) _ _ _
@@ -85,7 +86,7 @@ module _ (r : ℕ) (m : Machine) (b : Buffers) where
   -- 29: 17
   pub new-segment-exit : (element : RefType) (items : Items) → soundOver m b ≡ true → wellFormed (op.NewSegment element items) ≡ true
       → Exit r m b (op.NewSegment element items) (occasion r m b (op.NewSegment element items))
-  unfolding perform newSegmentOn newSegment madeSegment occasion answerOf changeOf countsAfter meteringOf fuelBy limiterAfter written grows accepted
+  unfolding perform newSegmentOn newSegment madeSegment occasion answerOf changeOf countsAfter meteringOf fuelBy limiterAfter put spanOf grows accepted
   new-segment-exit element items e w =
       ending e w
       (branch (λ (d : Done Outcome). Ends r m b (op.NewSegment element items) (onItems d b)) _ _ _
@@ -97,7 +98,7 @@ module _ (r : ℕ) (m : Machine) (b : Buffers) where
   -- within one table the kind is its own: 12, 7
   within-ends : (i : ℕ) (s : CopySpan) → soundOver m b ≡ true → ltb i (m .counts .tables) ≡ true
       → Ends r m b (op.TableCopy i i s) (onCells (spannedDone m (copyWithin r (tableAt m i) (b .cells) s (m .fuel))) b)
-  unfolding copyWithin occasion copies answerOf changeOf countsAfter meteringOf lengthOf fuelBy limiterAfter written grows accepted
+  unfolding copyWithin occasion copies answerOf changeOf countsAfter meteringOf lengthOf fuelBy limiterAfter put spanOf grows accepted
   within-ends i s e h =
       surely Within _ _ _ (table-sound m _ _ _ e i (ltb-true i _ h))
       (branch Within _ _ _
@@ -112,7 +113,7 @@ module _ (r : ℕ) (m : Machine) (b : Buffers) where
   -- 26: 16, 14, 12, 7
   pub table-copy-exit : (into source : ℕ) (s : CopySpan) → soundOver m b ≡ true → wellFormed (op.TableCopy into source s) ≡ true
       → Exit r m b (op.TableCopy into source s) (occasion r m b (op.TableCopy into source s))
-  unfolding perform copyOn copyKnown copyTable occasion copies answerOf changeOf countsAfter meteringOf lengthOf fuelBy limiterAfter written grows accepted
+  unfolding perform copyOn copyKnown copyTable occasion copies answerOf changeOf countsAfter meteringOf lengthOf fuelBy limiterAfter put spanOf grows accepted
   table-copy-exit into source s e w =
       ending e w
       (branch (Copies source) _ _ _
@@ -134,7 +135,7 @@ module _ (r : ℕ) (m : Machine) (b : Buffers) where
   -- 27: 16, 14, 13, length 0 without fuel, 7
   pub table-init-exit : (i segment : ℕ) (s : CopySpan) → soundOver m b ≡ true → wellFormed (op.TableInit i segment s) ≡ true
       → Exit r m b (op.TableInit i segment s) (occasion r m b (op.TableInit i segment s))
-  unfolding perform initOn initTable occasion inits answerOf changeOf countsAfter meteringOf lengthOf fuelBy limiterAfter written grows accepted
+  unfolding perform initOn initTable occasion inits answerOf changeOf countsAfter meteringOf lengthOf fuelBy limiterAfter put spanOf grows accepted
   table-init-exit i segment s e w =
       ending e w
       (branch (λ (d : Done Outcome). Ends r m b init (onCells d b)) _ _ _
@@ -178,7 +179,7 @@ module _ (r : ℕ) (m : Machine) (b : Buffers) (i : ℕ) where
 
     -- by 0 cells the size stays, and no cell is new
     by-none : n ≡ 0 → after m (out (done (answered (accept (old .size)) old (m .fuel) (m .limiter)) (b .cells))) ≡ acceptedStep r m b grow
-    unfolding both answerOf tableAnswer changeOf tableSizeAfter countsAfter meteringOf tableMetering fuelBy limiterAfter grows meets written tableWritten
+    unfolding both answerOf tableAnswer changeOf tableSizeAfter countsAfter meteringOf tableMetering fuelBy limiterAfter grows meets put spanOf tableSpan
     by-none z =
         let q : old .size + n ≡ old .size = omega arith in
         let p : ltb 0 n ≡ false = le-ltb 0 n (omega arith) in
@@ -188,7 +189,7 @@ module _ (r : ℕ) (m : Machine) (b : Buffers) (i : ℕ) where
 
     -- 21: 16, 14, by 0, 6 at the index type's largest size, limiter 6/4, 6, 7 and 8 with notice
     pub table-grew : Grew r m b grow (ltb i (m .counts .tables)) n (admitsOf (old .ty .limits) (old .size + n))
-    unfolding both perform onTable performTable growTable wellFormed occasion tableOccasion growsTable answerOf tableAnswer changeOf tableSizeAfter countsAfter meteringOf tableMetering lengthOf fuelBy limiterAfter grows meets written tableWritten accepted
+    unfolding both perform onTable performTable growTable wellFormed occasion tableOccasion growsTable answerOf tableAnswer changeOf tableSizeAfter countsAfter meteringOf tableMetering lengthOf fuelBy limiterAfter grows meets put spanOf tableSpan accepted
     table-grew =
         grew r m b grow (ltb i (m .counts .tables)) n (admitsOf (old .ty .limits) (old .size + n)) out
         (λ x f l. done (answered (answer.Refusal x) old f l) (b .cells))
@@ -212,7 +213,7 @@ module _ (r : ℕ) (m : Machine) (b : Buffers) (i : ℕ) where
   -- 21 to 25, of a table in use: 14, 9, 10, 11, 7
   used-table : (o : TableOp) → soundOver m b ≡ true → ltb i (m .counts .tables) ≡ true → soundTable old (length (b .cells)) ≡ true
       → On o (performTable r old (b .cells) (m .fuel) (m .limiter) o)
-  unfolding performTable getTable setTable setSound fillTable occasion tableOccasion answerOf tableAnswer changeOf tableSizeAfter countsAfter meteringOf tableMetering lengthOf fuelBy limiterAfter grows written tableWritten accepted
+  unfolding performTable getTable setTable setSound fillTable occasion tableOccasion answerOf tableAnswer changeOf tableSizeAfter countsAfter meteringOf tableMetering lengthOf fuelBy limiterAfter grows put spanOf tableSpan accepted
   used-table (table.Grow cells value) e h s = λ q. grew-exit r m b _ _ _ _ refl (table-grew cells value e)
   used-table table.Size e h s = accepting-by refl (asks-none _ Free refl) (both-true _ _ h refl) refl
   used-table (table.Get index) e h s =

@@ -21,7 +21,8 @@ use Rattle.lines.proofs.Pieces.{started}
 use Rattle.lent.proofs.operate.operate_kept.Reads as lent-reads
 use Rattle.lent.proofs.operate.operate_kept.Kinds as lent-kinds
 use Rattle.claims.specs.{Answers.accepted, Answers.valueOrListed, Answers.never, Metered.Leaves, Occasions.acceptedWhen, Effects.acceptedStep}
-use Rattle.claims.specs.{Bound.totals, Bound.mostBytes, Bound.fullestRun, Bound.zeros, Ledger.blank, Ledger.limiterSays}
+use Rattle.claims.specs.{Bound.wrote, Bound.totals, Bound.mostBytes, Bound.fullestRun, Bound.zeros, Ledger.blank, Ledger.limiterSays}
+use Rattle.claims.specs.{Metered.meteringOf, Metered.meets, Spans.spanOf, Spans.spanBytes, Spans.WritesSpan}
 use Rattle.claims.specs.{Ledger.book, Cases.allHold, Cases.cases, Sessions.readAll, Sessions.replies, Sessions.answersIn}
 use Rattle.claims.specs.{Sessions.sessionText, Alike.SameRest, Alike.SameNamed, Alike.SameOutcome}
 
@@ -44,6 +45,15 @@ pub record Claims : Type 0 where
   pub bound-reached : (r b f k : ℕ) → 1 ≤ b → 1 ≤ k → mostBytes b f k < 2 ^ 64
       → totals r (freshMachine true (costsOf b)) (zeros (mostBytes b f k)) (fullestRun b f k)
       ≡ record { bytes = mostBytes b f k; units = f; passed = k }
+  -- What is counted is what is written: an accepted operation writes one span of one buffer, inside it, and every other cell is as it was;
+  pub span-alone : (r : ℕ) (m : Machine) (b : Buffers) (op : Operation) → accepted (step r m b op .answer) ≡ true
+      → WritesSpan (spanOf m b op) b (step r m b op .buffers)
+  -- where it meets the fuel step, what the bound counts is exactly the bytes of that span;
+  pub span-counted : (r : ℕ) (m : Machine) (b : Buffers) (op : Operation) → accepted (step r m b op .answer) ≡ true → meets (meteringOf op) ≡ true
+      → wrote r m b op ≡ spanBytes r (spanOf m b op)
+  -- a refused one writes nothing and counts 0.
+  pub refused-writes-none : (r : ℕ) (m : Machine) (b : Buffers) (op : Operation) → accepted (step r m b op .answer) ≡ false
+      → (step r m b op .buffers ≡ b) × (wrote r m b op ≡ 0)
   -- 5. At each moment the fuel left and the charges since make up the amount last set, or 0.
   pub ledger : (r : ℕ) (costs : FuelCosts) (b : Buffers) (ops : List Operation)
       → let m = freshMachine true costs in

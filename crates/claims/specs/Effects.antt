@@ -1,13 +1,14 @@
 -- Document 01, "First check wins", "Fuel" and "Operation lines": what an accepted operation answers, changes, takes and writes.
-use Rattle.types.specs.Prelude.{ℕ, _+_, _-_, List, ltb, length, getD, replicate}
-use Rattle.types.specs.Names.{pick, both, cut, over, accept, left, paid, limiterOf, moved, matchMemory, Answer, Fuel, Limiter}
-use Rattle.memory.specs.Names.{leBytes, widthBytes, storeWidth, loadedOf, resized as resizedMemory, pagesOf, memoryOf, grownSize}
+use Rattle.types.specs.Prelude.{ℕ, _+_, _-_, ltb, length, getD}
+use Rattle.types.specs.Names.{pick, both, accept, left, paid, limiterOf, moved, matchMemory, Answer, Fuel, Limiter}
+use Rattle.memory.specs.Names.{loadedOf, resized as resizedMemory, pagesOf, memoryOf, grownSize}
 use Rattle.memory.specs.Names.{wanted as typeOf, leastBytes as leastOf, Memory}
 use Rattle.table.specs.Names.{resized as resizedTable, wanted as tableTypeOf, tableOf, dropped, Table}
-use Rattle.machine.specs.Names.{Buffers, buffers, memoryAt, tableAt, segmentAt, nextByte, nextCell, nextItem, scriptOf, itemsOf, changed, standing}
+use Rattle.machine.specs.Names.{Buffers, memoryAt, tableAt, segmentAt, nextByte, nextCell, nextItem, scriptOf, itemsOf, changed, standing}
 use Rattle.machine.specs.Names.{oneMemoryMore, oneTableMore, oneSegmentMore, Stepped, Machine, Counts, Change, Operation, FuelOp, MemoryOp, TableOp}
 use Rattle.claims.specs.Metered.{Metering, Free, Sets, Charges, GrowsPages, GrowsCells, Spans, Inits, memoryMetering, tableMetering}
 use Rattle.claims.specs.Metered.{meteringOf, meets, grows, priceOf}
+use Rattle.claims.specs.Spans.{spanOf, put}
 
 -- what an accepted operation answers: creations the new number, growths and sizes the size before, 02 and 03 the fuel left, others 0
 unfoldable pub fuelAnswer : Machine → FuelOp → Answer
@@ -41,44 +42,9 @@ answerOf m b (Operation.TableInit table segment span) = accept 0
 answerOf m b (Operation.DropSegment segment) = accept 0
 answerOf m b (Operation.NewSegment element items) = accept (m .counts .segments)
 
--- the bytes or cells after an accepted operation: one span is new, all else is as before
-abbrev pub withBytes : Buffers → ℕ → List ℕ → Buffers
-withBytes b at new = buffers (over (b .bytes) at new) (b .cells) (b .items)
-
-abbrev pub withCells : Buffers → ℕ → List ℕ → Buffers
-withCells b at new = buffers (b .bytes) (over (b .cells) at new) (b .items)
-
--- what is written to a memory: a growth's zeros, a store's bytes
-unfoldable pub memoryWritten : Machine → Buffers → ℕ → MemoryOp → Buffers
-memoryWritten m b i (MemoryOp.Grow pages) =
-    withBytes b (memoryAt m i .start + memoryAt m i .size) (replicate (grownSize (memoryAt m i) pages - memoryAt m i .size) 0)
-memoryWritten m b i MemoryOp.Size = b
-memoryWritten m b i (MemoryOp.Load kind pointer offset) = b
-memoryWritten m b i (MemoryOp.Store kind pointer offset bits) =
-    withBytes b (memoryAt m i .start + (pointer + offset)) (leBytes (widthBytes (storeWidth kind)) bits)
-memoryWritten m b i (MemoryOp.LinkCheck wanted) = b
-
--- what is written to a table: a growth's cells, one cell, a span
-unfoldable pub tableWritten : Machine → Buffers → ℕ → TableOp → Buffers
-tableWritten m b i (TableOp.Grow cells value) = withCells b (tableAt m i .start + tableAt m i .size) (replicate cells (value .raw .bits))
-tableWritten m b i TableOp.Size = b
-tableWritten m b i (TableOp.Get index) = b
-tableWritten m b i (TableOp.Set index value) = withCells b (tableAt m i .start + index) (replicate 1 (value .raw .bits))
-tableWritten m b i (TableOp.Fill start value len) = withCells b (tableAt m i .start + start) (replicate len (value .raw .bits))
-
--- all buffers after an accepted operation
-unfoldable pub written : Machine → Buffers → Operation → Buffers
-written m b (Operation.Fuel o) = b
-written m b (Operation.NewMemory room wanted) = withBytes b (nextByte m) (replicate (leastOf wanted) 0)
-written m b (Operation.Memory number o) = memoryWritten m b number o
-written m b (Operation.NewTable room wanted initial) = withCells b (nextCell m) (replicate (wanted .limits .minimum) (initial .raw .bits))
-written m b (Operation.Table number o) = tableWritten m b number o
-written m b (Operation.TableCopy into source span) =
-    withCells b (tableAt m into .start + span .to) (cut (b .cells) (tableAt m source .start + span .from) (span .len))
-written m b (Operation.TableInit table segment span) =
-    withCells b (tableAt m table .start + span .to) (cut (b .items) (segmentAt m segment .start + span .from) (span .len))
-written m b (Operation.DropSegment segment) = b
-written m b (Operation.NewSegment element items) = buffers (b .bytes) (b .cells) (over (b .items) (nextItem m) (itemsOf items))
+-- all buffers after an accepted operation: its span is new, all else is as before
+abbrev pub written : Machine → Buffers → Operation → Buffers
+written m b op = put b (spanOf m b op)
 
 -- the size of the memory that it names
 unfoldable pub memorySizeAfter : Memory → MemoryOp → ℕ

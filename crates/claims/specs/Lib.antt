@@ -1,6 +1,7 @@
 pub mod Answers
 pub mod Metered
 pub mod Occasions
+pub mod Spans
 pub mod Effects
 pub mod Bound
 pub mod Ledger
