@@ -1,9 +1,10 @@
 -- Document 01, "Checked by proof", P1 to P11: the definitions, computed, as one list with one claim.
-use Rattle.types.specs.Prelude.{ℕ, _+_, _-_, _*_, _^_, Bool, true, false, List, [], _∷_, _++_, eqb, ltb, replicate}
-use Rattle.types.specs.Names.{pick, both, price, numberOf, shownOf, maxSize, buildMemory, nullOf, rawBytes}
+use Rattle.types.specs.Prelude.{ℕ, _+_, _-_, _^_, Bool, true, false, List, [], _∷_, _++_, eqb, replicate}
+use Rattle.types.specs.Names.{both, price, newFuel, noLimiter, numberOf, shownOf, buildMemory, nullOf, rawBytes}
 use Rattle.types.specs.Names.{Answer, IndexType, Limits, BuiltMemory, RefType}
 use Rattle.memory.specs.Names.{LoadKind, StoreKind}
-use Rattle.machine.specs.Names.{buffers, freshMachine, run, Operation, FuelOp, MemoryOp}
+use Rattle.table.specs.Names.{growTable, Table}
+use Rattle.machine.specs.Names.{buffers, freshMachine, run, Operation, FuelOp, MemoryOp, TableOp}
 use Rattle.lines.specs.Session.{costsOf}
 
 -- every test of a list holds
@@ -27,10 +28,14 @@ unfoldable pub shown : List Answer → List ℕ
 shown [] = []
 shown (a ∷ more) = numberOf a ∷ shownOf a ∷ shown more
 
--- what a fresh machine with B bytes a unit answers, over small buffers of zeros
-unfoldable pub answered : ℕ → List Operation → List ℕ
-answered b ops =
-    shown (run rawBytes (freshMachine true (costsOf b)) (buffers (replicate 8 0) (replicate 4 0) (replicate 4 0)) ops .answers)
+-- what a fresh machine with B bytes a unit answers, over small buffers of zeros, where a reference counts R bytes
+unfoldable pub answeredAt : ℕ → ℕ → List Operation → List ℕ
+answeredAt r b ops =
+    shown (run r (freshMachine true (costsOf b)) (buffers (replicate 8 0) (replicate 16 0) (replicate 4 0)) ops .answers)
+
+-- and where it counts as many as this machine's
+abbrev pub answered : ℕ → List Operation → List ℕ
+answered b ops = answeredAt rawBytes b ops
 
 unfoldable pub same : List ℕ → List ℕ → Bool
 same [] [] = true
@@ -43,6 +48,22 @@ abbrev pub tableAndSegment : List Operation
 tableAndSegment =
     Operation.NewTable 2 (record { element = RefType.Func; wide = false; limits = atLeast 2 }) (nullOf RefType.Func)
     ∷ Operation.NewSegment RefType.Func (record { count = 2; first = 7; second = 8; third = 0; fourth = 0 })
+    ∷ []
+
+-- 5 units, and a table without cells in a room of 16
+abbrev pub fuelAndTable : List Operation
+fuelAndTable =
+    Operation.Fuel (FuelOp.SetFuel 5)
+    ∷ Operation.NewTable 16 (record { element = RefType.Func; wide = false; limits = atLeast 0 }) (nullOf RefType.Func)
+    ∷ []
+
+-- its growth by n references, a fill of n, and the fuel left after each
+abbrev pub growAndFill : ℕ → List Operation
+growAndFill n =
+    Operation.Table 0 (TableOp.Grow n (nullOf RefType.Func))
+    ∷ Operation.Fuel FuelOp.GetFuel
+    ∷ Operation.Table 0 (TableOp.Fill 0 (nullOf RefType.Func) n)
+    ∷ Operation.Fuel FuelOp.GetFuel
     ∷ []
 
 -- an init of length 0
@@ -64,6 +85,20 @@ byteFf =
 abbrev pub loads : LoadKind → ℕ → ℕ → Operation
 loads kind pointer offset = Operation.Memory 0 (MemoryOp.Load kind pointer offset)
 
+-- a buffer of 2^32 references
+unfoldable pub fullBuffer : List ℕ
+fullBuffer = replicate (2 ^ 32) 0
+
+-- a 32-bit table of 2^32-2 cells without a maximum, whose room is all of it
+abbrev pub nearlyFull : Table
+nearlyFull =
+    record { ty = record { element = RefType.Func; index = IndexType.I32; limits = atLeast 0 }; start = 0; room = 2 ^ 32; size = 2 ^ 32 - 2 }
+
+-- what its growth by n answers, with metering off and no limiter
+unfoldable pub grownBy : ℕ → List ℕ
+grownBy n =
+    shown (growTable rawBytes nearlyFull fullBuffer n (nullOf RefType.Func) (newFuel false (costsOf 64)) noLimiter .out .answer ∷ [])
+
 -- the cases, each a test
 unfoldable pub cases : List Bool
 cases =
@@ -71,8 +106,8 @@ cases =
     eqb (price 64 63) 0
     ∷ eqb (price 64 64) 1
     -- P2: B 64, R 8: 7 references cost 0, 8 cost 1
-    ∷ eqb (price 64 (7 * 8)) 0
-    ∷ eqb (price 64 (8 * 8)) 1
+    ∷ same (answeredAt 8 64 (fuelAndTable ++ growAndFill 7)) (0 ∷ 0 ∷ 0 ∷ 0 ∷ 0 ∷ 0 ∷ 0 ∷ 5 ∷ 0 ∷ 0 ∷ 0 ∷ 5 ∷ [])
+    ∷ same (answeredAt 8 64 (fuelAndTable ++ growAndFill 8)) (0 ∷ 0 ∷ 0 ∷ 0 ∷ 0 ∷ 0 ∷ 0 ∷ 4 ∷ 0 ∷ 0 ∷ 0 ∷ 3 ∷ [])
     -- P3: B 0: 0 bytes cost 2^64-1
     ∷ eqb (price 0 0) (2 ^ 64 - 1)
     -- P4: 32-bit, exponent 16: minimum 65,536 valid, 65,537 gives 1
@@ -95,6 +130,6 @@ cases =
     -- P10: pointer 2^64-1, offset 1: 9
     ∷ same (answered 64 (byteFf ++ (loads LoadKind.I32From8U (2 ^ 64 - 1) 1 ∷ []))) (0 ∷ 0 ∷ 0 ∷ 0 ∷ 9 ∷ 0 ∷ [])
     -- P11: 32-bit table bound: 2^32-2 plus 1 passes, plus 2 gives 6
-    ∷ eqb (pick (ltb (2 ^ 32 - 2 + 1) (maxSize IndexType.I32)) 0 6) 0
-    ∷ eqb (pick (ltb (2 ^ 32 - 2 + 2) (maxSize IndexType.I32)) 0 6) 6
+    ∷ same (grownBy 1) (0 ∷ (2 ^ 32 - 2) ∷ [])
+    ∷ same (grownBy 2) (6 ∷ 0 ∷ [])
     ∷ []
