@@ -4,18 +4,19 @@ use mathlib.Core.Path.{_≡_, refl, sym, ap, subst, _∙_}
 use mathlib.Core.Bool.{Bool, true, false, false≢true}
 use mathlib.Core.List.{List, [], _∷_}
 use native.Mathlib.Omega.{arith}
-use native.Mathlib.Nat.{mul-le-mul-right}
+use native.Mathlib.Nat.{mul-le-mul, mul-le-mul-right}
 use lib.Dec.{eqb, ltb}
 use lib.ListN.{length}
 use borrow.Author.Tests.{leb-true, ltb-true, ne-eqb}
 use Rattle.types.specs.Pick.{pick, both}
+use Rattle.types.specs.Price.{price}
 use Rattle.types.specs.Fuel.{left, paid}
 use Rattle.types.specs.Span.{inside}
 use Rattle.types.specs.MemoryType.{pageBytes}
 use Rattle.types.specs.declared.fuel.Fuel.{Fuel}
 use Rattle.types.specs.declared.fuel.FuelCosts.{FuelCosts}
 use Rattle.types.proofs.Picks.{pick-true, pick-false, both-true, both-1, both-2, either}
-use Rattle.types.proofs.Prices.{price-covers, bytes-whole}
+use Rattle.types.proofs.Prices.{price-covers}
 use Rattle.types.proofs.Spans.{within-is}
 use Rattle.memory.specs.Memory.{pagesOf}
 use Rattle.memory.specs.Grow.{mayHave}
@@ -37,7 +38,7 @@ use Rattle.claims.specs.Answers.{accepted}
 use Rattle.claims.specs.Metered.{Metering, Free, Sets, Charges, GrowsPages, GrowsCells, Spans, Inits, fuelMetering, memoryMetering, tableMetering, meteringOf, meets, lengthOf, bytesOf, priceFor, priceOf, affords, passes}
 use Rattle.claims.specs.Occasions.{growsMemory, memoryOccasion, growsTable, tableOccasion, copies, inits, occasion}
 use Rattle.claims.specs.Effects.{fuelBy, fuelAfter, acceptedStep}
-use Rattle.claims.specs.Bound.{wrote, pays, totals, mostBytes}
+use Rattle.claims.specs.Bound.{wrote, pays, totals, mostR, mostBytes}
 use Rattle.claims.proofs.Exiting.{branch}
 use Rattle.claims.proofs.Exits.{refusal-leaves, accepted-when, accepted-does}
 
@@ -85,22 +86,31 @@ not-none n e k =
     let h : 0 < n = ltb-true 0 n e in
     sym (pick-false _ _ _ (ne-eqb n 0 (λ z. absurd (omega (arith, z))))) ∙ k
 
+-- one pass: what is paid covers its bytes but for less than a unit
+covered : (b n : ℕ) → 1 ≤ b → n < 2 ^ 64 → n ≤ mostBytes b (price b n) 1
+covered b n some short = omega (arith, price-covers b n some short)
+
+-- 2^32 references of the most bytes stay below 2^64: no byte length of them is capped
+cells-below : 2 ^ 32 * mostR < 2 ^ 64
+cells-below = ltb-true (2 ^ 32 * mostR) (2 ^ 64) refl
+
 module _ (r : ℕ) (m : Machine) (b : Buffers) where
   -- what an accepted operation that meets the fuel step was tested for: its price is there; and its bytes are below 2^64
   pub record Payable (x : Metering) : Type 0 where
     pub affordable : affords m (priceFor r m x) ≡ true
-    pub short : r ≤ 16 → soundOver m b ≡ true → lengthOf r m x < 2 ^ 64
+    pub short : r ≤ mostR → soundOver m b ≡ true → lengthOf r m x < 2 ^ 64
 
   -- no more cells than a room has are R bytes each below 2^64
-  cells-short : (i n : ℕ) → ltb i (m .counts .tables) ≡ true → n ≤ tableAt m i .room → r ≤ 16 → soundOver m b ≡ true → n * r < 2 ^ 64
+  cells-short : (i n : ℕ) → ltb i (m .counts .tables) ≡ true → n ≤ tableAt m i .room → r ≤ mostR → soundOver m b ≡ true → n * r < 2 ^ 64
   unfolding soundReferences
   cells-short i n k h small s =
       let few : length (b .cells) ≤ 2 ^ 32 = leb-true _ _ (both-1 _ _ (parts m _ _ _ s .references)) in
       let within = sound-room (tableAt m i) (length (b .cells)) (table-sound m _ _ _ s i (ltb-true _ _ k)) in
-      bytes-whole n r (omega arith) small
+      let most : n * r ≤ 2 ^ 32 * mostR = mul-le-mul {n₁ = n} {n₂ = 2 ^ 32} (omega arith) small in
+      omega (arith, most, cells-below)
 
   -- nor than its size
-  cells-inside : (i start n : ℕ) → ltb i (m .counts .tables) ≡ true → inside start n (tableAt m i .size) ≡ true → r ≤ 16 → soundOver m b ≡ true → n * r < 2 ^ 64
+  cells-inside : (i start n : ℕ) → ltb i (m .counts .tables) ≡ true → inside start n (tableAt m i .size) ≡ true → r ≤ mostR → soundOver m b ≡ true → n * r < 2 ^ 64
   cells-inside i start n k h small s =
       let held = sound-size (tableAt m i) (length (b .cells)) (table-sound m _ _ _ s i (ltb-true _ _ k)) in
       cells-short i n k (omega (arith, within-is start n _ h)) small s
@@ -203,8 +213,8 @@ module _ (r : ℕ) (m : Machine) (b : Buffers) (op : Operation) where
         ∙ fell (m .fuel) (priceOf r m op) on (affords-is m (priceOf r m op) on a)
 
   -- the bound of one operation
-  one-bound : r ≤ 16 → m .fuel .enabled ≡ true → 1 ≤ m .fuel .costs .copied
-      → wrote r m b op ≤ m .fuel .costs .copied * pays r m b op + (m .fuel .costs .copied - 1) * pick (passes r m b op) 1 0
+  one-bound : r ≤ mostR → m .fuel .enabled ≡ true → 1 ≤ m .fuel .costs .copied
+      → wrote r m b op ≤ mostBytes (m .fuel .costs .copied) (pays r m b op) (pick (passes r m b op) 1 0)
   unfolding wrote
   one-bound small on some =
       either (both (meets (meteringOf op)) (accepted (step r m b op .answer)))
@@ -216,13 +226,13 @@ module _ (r : ℕ) (m : Machine) (b : Buffers) (op : Operation) where
       let w : wrote r m b op ≡ bytesOf r m op = pick-true _ _ 0 t in
       let u : pays r m b op ≡ priceOf r m op = pays-price on p e (can .affordable) in
       let k : _≡_ {A = ℕ} (pick (passes r m b op) 1 0) 1 = pick-true _ 1 0 (passes-accepted on p e) in
-      rw w (rw u (rw k (omega (arith, price-covers (m .fuel .costs .copied) (bytesOf r m op) some (can .short small (both-1 _ _ when)))))))
+      rw w (rw u (rw k (covered (m .fuel .costs .copied) (bytesOf r m op) some (can .short small (both-1 _ _ when))))))
       (λ t.
       let w : wrote r m b op ≡ 0 = pick-false _ (bytesOf r m op) 0 t in
       omega arith)
 
 -- the bound of any operations, from any machine
-run-bound : (r : ℕ) (m : Machine) (b : Buffers) (ops : List Operation) → r ≤ 16 → m .fuel .enabled ≡ true → 1 ≤ m .fuel .costs .copied
+run-bound : (r : ℕ) (m : Machine) (b : Buffers) (ops : List Operation) → r ≤ mostR → m .fuel .enabled ≡ true → 1 ≤ m .fuel .costs .copied
     → totals r m b ops .bytes ≤ mostBytes (m .fuel .costs .copied) (totals r m b ops .units) (totals r m b ops .passed)
 unfolding totals
 run-bound r m b [] small on some = omega arith
@@ -236,7 +246,7 @@ run-bound r m b (op ∷ ops) small on some =
     omega (arith, ih, one-bound r m b op small on some)
 
 -- a fresh machine's bound
-pub byte-bound : (r : ℕ) (costs : FuelCosts) (b : Buffers) (ops : List Operation) → r ≤ 16 → 1 ≤ costs .copied
+pub byte-bound : (r : ℕ) (costs : FuelCosts) (b : Buffers) (ops : List Operation) → r ≤ mostR → 1 ≤ costs .copied
     → totals r (freshMachine true costs) b ops .bytes
     ≤ mostBytes (costs .copied) (totals r (freshMachine true costs) b ops .units) (totals r (freshMachine true costs) b ops .passed)
 unfolding freshMachine

@@ -1,4 +1,4 @@
--- The worked cases hold: one claim, computed. Assumes nothing.
+-- The worked cases hold: one claim, computed; of P11 the length of its buffer, too long to be made, is a law. Assumes nothing.
 use Prim.Native.Nat.{ℕ, _-_, _^_}
 use mathlib.Core.Bool.{true}
 use mathlib.Core.Path.{_≡_, refl, ap}

@@ -26,6 +26,10 @@ totals r m b (op ∷ ops) =
     let rest = totals r (s .machine) (s .buffers) ops in
     record { bytes = wrote r m b op + rest .bytes; units = pays r m b op + rest .units; passed = pick (passes r m b op) 1 0 + rest .passed }
 
+-- the most bytes that a reference may count: document 01 asks for R from 1 to 16
+abbrev pub mostR : ℕ
+mostR = 16
+
 -- B·F + (B-1)·K
 abbrev pub mostBytes : ℕ → ℕ → ℕ → ℕ
 mostBytes b f k = b * f + (b - 1) * k

@@ -21,7 +21,7 @@ use Rattle.lines.proofs.Pieces.{started}
 use Rattle.lent.proofs.operate.operate_kept.Reads as lent-reads
 use Rattle.lent.proofs.operate.operate_kept.Kinds as lent-kinds
 use Rattle.claims.specs.{Answers.accepted, Answers.valueOrListed, Answers.never, Metered.Leaves, Occasions.acceptedWhen, Effects.acceptedStep}
-use Rattle.claims.specs.{Bound.wrote, Bound.totals, Bound.mostBytes, Bound.fullestRun, Bound.zeros, Ledger.blank, Ledger.limiterSays}
+use Rattle.claims.specs.{Bound.wrote, Bound.totals, Bound.mostR, Bound.mostBytes, Bound.fullestRun, Bound.zeros, Ledger.blank, Ledger.limiterSays}
 use Rattle.claims.specs.{Metered.meteringOf, Metered.meets, Spans.spanOf, Spans.spanBytes, Spans.WritesSpan}
 use Rattle.claims.specs.{Ledger.book, Cases.allHold, Cases.cases, Sessions.readAll, Sessions.replies, Sessions.answersIn}
 use Rattle.claims.specs.{Sessions.sessionText, Alike.SameRest, Alike.SameNamed, Alike.SameOutcome}
@@ -38,7 +38,7 @@ pub record Claims : Type 0 where
   pub accepted-does : (r : ℕ) (m : Machine) (b : Buffers) (op : Operation) → accepted (step r m b op .answer) ≡ true
       → step r m b op ≡ acceptedStep r m b op
   -- 4. Metering on, B at least 1, R at most 16: the bytes written are at most B·F + (B-1)·K.
-  pub byte-bound : (r : ℕ) (costs : FuelCosts) (b : Buffers) (ops : List Operation) → r ≤ 16 → 1 ≤ costs .copied
+  pub byte-bound : (r : ℕ) (costs : FuelCosts) (b : Buffers) (ops : List Operation) → r ≤ mostR → 1 ≤ costs .copied
       → totals r (freshMachine true costs) b ops .bytes
       ≤ mostBytes (costs .copied) (totals r (freshMachine true costs) b ops .units) (totals r (freshMachine true costs) b ops .passed)
   -- No smaller number would do: for each B, F and K a run writes so many bytes, as far as a memory can hold them.
