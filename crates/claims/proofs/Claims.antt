@@ -8,6 +8,7 @@ use Rattle.lines.proofs.Pieces.{fed-whole}
 use Rattle.claims.specs.Claims.{Claims}
 use Rattle.claims.proofs.Sessions.{session-is-run, replies-run}
 use Rattle.claims.proofs.Exits.{answer-or-refusal, refusal-leaves, accepted-when, accepted-does}
+use Rattle.claims.proofs.Script.{script-moves}
 use Rattle.claims.proofs.Bound.{byte-bound}
 use Rattle.claims.proofs.Reached.{bound-reached}
 use Rattle.claims.proofs.Spans.{span-alone, span-counted, refused-writes-none}
@@ -22,6 +23,7 @@ claims =
     record {
       answer-or-refusal = answer-or-refusal;
       refusal-leaves = refusal-leaves;
+      script-moves = script-moves;
       accepted-when = accepted-when;
       accepted-does = accepted-does;
       byte-bound = byte-bound;

@@ -17,6 +17,7 @@ use Rattle.machine.specs.declared.operation.Operation.{Operation}
 use Rattle.claims.specs.Answers.{accepted, listed}
 use Rattle.claims.specs.Metered.{priceOf, paidRefusal}
 use Rattle.claims.specs.Effects.{answerOf, acceptedStep}
+use Rattle.claims.specs.Script.{heard, movedBy}
 
 -- what a refusal leaves: all but fuel and limiter
 abbrev pub stays : Machine → Buffers → Refusal → Fuel → Limiter → Stepped
@@ -29,6 +30,7 @@ pub record Refusing (r : ℕ) (m : Machine) (b : Buffers) (op : Operation) (when
   pub known : listed x ≡ true
   pub sound : soundOver m b ≡ true → x .number ≡ 19 → ⊥
   pub fuel : f ≡ pick (paidRefusal r m b op) (paid (m .fuel) (priceOf r m op)) (m .fuel)
+  pub script : l ≡ movedBy (heard r m b op) (m .limiter)
 
 -- accepted, with a value, or refused
 pub data Exit (r : ℕ) (m : Machine) (b : Buffers) (op : Operation) (when : Bool) : Type 0 where

@@ -36,6 +36,8 @@ use Rattle.claims.specs.Answers.{accepted, listed}
 use Rattle.claims.specs.Metered.{Metering, meteringOf, grows, priceOf, affords, grants, unlimited, erredAfter8, paidRefusal}
 use Rattle.claims.specs.Occasions.{granted, occasion}
 use Rattle.claims.specs.Effects.{answerOf, changeOf, countsAfter, fuelAfter, askedBy, limiterAfter, written, acceptedStep}
+use Rattle.claims.specs.Script.{question}
+use Rattle.claims.proofs.Heard.{Onward, no-question, heard-no, heard-told, moved-once, moved-twice}
 use Rattle.claims.proofs.Exit.{stays, Exit, accepts, refuses}
 
 -- a test's two ways, each with its equation
@@ -190,10 +192,13 @@ module _ {r : ℕ} {m : Machine} {b : Buffers} {op : Operation} where
   pub ending : soundOver m b ≡ true → wellFormed op ≡ true → Ends r m b op (perform r m b op) → Exit r m b op (occasion r m b op)
   ending e w f = f (step-is r m b op e w)
 
-  -- refused, with the fuel that it takes
+  -- refused, with the fuel that it takes and the script that it leaves
   pub refused-with : {x : Refusal} {f : Fuel} {l : Limiter} → Named x → occasion r m b op ≡ false → step r m b op ≡ stays m b x f l
-      → f ≡ pick (paidRefusal r m b op) (paid (m .fuel) (priceOf r m op)) (m .fuel) → Exit r m b op (occasion r m b op)
-  refused-with {x = x} {f = f} {l = l} h o s p = refuses x f l (record { none = o; same = s; known = h .known; sound = λ e. h .sound; fuel = p })
+      → f ≡ pick (paidRefusal r m b op) (paid (m .fuel) (priceOf r m op)) (m .fuel) → Onward r m b op l → Exit r m b op (occasion r m b op)
+  unfolding accepted
+  refused-with {x = x} {f = f} {l = l} h o s p t =
+      let a = ap (λ (y : Stepped). accepted (y .answer)) s in
+      refuses x f l (record { none = o; same = s; known = h .known; sound = λ e. h .sound; fuel = p; script = t a })
 
   -- accepted, with fuel and limiter as they come
   pub accepting-by : {f : Fuel} {l : Limiter} → f ≡ fuelAfter r m op → l ≡ limiterAfter (m .limiter) op → occasion r m b op ≡ true
@@ -218,9 +223,9 @@ module _ {r : ℕ} {m : Machine} {b : Buffers} {op : Operation} where
 
   -- the checks of a creation in sound room: 1, one more, limiter 3 or 4, 5 with notice
   pub creating : {X : Type 0} (out : X → Performed) (kept : Limiter → Refusal → X) (made : X) (sound valid more fits : Bool) (number : ℕ)
-      → sound ≡ true → Named (refusal number 0)
-      → ((x : Refusal) (l : Limiter) → Named x → occasion r m b op ≡ false → Ends r m b op (out (kept l x)))
-      → occasion r m b op ≡ both valid (both more (both (granted m) fits))
+      → soundOver m b ≡ true → wellFormed op ≡ true → sound ≡ true → Named (refusal number 0)
+      → ((x : Refusal) (l : Limiter) → Named x → occasion r m b op ≡ false → Onward r m b op l → Ends r m b op (out (kept l x)))
+      → question m b op ≡ both valid more → occasion r m b op ≡ both (question m b op) (both (granted m) fits)
       → (occasion r m b op ≡ true → Ends r m b op (out made))
       → Ends r m b op
       (out
@@ -230,73 +235,95 @@ module _ {r : ℕ} {m : Machine} {b : Buffers} {op : Operation} where
       (pick (eqb (saysOf (m .limiter)) 1) (kept (moved (m .limiter)) (refusal 3 0))
       (pick (eqb (saysOf (m .limiter)) 2) (kept (moved (m .limiter)) (refusal 4 0))
       (unless fits (kept (moved (moved (m .limiter))) (heardOf (saysOf (moved (m .limiter))) (refusal 5 0))) made)))))))
-  creating {X = X} out kept made sound valid more fits number s h refused o f =
+  creating {X = X} out kept made sound valid more fits number e w s h refused a o f =
       surely To _ _ _ s
       (branch To _ _ _
       (λ v.
       branch To _ _ _
-      (λ w.
-      let q = o ∙ both-then _ _ v ∙ both-then _ _ w in
+      (λ y.
+      let q = a ∙ both-true _ _ v y in
       branch To _ _ _
-      (λ t. refused _ _ (named 3 refl refl) (q ∙ both-left _ _ (grants-no _ t)))
+      (λ t. denied 3 (named 3 refl refl) q (grants-no _ t))
       (λ t.
       branch To _ _ _
-      (λ y. refused _ _ (named 4 refl refl) (q ∙ both-left _ _ (grants-error _ y)))
-      (λ y.
+      (λ z. denied 4 (named 4 refl refl) q (grants-error _ z))
+      (λ z.
+      let g = grants-yes _ t z in
       branch To _ _ _
-      (λ z. f (q ∙ both-true _ _ (grants-yes _ t y) z))
-      (λ z. refused _ _ (heard-named _ _ (named 5 refl refl)) (q ∙ both-right _ _ z)))))
-      (λ w. refused _ _ h (o ∙ both-right _ _ (both-left _ _ w))))
-      (λ v. refused _ _ (named 1 refl refl) (o ∙ both-left _ _ v)))
+      (λ i. f (o ∙ both-true _ _ q (both-true _ _ g i)))
+      (λ i.
+      refused _ _ (heard-named _ _ (named 5 refl refl)) (o ∙ both-right _ _ (both-right _ _ i))
+      (λ n. moved-twice r m b op (heard-told r m b op e w q g n))))))
+      (λ y. early _ h (a ∙ both-right _ _ y)))
+      (λ v. early _ (named 1 refl refl) (a ∙ both-left _ _ v)))
     where
       To : X → Type 0
       To x = Ends r m b op (out x)
 
+      -- before the limiter's question, and at it
+      early : (x : Refusal) → Named x → question m b op ≡ false → To (kept (m .limiter) x)
+      early x k q = refused x _ k (o ∙ both-left _ _ q) (λ p. no-question r m b op q)
+
+      denied : (k : ℕ) → Named (refusal k 0) → question m b op ≡ true → granted m ≡ false → To (kept (moved (m .limiter)) (refusal k 0))
+      denied k n q g = refused _ _ n (o ∙ both-right _ _ (both-left _ _ g)) (λ p. moved-once r m b op (heard-no r m b op e w q g))
+
   module _ (c : Change) (k : changed c m ≡ m) (g : grows (meteringOf op) ≡ false) where
     -- refused, no growth, with a change that changes nothing
-    pub refusing : (x : Refusal) (l : Limiter) → Named x → occasion r m b op ≡ false
-        → Ends r m b op (onNone (record { answer = answer.Refusal x; change = c; counts = m .counts; fuel = m .fuel; limiter = l }) b)
+    pub refusing-by : (x : Refusal) (l : Limiter) → Named x → occasion r m b op ≡ false
+        → Onward r m b op l → Ends r m b op (onNone (record { answer = answer.Refusal x; change = c; counts = m .counts; fuel = m .fuel; limiter = l }) b)
     unfolding paidRefusal
-    refusing x l h o q = refused-with h o (q ∙ put-back-stays m b c k x (m .fuel) l) (sym (pick-false _ _ _ (both-left _ _ g)))
+    refusing-by x l h o t q = refused-with h o (q ∙ put-back-stays m b c k x (m .fuel) l) (sym (pick-false _ _ _ (both-left _ _ g))) t
 
-    -- the last check of a span operation: 7, else the price is paid and the cells are new
-    pub paying : (p : ℕ) (new : List ℕ) → occasion r m b op ≡ affords m p
-        → (occasion r m b op ≡ true → Ends r m b op (onCells (spans m c (spanDone (accept 0) (paid (m .fuel) p) new)) b))
-        → Ends r m b op
-        (onCells
-        (spans m c (pick (short (m .fuel) p) (spanDone (refuse 7 p) (m .fuel) (b .cells)) (spanDone (accept 0) (paid (m .fuel) p) new)))
-        b)
-    paying p new o f =
-        branch (λ (s : Done Spanned). Ends r m b op (onCells (spans m c s) b)) _ _ _
-        (λ t. refusing (refusal 7 p) (m .limiter) (named-7 p) (o ∙ short-not m p t))
-        (λ t. f (o ∙ affords-all m p t))
+    module _ (u : question m b op ≡ false) where
+      -- that asks the limiter nothing
+      pub refusing : (x : Refusal) → Named x → occasion r m b op ≡ false
+          → Ends r m b op (onNone (record { answer = answer.Refusal x; change = c; counts = m .counts; fuel = m .fuel; limiter = m .limiter }) b)
+      refusing x h o = refusing-by x (m .limiter) h o (λ n. no-question r m b op u)
 
-    -- the checks before it: of the kind, and of the bounds
-    pub spanning : (kind bounds last : Bool) (number : ℕ) (rest : Done Spanned) → Named (refusal number 0)
-        → occasion r m b op ≡ both kind (both bounds last)
-        → (occasion r m b op ≡ last → Ends r m b op (onCells (spans m c rest) b))
-        → Ends r m b op
-        (onCells
-        (spans m c
-        (unless kind (spanDone (refuse 14 0) (m .fuel) (b .cells)) (unless bounds (spanDone (refuse number 0) (m .fuel) (b .cells)) rest)))
-        b)
-    spanning kind bounds last number rest h o f =
-        branch To kind _ _
-        (λ t.
-        branch To bounds _ _
-        (λ y. f (o ∙ both-then _ _ t ∙ both-then _ _ y))
-        (λ y. refusing (refusal number 0) (m .limiter) h (o ∙ both-right _ _ (both-left _ _ y))))
-        (λ t. refusing (refusal 14 0) (m .limiter) (named 14 refl refl) (o ∙ both-left _ _ t))
-      where
-        To : Done Spanned → Type 0
-        To s = Ends r m b op (onCells (spans m c s) b)
+      -- the last check of a span operation: 7, else the price is paid and the cells are new
+      pub paying : (p : ℕ) (new : List ℕ) → occasion r m b op ≡ affords m p
+          → (occasion r m b op ≡ true → Ends r m b op (onCells (spans m c (spanDone (accept 0) (paid (m .fuel) p) new)) b))
+          → Ends r m b op
+          (onCells
+          (spans m c (pick (short (m .fuel) p) (spanDone (refuse 7 p) (m .fuel) (b .cells)) (spanDone (accept 0) (paid (m .fuel) p) new)))
+          b)
+      paying p new o f =
+          branch (λ (s : Done Spanned). Ends r m b op (onCells (spans m c s) b)) _ _ _
+          (λ t. refusing (refusal 7 p) (named-7 p) (o ∙ short-not m p t))
+          (λ t. f (o ∙ affords-all m p t))
+
+      -- the checks before it: of the kind, and of the bounds
+      pub spanning : (kind bounds last : Bool) (number : ℕ) (rest : Done Spanned) → Named (refusal number 0)
+          → occasion r m b op ≡ both kind (both bounds last)
+          → (occasion r m b op ≡ last → Ends r m b op (onCells (spans m c rest) b))
+          → Ends r m b op
+          (onCells
+          (spans m c
+          (unless kind (spanDone (refuse 14 0) (m .fuel) (b .cells)) (unless bounds (spanDone (refuse number 0) (m .fuel) (b .cells)) rest)))
+          b)
+      spanning kind bounds last number rest h o f =
+          branch To kind _ _
+          (λ t.
+          branch To bounds _ _
+          (λ y. f (o ∙ both-then _ _ t ∙ both-then _ _ y))
+          (λ y. refusing (refusal number 0) h (o ∙ both-right _ _ (both-left _ _ y))))
+          (λ t. refusing (refusal 14 0) (named 14 refl refl) (o ∙ both-left _ _ t))
+        where
+          To : Done Spanned → Type 0
+          To s = Ends r m b op (onCells (spans m c s) b)
 
   -- refused, no growth, with no change
-  pub leaving : (x : Refusal) (l : Limiter) → Named x → grows (meteringOf op) ≡ false → occasion r m b op ≡ false
+  pub leaving-by : (x : Refusal) (l : Limiter) → Named x → grows (meteringOf op) ≡ false → occasion r m b op ≡ false → Onward r m b op l
       → Ends r m b op (onNone (leaves m (answer.Refusal x) (m .fuel) l) b)
-  leaving x l h g o = refusing change.Nothing (nothing-put m) g x l h o
+  leaving-by x l h g o t = refusing-by change.Nothing (nothing-put m) g x l h o t
+
+  -- that asks the limiter nothing
+  pub leaving : (x : Refusal) → Named x → grows (meteringOf op) ≡ false → question m b op ≡ false → occasion r m b op ≡ false
+      → Ends r m b op (onNone (keeps m (answer.Refusal x)) b)
+  leaving x h g u o = leaving-by x (m .limiter) h g o (λ n. no-question r m b op u)
 
   -- 16, whatever is not in use
-  pub unknown : occasion r m b op ≡ false → Ends r m b op (onNone (keeps m (refuse 16 0)) b)
+  pub unknown : question m b op ≡ false → occasion r m b op ≡ false → Ends r m b op (onNone (keeps m (refuse 16 0)) b)
   unfolding settled changed
-  unknown o q = refused-with (named 16 refl refl) o q (sym (pick-false _ _ _ (unpaid r m b op 16 (stays-number r m b op q) refl refl)))
+  unknown u o q =
+      refused-with (named 16 refl refl) o q (sym (pick-false _ _ _ (unpaid r m b op 16 (stays-number r m b op q) refl refl))) (λ n. no-question r m b op u)

@@ -21,6 +21,8 @@ use Rattle.claims.specs.Answers.{accepted, listed, valueOrListed}
 use Rattle.claims.specs.Metered.{Leaves}
 use Rattle.claims.specs.Occasions.{occasion, acceptedWhen}
 use Rattle.claims.specs.Effects.{acceptedStep}
+use Rattle.claims.specs.Script.{asks, heard, movedBy}
+use Rattle.claims.proofs.Heard.{unasked}
 use Rattle.claims.proofs.Exit.{Exit, accepts, refuses}
 use Rattle.claims.proofs.Exiting.{stays-number, unpaid}
 use Rattle.claims.proofs.Growth.{value-number}
@@ -53,9 +55,9 @@ exit r m b (op.NewSegment element items) s w = new-segment-exit r m b element it
 module _ (r : ℕ) (m : Machine) (b : Buffers) (op : Operation) where
   -- 18 and 19 leave everything
   first : (n : ℕ) → decide r m b op ≡ onNone (keeps m (refuse n 0)) b → acceptedWhen r m b op ≡ false → listed (refusal n 0) ≡ true
-      → eqb n 8 ≡ false → eqb n 4 ≡ false → (soundOver m b ≡ true → n ≡ 19 → ⊥) → Exit r m b op (acceptedWhen r m b op)
+      → eqb n 8 ≡ false → eqb n 4 ≡ false → asks m b op ≡ false → (soundOver m b ≡ true → n ≡ 19 → ⊥) → Exit r m b op (acceptedWhen r m b op)
   unfolding step settled changed numberOf
-  first n e w k p q h =
+  first n e w k p q a h =
       refuses (refusal n 0) (m .fuel) (m .limiter)
       (record {
         none = w;
@@ -63,6 +65,7 @@ module _ (r : ℕ) (m : Machine) (b : Buffers) (op : Operation) where
         known = k;
         sound = h;
         fuel = sym (pick-false _ _ _ (unpaid r m b op n (stays-number r m b op (ap (after m) e)) p q));
+        script = unasked r m b op a;
       })
 
   -- how it ends on any machine
@@ -74,9 +77,9 @@ module _ (r : ℕ) (m : Machine) (b : Buffers) (op : Operation) where
       either (soundOver m b)
       (λ s. subst (Exit r m b op) (sym (both-then _ _ w ∙ both-then _ _ s)) (exit r m b op s w))
       (λ s.
-      first 19 (pick-true _ _ _ w ∙ pick-false _ _ _ s) (both-right _ _ (both-left _ _ s)) (first-listed .1) refl refl
+      first 19 (pick-true _ _ _ w ∙ pick-false _ _ _ s) (both-right _ _ (both-left _ _ s)) (first-listed .1) refl refl (both-right _ _ (both-left _ _ s))
       (λ e z. false≢true (sym s ∙ e))))
-      (λ w. first 18 (pick-false _ _ _ w) (both-left _ _ w) (first-listed .0) refl refl (λ e z. omega (arith, z)))
+      (λ w. first 18 (pick-false _ _ _ w) (both-left _ _ w) (first-listed .0) refl refl (both-left _ _ w) (λ e z. omega (arith, z)))
 
   module _ {when : Bool} where
     -- an answer is a value exactly when the operation is accepted
@@ -99,6 +102,10 @@ module _ (r : ℕ) (m : Machine) (b : Buffers) (op : Operation) where
           fuel = ap (λ (y : Stepped). y .machine .fuel) s ∙ z .fuel;
         }
 
+    script-of : Exit r m b op when → accepted (step r m b op .answer) ≡ false → step r m b op .machine .limiter ≡ movedBy (heard r m b op) (m .limiter)
+    script-of (accepts w v e) n = absurd (false≢true (sym n ∙ when-of (accepts w v e) ∙ w))
+    script-of (refuses x f l z) n = ap (λ (y : Stepped). y .machine .limiter) (z .same) ∙ z .script
+
     listed-of : Exit r m b op when → valueOrListed (step r m b op .answer) ≡ true
     unfolding valueOrListed
     listed-of (accepts w v e) = value-listed _ (when-of (accepts w v e) ∙ w)
@@ -119,6 +126,10 @@ module _ (r : ℕ) (m : Machine) (b : Buffers) (op : Operation) where
   -- a refusal leaves all but fuel and limiter
   pub refusal-leaves : accepted (step r m b op .answer) ≡ false → Leaves r m b op (step r m b op)
   refusal-leaves = leaves-of ends
+
+  -- the script moved on by what the limiter heard
+  pub refusal-script : accepted (step r m b op .answer) ≡ false → step r m b op .machine .limiter ≡ movedBy (heard r m b op) (m .limiter)
+  refusal-script = script-of ends
 
   -- accepted exactly on its occasion, and then it does what is described
   pub accepted-when : accepted (step r m b op .answer) ≡ acceptedWhen r m b op

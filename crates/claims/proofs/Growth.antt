@@ -26,6 +26,8 @@ use Rattle.claims.specs.Answers.{accepted}
 use Rattle.claims.specs.Metered.{meteringOf, grows, priceOf, affords, unlimited, paidRefusal}
 use Rattle.claims.specs.Occasions.{granted, occasion}
 use Rattle.claims.specs.Effects.{answerOf, acceptedStep}
+use Rattle.claims.specs.Script.{question, heard}
+use Rattle.claims.proofs.Heard.{onward, no-question, heard-no, heard-told, moved-once, moved-twice}
 use Rattle.claims.proofs.Exit.{stays, Exit, accepts}
 use Rattle.claims.proofs.Exiting.{branch, Named, named, named-7, heard-named, grants-no, grants-error, grants-yes, short-not, affords-all, step-is, number, quiet, stays-number, paid-is, unpaid, refused-with}
 
@@ -71,11 +73,11 @@ module _ (r : ℕ) (m : Machine) (b : Buffers) (op : Operation) where
   module _ (used : Bool) (n : ℕ) (admits : Bool) where
     -- how a growth by n ends, of one that is in use or not; where the limiter was told, the number without a limiter shows whether it paid
     pub data Grew : Type 0 where
-      before : (k : ℕ) (l : Limiter) → Named (refusal k 0) → eqb k 8 ≡ false → eqb k 4 ≡ false → occasion r m b op ≡ false
+      before : (k : ℕ) (l : Limiter) → l ≡ onward r m b op → Named (refusal k 0) → eqb k 8 ≡ false → eqb k 4 ≡ false → occasion r m b op ≡ false
           → step r m b op ≡ stays m b (refusal k 0) (m .fuel) l → Grew
-      erred : used ≡ true → ltb 0 n ≡ true → granted m ≡ false → occasion r m b op ≡ false
+      erred : heard r m b op ≡ 1 → granted m ≡ false → occasion r m b op ≡ false
           → step r m b op ≡ stays m b (refusal 4 0) (m .fuel) (moved (m .limiter)) → Grew
-      told : (k a : ℕ) → used ≡ true → ltb 0 n ≡ true → granted m ≡ true → occasion r m b op ≡ false → Named (refusal k a) → eqb k 4 ≡ false
+      told : (k a : ℕ) → heard r m b op ≡ 2 → used ≡ true → ltb 0 n ≡ true → granted m ≡ true → occasion r m b op ≡ false → Named (refusal k a) → eqb k 4 ≡ false
           → eqb k 8 ≡ both admits (affords m (priceOf r m op)) → quiet r m b op ≡ k
           → step r m b op
           ≡ stays m b (heardOf (saysOf (moved (m .limiter))) (refusal k a)) (pick (eqb k 8) (paid (m .fuel) (priceOf r m op)) (m .fuel)) (moved (moved (m .limiter)))
@@ -84,13 +86,15 @@ module _ (r : ℕ) (m : Machine) (b : Buffers) (op : Operation) where
 
     -- each way is an exit
     pub grew-exit : grows (meteringOf op) ≡ true → Grew → Exit r m b op (occasion r m b op)
-    grew-exit g (before k l h p q o s) = refused-with h o s (sym (pick-false _ _ _ (unpaid r m b op k (stays-number r m b op s) p q)))
-    grew-exit g (erred u z y o s) =
+    grew-exit g (before k l t h p q o s) = refused-with h o s (sym (pick-false _ _ _ (unpaid r m b op k (stays-number r m b op s) p q))) (λ n. t)
+    grew-exit g (erred h y o s) =
         refused-with (named 4 refl refl) o s
         (sym (pick-false _ _ _ (paid-is r m b op 4 (stays-number r m b op s) ∙ both-right _ _ (pick-false _ _ _ refl ∙ both-right _ _ (both-left _ _ y)))))
-    grew-exit g (told k a u z y o x d p q s) =
+        (λ n. moved-once r m b op h)
+    grew-exit g (told k a h u z y o x d p q s) =
         refused-with (heard-named _ _ x) o s
         (ap (λ (t : Bool). pick t (paid (m .fuel) (priceOf r m op)) (m .fuel)) (sym (told-paid _ k a (stays-number r m b op s) g y d q)))
+        (λ n. moved-twice r m b op h)
     grew-exit g (grown o v s) = accepts o v s
 
     -- the checks of one in use, at a price and with any limiter: where it is refused the record is kept, by 0 it stays, else all is done
@@ -118,6 +122,7 @@ module _ (r : ℕ) (m : Machine) (b : Buffers) (op : Operation) where
         pub stop : (l : Limiter) (x : Refusal) (f : Fuel) (l′ : Limiter) → after (metered m (m .fuel) l) (out (kept x f l′)) ≡ stays m b x f l′
         pub when : occasion r m b op
             ≡ both used (both kind (pick (eqb n 0) true (both may (both (granted m) (both admits (both (affords m (priceOf r m op)) fits))))))
+        pub asks : question m b op ≡ both used (both kind (both (ltb 0 n) may))
         pub value : accepted (answerOf m b op) ≡ true
         pub by-none : used ≡ true → n ≡ 0 → after m (out (none (m .limiter))) ≡ acceptedStep r m b op
         pub by-some : used ≡ true → ltb 0 n ≡ true → after m (out (all (m .limiter))) ≡ acceptedStep r m b op
@@ -131,9 +136,13 @@ module _ (r : ℕ) (m : Machine) (b : Buffers) (op : Operation) where
         comes l = step-is r (metered m (m .fuel) l) b op (limiter-sound m b l (c .sound)) (c .formed) ∙ ap (after (metered m (m .fuel) l)) (c .known u l)
 
         -- a refusal before the limiter grants it
-        early : (k : ℕ) (l : Limiter) → Named (refusal k 0) → eqb k 8 ≡ false → eqb k 4 ≡ false → occasion r m b op ≡ false
+        early : (k : ℕ) (l : Limiter) → l ≡ onward r m b op → Named (refusal k 0) → eqb k 8 ≡ false → eqb k 4 ≡ false → occasion r m b op ≡ false
             → To (kept (refusal k 0) (m .fuel) l)
-        early k l h p q o s = before k l h p q o (s ∙ c .stop (m .limiter) _ _ _)
+        early k l t h p q o s = before k l t h p q o (s ∙ c .stop (m .limiter) _ _ _)
+
+        -- before its question
+        unasked : both kind (both (ltb 0 n) may) ≡ false → m .limiter ≡ onward r m b op
+        unasked q = no-question r m b op (c .asks ∙ both-right _ _ q)
 
         module _ (k : kind ≡ true) (z : eqb n 0 ≡ false) (y : may ≡ true) where
           -- by more than 0
@@ -141,6 +150,10 @@ module _ (r : ℕ) (m : Machine) (b : Buffers) (op : Operation) where
           some =
               let d : n ≡ 0 → ⊥ = eqb-false n 0 z in
               lt-ltb 0 n (omega arith)
+
+          -- it comes to the limiter's question
+          asking : question m b op ≡ true
+          asking = c .asks ∙ both-true _ _ u (both-true _ _ k (both-true _ _ some y))
 
           -- the occasion from the limiter's question on
           after-question : occasion r m b op ≡ both (granted m) (both admits (both (affords m (priceOf r m op)) fits))
@@ -151,9 +164,11 @@ module _ (r : ℕ) (m : Machine) (b : Buffers) (op : Operation) where
               → eqb j 4 ≡ false → eqb j 8 ≡ both admits (affords m (priceOf r m op)) → f ≡ pick (eqb j 8) (paid (m .fuel) (priceOf r m op)) (m .fuel)
               → ((l : Limiter) → granting (priceOf r m op) l ≡ kept (heardOf (saysOf (moved l)) (refusal j a)) f (moved (moved l)))
               → To (kept (heardOf (saysOf (moved (m .limiter))) (refusal j a)) f (moved (moved (m .limiter))))
-          unfolding numberOf
+          unfolding numberOf accepted
           notice j a f g o x d p e q s =
-              told j a u some g (after-question ∙ both-right _ _ o) x d p
+              let t = s ∙ c .stop (m .limiter) _ _ _ in
+              let h = heard-told r m b op (c .sound) (c .formed) asking g (ap (λ (s : Stepped). accepted (s .answer)) t) in
+              told j a h u some g (after-question ∙ both-right _ _ o) x d p
               (ap (λ (s : Stepped). numberOf (s .answer))
               (comes noLimiter
               ∙ ap (λ (x : X). after (unlimited m) (out x))
@@ -161,7 +176,7 @@ module _ (r : ℕ) (m : Machine) (b : Buffers) (op : Operation) where
               ∙ pick-false _ _ _ (ap (λ (t : ℕ). eqb t 2) none-says) ∙ q noLimiter)
               ∙ c .stop noLimiter _ _ _)
               ∙ none-hears j a)
-              (s ∙ c .stop (m .limiter) _ _ _ ∙ ap (λ (f : Fuel). stays m b (heardOf (saysOf (moved (m .limiter))) (refusal j a)) f (moved (moved (m .limiter)))) e)
+              (t ∙ ap (λ (f : Fuel). stays m b (heardOf (saysOf (moved (m .limiter))) (refusal j a)) f (moved (moved (m .limiter)))) e)
 
           -- granted: 6, 7 and 8 with notice, else all is done
           granted-grew : granted m ≡ true → To (granting (priceOf r m op) (m .limiter))
@@ -184,18 +199,24 @@ module _ (r : ℕ) (m : Machine) (b : Buffers) (op : Operation) where
               notice 6 0 (m .fuel) g (both-left _ _ a) (named 6 refl refl) refl (sym (both-left _ _ a)) (sym (pick-false _ _ _ refl))
               (λ l. pick-false _ _ _ a))
 
+          -- its no, and its own error, are all that it says
+          denied : granted m ≡ false → heard r m b op ≡ 1
+          denied g = heard-no r m b op (c .sound) (c .formed) asking g
+
           -- the limiter's question: 6 or 4 without notice
           asked-grew : To
               (pick (eqb (saysOf (m .limiter)) 1) (kept (refusal 6 0) (m .fuel) (moved (m .limiter)))
               (pick (eqb (saysOf (m .limiter)) 2) (kept (refusal 4 0) (m .fuel) (moved (m .limiter))) (granting (priceOf r m op) (m .limiter))))
           asked-grew =
               branch To _ _ _
-              (λ t. early 6 _ (named 6 refl refl) refl refl (after-question ∙ both-left _ _ (grants-no _ t)))
+              (λ t.
+              let d = grants-no _ t in
+              early 6 _ (moved-once r m b op (denied d)) (named 6 refl refl) refl refl (after-question ∙ both-left _ _ d))
               (λ t.
               branch To _ _ _
               (λ e s.
               let d = grants-error _ e in
-              erred u some d (after-question ∙ both-left _ _ d) (s ∙ c .stop (m .limiter) _ _ _))
+              erred (denied d) d (after-question ∙ both-left _ _ d) (s ∙ c .stop (m .limiter) _ _ _))
               (λ e. granted-grew (grants-yes _ t e)))
 
         -- the checks before it: 14, by 0, 6
@@ -208,8 +229,10 @@ module _ (r : ℕ) (m : Machine) (b : Buffers) (op : Operation) where
             grown (c .when ∙ both-true _ _ u (both-true _ _ k (pick-true _ _ _ z))) (c .value) (s ∙ c .by-none u (eqb-true n 0 z)))
             (λ z.
             branch To may _ _ (asked-grew k z)
-            (λ y. early 6 _ (named 6 refl refl) refl refl (c .when ∙ both-right _ _ (both-right _ _ (pick-false _ _ _ z ∙ both-left _ _ y))))))
-            (λ k. early 14 _ (named 14 refl refl) refl refl (c .when ∙ both-right _ _ (both-left _ _ k)))
+            (λ y.
+            early 6 _ (unasked (both-right _ _ (both-right _ _ y))) (named 6 refl refl) refl refl
+            (c .when ∙ both-right _ _ (both-right _ _ (pick-false _ _ _ z ∙ both-left _ _ y))))))
+            (λ k. early 14 _ (unasked (both-left _ _ k)) (named 14 refl refl) refl refl (c .when ∙ both-right _ _ (both-left _ _ k)))
             (comes (m .limiter))
 
       -- a growth with these checks ends in one of the ways
@@ -218,4 +241,6 @@ module _ (r : ℕ) (m : Machine) (b : Buffers) (op : Operation) where
       grew p q c =
           either used
           (λ u. used-grew (subst Checks (q u) c) u)
-          (λ u. before 16 _ (named 16 refl refl) refl refl (c .when ∙ both-left _ _ u) (step-is r m b op (c .sound) (c .formed) ∙ ap (after m) (c .unknown u)))
+          (λ u.
+          before 16 _ (no-question r m b op (c .asks ∙ both-left _ _ u)) (named 16 refl refl) refl refl (c .when ∙ both-left _ _ u)
+          (step-is r m b op (c .sound) (c .formed) ∙ ap (after m) (c .unknown u)))

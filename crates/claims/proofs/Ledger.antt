@@ -5,13 +5,13 @@ use mathlib.Core.Bool.{Bool, true, false, false≢true}
 use mathlib.Core.List.{List, [], _∷_, _++_}
 use native.Mathlib.Omega.{arith}
 use lib.Dec.{eqb, leb, ltb}
-use lib.ListN.{getD, set}
+use lib.ListN.{length, getD, set}
 use borrow.Author.Tests.{lt-ltb, leb-true, ltb-true, ltb-false, eqb-true}
 use Rattle.types.specs.Pick.{pick, both}
 use Rattle.types.specs.Price.{price}
 use Rattle.types.specs.Answer.{refusal, numberOf}
 use Rattle.types.specs.Fuel.{paid}
-use Rattle.types.specs.Limiter.{saysOf, heardOf}
+use Rattle.types.specs.Limiter.{heardOf}
 use Rattle.types.specs.Limits.{admitsOf}
 use Rattle.types.specs.MemoryType.{pageBytes, pageOf, validExponent}
 use Rattle.types.specs.declared.answer.Answer.{Answer}
@@ -48,10 +48,12 @@ use Rattle.types.specs.declared.table_ty.WantedTable.{WantedTable}
 use Rattle.machine.proofs.Rooms.{parts}
 use Rattle.machine.proofs.ListLaws.{few}
 use Rattle.claims.specs.Answers.{accepted}
-use Rattle.claims.specs.Metered.{Metering, Free, Sets, Charges, GrowsPages, GrowsCells, Spans, Inits, fuelMetering, memoryMetering, tableMetering, meteringOf, meets, grows, lengthOf, priceFor, priceOf, affords, grants, paidRefusal}
+use Rattle.claims.specs.Metered.{Metering, Free, Sets, Charges, GrowsPages, GrowsCells, Spans, Inits, fuelMetering, memoryMetering, tableMetering, meteringOf, meets, grows, lengthOf, priceFor, priceOf, affords, paidRefusal}
 use Rattle.claims.specs.Occasions.{validWanted, fuelOccasion, makesMemory, makesTable, occasion}
 use Rattle.claims.specs.Effects.{answerOf, tableSizeAfter, changeOf, countsAfter, fuelBy, fuelAfter, limiterAfter, acceptedStep}
 use Rattle.claims.specs.Ledger.{Row, Book, blank, left, withPages, withTables, rowAt, erred, growthCharge, grown, entryBy, entry, limiterSays, book}
+use Rattle.claims.specs.Script.{heard, saysTo}
+use Rattle.claims.proofs.Heard.{says-many}
 use Rattle.claims.proofs.Exit.{stays}
 use Rattle.claims.proofs.Exiting.{branch, surely}
 use Rattle.claims.proofs.Growth as growth
@@ -152,27 +154,35 @@ module _ (r c : ℕ) (m : Machine) (b : Buffers) (k : Book) (w : Balanced c m k)
         (λ t. record { fuel = e; pages = w .pages; rows = w .rows })
 
   -- what the book charges for a growth, by its answer
-  abbrev noted : Bool → ℕ → Answer → ℕ
-  noted admits p a = growthCharge k a (saysOf (m .limiter)) admits p
+  abbrev noted : List ℕ → Bool → ℕ → Answer → ℕ
+  noted said admits p a = growthCharge k a said admits p
 
   -- the fuel after a growth is even with the book: with the charge, or where the growth is by 0 without
-  record Fair (n : ℕ) (admits : Bool) (p : ℕ) (s : Stepped) : Type 0 where
-    some : ltb 0 n ≡ true → Even c (s .machine .fuel) (k .set) (k .since + noted admits p (s .answer))
+  record Fair (said : List ℕ) (n : ℕ) (admits : Bool) (p : ℕ) (s : Stepped) : Type 0 where
+    some : ltb 0 n ≡ true → Even c (s .machine .fuel) (k .set) (k .since + noted said admits p (s .answer))
     none : ltb 0 n ≡ false → Even c (s .machine .fuel) (k .set) (k .since)
 
   -- a growth of one that is in use or not: by more than 0 it meets the fuel step, and where it is in use the book knows its price and whether its type admits it
   module _ (op : Operation) (used : Bool) (n : ℕ) (may admits : Bool) (p : ℕ) (same : used ≡ true → (p ≡ priceOf r m op) × (may ≡ admits))
       (after-it : fuelAfter r m op ≡ pick (ltb 0 n) (paid (m .fuel) (priceOf r m op)) (m .fuel)) (metered : meets (meteringOf op) ≡ ltb 0 n)
       (in-use : occasion r m b op ≡ true → used ≡ true) where
+    -- the limiter's answers
+    abbrev said : List ℕ
+    said = saysTo (heard r m b op) (m .limiter)
+
+    -- so many of them
+    many : (j : ℕ) → heard r m b op ≡ j → eqb (length said) 2 ≡ eqb j 2
+    many j h = ap (λ (x : ℕ). eqb x 2) (says-many _ _ ∙ h)
+
     -- what is noted of a refusal, by its number
-    noted-is : (x : Refusal) → noted admits p (answer.Refusal x)
-        ≡ pick (eqb (x .number) 8) p (pick (both (eqb (x .number) 4) (erred k (saysOf (m .limiter)) admits p)) p 0)
+    noted-is : (x : Refusal) → noted said admits p (answer.Refusal x)
+        ≡ pick (eqb (x .number) 8) p (pick (both (eqb (x .number) 4) (erred k said admits p)) p 0)
     unfolding growthCharge accepted numberOf pick
     noted-is x = refl
 
     -- nothing is taken, and nothing noted
-    free : (x : Refusal) (l : Limiter) → eqb (x .number) 8 ≡ false → both (eqb (x .number) 4) (erred k (saysOf (m .limiter)) admits p) ≡ false
-        → Fair n admits p (stays m b x (m .fuel) l)
+    free : (x : Refusal) (l : Limiter) → eqb (x .number) 8 ≡ false → both (eqb (x .number) 4) (erred k said admits p) ≡ false
+        → Fair said n admits p (stays m b x (m .fuel) l)
     free x l e d = record { some = λ z. nought (w .fuel) (noted-is x ∙ pick-false _ _ _ e ∙ pick-false _ _ _ d); none = λ z. w .fuel }
 
     -- the price is there by the book where it is there
@@ -183,51 +193,52 @@ module _ (r c : ℕ) (m : Machine) (b : Buffers) (k : Book) (w : Balanced c m k)
         pick-true _ _ _ (w .fuel .on) ∙ (λ i. leb (sym (same u .0) i) (sym e i))
 
     -- a refusal of which the limiter is told is noted where it paid
-    noted-told : (said j a : ℕ) → used ≡ true → grants (saysOf (m .limiter)) ≡ true → eqb j 4 ≡ false → eqb j 8 ≡ both may (affords m (priceOf r m op))
-        → noted admits p (answer.Refusal (heardOf said (refusal j a))) ≡ pick (eqb j 8) p 0
+    noted-told : (told j a : ℕ) → used ≡ true → heard r m b op ≡ 2 → eqb j 4 ≡ false → eqb j 8 ≡ both may (affords m (priceOf r m op))
+        → noted said admits p (answer.Refusal (heardOf told (refusal j a))) ≡ pick (eqb j 8) p 0
     unfolding erred
-    noted-told said j a u g d e =
+    noted-told told j a u h d e =
         noted-is _
-        ∙ heard-number said (refusal j a)
-        (λ (x : ℕ). pick (eqb x 8) p (pick (both (eqb x 4) (erred k (saysOf (m .limiter)) admits p)) p 0) ≡ pick (eqb j 8) p 0)
-        (pick-false _ _ _ refl ∙ ap (λ (t : Bool). pick t p 0) (both-then _ _ refl ∙ both-then _ _ g ∙ (λ i. both (sym (same u .1) i) (sym (there-by-book u) i)) ∙ sym e))
+        ∙ heard-number told (refusal j a)
+        (λ (x : ℕ). pick (eqb x 8) p (pick (both (eqb x 4) (erred k said admits p)) p 0) ≡ pick (eqb j 8) p 0)
+        (pick-false _ _ _ refl ∙ ap (λ (t : Bool). pick t p 0) (both-then _ _ refl ∙ both-then _ _ (many 2 h) ∙ (λ i. both (sym (same u .1) i) (sym (there-by-book u) i)) ∙ sym e))
         (ap (pick (eqb j 8) p) (pick-false _ _ _ (both-left _ _ d)))
 
     -- each way of a growth on a sound machine
-    fair : Grew r m b op used n may → Fair n admits p (step r m b op)
+    fair : Grew r m b op used n may → Fair said n admits p (step r m b op)
     unfolding acceptedStep growthCharge erred
-    fair (growth.before j l x e d o s) = subst (Fair n admits p) (sym s) (free _ l e (both-left _ _ d))
-    fair (growth.erred u z g o s) = subst (Fair n admits p) (sym s) (free _ _ refl (both-right _ _ (both-left _ _ g)))
-    fair (growth.told j a u z g o x d e q s) =
-        subst (Fair n admits p) (sym s)
+    fair (growth.before j l t x e d o s) = subst (Fair said n admits p) (sym s) (free _ l e (both-left _ _ d))
+    fair (growth.erred h g o s) = subst (Fair said n admits p) (sym s) (free _ _ refl (both-right _ _ (both-left _ _ (many 1 h))))
+    fair (growth.told j a h u z g o x d e q s) =
+        subst (Fair said n admits p) (sym s)
         (record {
           some = λ t.
-              subst (λ (v : ℕ). Even c (pick (eqb j 8) (paid (m .fuel) (priceOf r m op)) (m .fuel)) (k .set) (k .since + v)) (sym (noted-told _ j a u g d e))
+              subst (λ (v : ℕ). Even c (pick (eqb j 8) (paid (m .fuel) (priceOf r m op)) (m .fuel)) (k .set) (k .since + v)) (sym (noted-told _ j a u h d e))
               (twice (λ (v : Fuel) (i : ℕ). Even c v (k .set) (k .since + i)) (eqb j 8) _ _ _ _
               (λ i. spend (w .fuel) (affords-is m _ (w .fuel .on) (both-2 _ _ (sym e ∙ i))) (same u .0))
               (λ i. nought (w .fuel) refl));
           none = λ t. absurd (false≢true (sym t ∙ z));
         })
     fair (growth.grown o v s) =
-        subst (Fair n admits p) (sym s)
+        subst (Fair said n admits p) (sym s)
         (record {
           some = λ t.
-              subst (λ (x : Fuel). Even c x (k .set) (k .since + noted admits p (answerOf m b op))) (sym (after-it ∙ pick-true _ _ _ t))
+              subst (λ (x : Fuel). Even c x (k .set) (k .since + noted said admits p (answerOf m b op))) (sym (after-it ∙ pick-true _ _ _ t))
               (spend (w .fuel) (affords-is m _ (w .fuel .on) (payable r m b op (metered ∙ t) o .affordable)) (pick-true _ _ _ v ∙ same (in-use o) .0));
           none = λ t. subst (λ (x : Fuel). Even c x (k .set) (k .since)) (sym (after-it ∙ pick-false _ _ _ t)) (w .fuel);
         })
 
     -- on an unsound one it answers 19
-    any-fair : wellFormed op ≡ true → (soundOver m b ≡ true → Grew r m b op used n may) → Fair n admits p (step r m b op)
+    any-fair : wellFormed op ≡ true → (soundOver m b ≡ true → Grew r m b op used n may) → Fair said n admits p (step r m b op)
     unfolding step decide settled changed
     any-fair q grew =
         either (soundOver m b)
         (λ e. fair (grew e))
         (λ e.
-        subst (Fair n admits p) (sym (ap (after m) (pick-true _ _ _ q ∙ pick-false _ _ _ e))) (free (refusal 19 0) (m .limiter) refl (both-left _ _ refl)))
+        subst (Fair said n admits p) (sym (ap (after m) (pick-true _ _ _ q ∙ pick-false _ _ _ e))) (free (refusal 19 0) (m .limiter) refl (both-left _ _ refl)))
 
   -- 11: a growth of a memory is fair
-  memory-fair : (i n : ℕ) → Fair n true (price c (n * getD (k .pages) i 0)) (step r m b (op.Memory i (memory.Grow n)))
+  memory-fair : (i n : ℕ) → let grow = op.Memory i (memory.Grow n) in
+      Fair (saysTo (heard r m b grow) (m .limiter)) n true (price c (n * getD (k .pages) i 0)) (step r m b grow)
   unfolding wellFormed memoryWellFormed occasion meteringOf memoryMetering lengthOf fuelBy meets
   memory-fair i n =
       any-fair (op.Memory i (memory.Grow n)) (ltb i (m .counts .memories)) n true true _
@@ -235,8 +246,8 @@ module _ (r c : ℕ) (m : Machine) (b : Buffers) (k : Book) (w : Balanced c m k)
       refl refl (both-1 _ _) refl (memory-grew r m b i n)
 
   -- 21: and one of a table
-  table-fair : (i n : ℕ) (v : TypedRawRef)
-      → Fair n (admitsOf (rowAt k i .limits) (rowAt k i .size + n)) (price c (n * r)) (step r m b (op.Table i (table.Grow n v)))
+  table-fair : (i n : ℕ) (v : TypedRawRef) → let grow = op.Table i (table.Grow n v) in
+      Fair (saysTo (heard r m b grow) (m .limiter)) n (admitsOf (rowAt k i .limits) (rowAt k i .size + n)) (price c (n * r)) (step r m b grow)
   unfolding wellFormed occasion meteringOf tableMetering lengthOf fuelBy meets
   table-fair i n v =
       any-fair (op.Table i (table.Grow n v)) (ltb i (m .counts .tables)) n _ _ _
@@ -286,7 +297,7 @@ module _ (r c : ℕ) (m : Machine) (b : Buffers) (k : Book) (w : Balanced c m k)
   Due (Inits n) = Unit
 
   -- what the book has of an operation that is no growth, with the fuel after it
-  module _ (f : Fuel) (a : Answer) (said : ℕ) (P : Book → Type 0) (put : (s n : ℕ) → Even c f s n → P (amounts s n)) (kept : accepted a ≡ false → f ≡ m .fuel) where
+  module _ (f : Fuel) (a : Answer) (said : List ℕ) (P : Book → Type 0) (put : (s n : ℕ) → Even c f s n → P (amounts s n)) (kept : accepted a ≡ false → f ≡ m .fuel) where
     -- with the fuel that it is known to be
     evenly : {g : Fuel} (s n : ℕ) → f ≡ g → Even c g s n → P (amounts s n)
     evenly s n e v = put s n (subst (λ (x : Fuel). Even c x s n) (sym e) v)
@@ -327,14 +338,14 @@ module _ (r c : ℕ) (m : Machine) (b : Buffers) (k : Book) (w : Balanced c m k)
 
   -- machine and book after an operation
   abbrev Kept : Operation → Type 0
-  Kept op = Balanced c (step r m b op .machine) (entry r c k op (step r m b op .answer) (saysOf (m .limiter)))
+  Kept op = Balanced c (step r m b op .machine) (entry r c k op (step r m b op .answer) (saysTo (heard r m b op) (m .limiter)))
 
   -- an operation that is no growth and makes no memory or table
   steady : (op : Operation) (segments : ℕ) → countsAfter (m .counts) op ≡ record { memories = m .counts .memories; tables = m .counts .tables; segments = segments }
       → Alike (changeOf m op) → grows (meteringOf op) ≡ false → (occasion r m b op ≡ true → Due (meteringOf op))
-      → Balanced c (step r m b op .machine) (entryBy r c k (meteringOf op) (step r m b op .answer) (saysOf (m .limiter)))
+      → Balanced c (step r m b op .machine) (entryBy r c k (meteringOf op) (step r m b op .answer) (saysTo (heard r m b op) (m .limiter)))
   steady op g q like flat due =
-      entered _ (step r m b op .answer) (saysOf (m .limiter)) (Balanced c (step r m b op .machine)) (settles op g q like) (refused-free op flat) (meteringOf op) flat
+      entered _ (step r m b op .answer) _ (Balanced c (step r m b op .machine)) (settles op g q like) (refused-free op flat) (meteringOf op) flat
       (fuel-after r m b op) (λ t p. payable r m b op p (on t) .affordable) (λ t. due (on t))
     where
       on : accepted (step r m b op .answer) ≡ true → occasion r m b op ≡ true
@@ -365,8 +376,8 @@ module _ (r c : ℕ) (m : Machine) (b : Buffers) (k : Book) (w : Balanced c m k)
       let new : Book = withPages k (k .pages ++ (2 ^ (x .exponent) ∷ [])) in
       made make new refl
       (λ sound o.
-      let free = both-1 _ _ (both-1 _ _ o) in
-      let page = page-of (x .exponent) (both-1 _ _ (both-1 _ _ (both-2 _ _ o))) in
+      let free = both-1 _ _ (both-1 _ _ (both-1 _ _ o)) in
+      let page = page-of (x .exponent) (both-1 _ _ (both-1 _ _ (both-2 _ _ (both-1 _ _ o)))) in
       surely (λ (y : Machine). Balanced c (standing y (oneMemoryMore (m .counts)) (m .fuel) (limiterAfter (m .limiter) make)) new) _ _ _ free
       (record {
         fuel = w .fuel;
@@ -382,7 +393,7 @@ module _ (r c : ℕ) (m : Machine) (b : Buffers) (k : Book) (w : Balanced c m k)
       let new : Book = withTables k (k .tables ++ (record { limits = x .limits; size = x .limits .minimum } ∷ [])) in
       made make new refl
       (λ sound o.
-      let free = both-1 _ _ (both-1 _ _ o) in
+      let free = both-1 _ _ (both-1 _ _ (both-1 _ _ o)) in
       surely (λ (y : Machine). Balanced c (standing y (oneTableMore (m .counts)) (m .fuel) (limiterAfter (m .limiter) make)) new) _ _ _ free
       (record {
         fuel = w .fuel;
@@ -464,7 +475,7 @@ run-balanced : (r c : ℕ) (m : Machine) (b : Buffers) (k : Book) (ops : List Op
 unfolding run book limiterSays
 run-balanced r c m b k [] w = w
 run-balanced r c m b k (op ∷ ops) w =
-    run-balanced r c (step r m b op .machine) (step r m b op .buffers) (entry r c k op (step r m b op .answer) (saysOf (m .limiter))) ops (kept r c m b k w op)
+    run-balanced r c (step r m b op .machine) (step r m b op .buffers) (entry r c k op (step r m b op .answer) (saysTo (heard r m b op) (m .limiter))) ops (kept r c m b k w op)
 
 -- at each moment, from a fresh machine
 pub ledger : (r : ℕ) (costs : FuelCosts) (b : Buffers) (ops : List Operation)

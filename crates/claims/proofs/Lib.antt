@@ -1,3 +1,4 @@
+pub mod Heard
 pub mod Exit
 pub mod Exiting
 pub mod Growth
@@ -5,6 +6,7 @@ pub mod MemoryExits
 pub mod TableExiting
 pub mod TableExits
 pub mod Exits
+pub mod Script
 pub mod Never
 pub mod Bound
 pub mod Spans

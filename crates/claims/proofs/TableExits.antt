@@ -56,8 +56,9 @@ use Rattle.claims.specs.Metered.{Free, Spans, tableMetering, meteringOf,
 use Rattle.claims.specs.Occasions.{ofKind, makesTable, growsTable, tableOccasion, copies, inits, occasion}
 use Rattle.claims.specs.Spans.{tableSpan, spanOf, put}
 use Rattle.claims.specs.Effects.{tableAnswer, answerOf, tableSizeAfter, changeOf, countsAfter, fuelBy, limiterAfter, acceptedStep}
+use Rattle.claims.specs.Script.{tableQuestion, question}
 use Rattle.claims.proofs.Exit.{Exit, accepts}
-use Rattle.claims.proofs.Exiting.{branch, surely, put-back-stays, named, table-put-back, nothing-put, Ends, accepted-is, ending, accepting, accepting-by, asks-none, refusing, leaving, creating, paying, spanning, unknown}
+use Rattle.claims.proofs.Exiting.{branch, surely, put-back-stays, named, table-put-back, nothing-put, Ends, accepted-is, ending, accepting, accepting-by, asks-none, refusing, leaving-by, leaving, creating, paying, spanning, unknown}
 use Rattle.claims.proofs.Growth.{Grew, grew, grew-exit}
 use Rattle.claims.proofs.TableExiting.{cells-sound, items-sound, own-kind, over-none, two-sound}
 
@@ -65,47 +66,47 @@ module _ (r : ℕ) (m : Machine) (b : Buffers) where
   -- 20: 17, 1, 14, limiter 3/4, 5 with notice
   pub new-table-exit : (room : ℕ) (wanted : WantedTable) (initial : TypedRawRef) → soundOver m b ≡ true → wellFormed (op.NewTable room wanted initial) ≡ true
       → Exit r m b (op.NewTable room wanted initial) (occasion r m b (op.NewTable room wanted initial))
-  unfolding perform newTableOn newTable madeTable occasion makesTable answerOf changeOf countsAfter meteringOf fuelBy limiterAfter put spanOf grows accepted
+  unfolding perform newTableOn newTable madeTable occasion makesTable question answerOf changeOf countsAfter meteringOf fuelBy limiterAfter put spanOf grows accepted
   new-table-exit room wanted initial e w =
       ending e w
       (branch (λ (d : Done Outcome). Ends r m b (op.NewTable room wanted initial) (onCells d b)) _ _ _
       (λ h.
       creating (λ (c : Done CreatedTable). onCells (tableMade m c) b) (λ l x. done (refused l x) (b .cells)) _ _ _ _ _ 14
-      (cells-sound m b e _ (both-2 _ _ h)) (named 14 refl refl) (λ x l k o. leaving x l k refl o) (both-then _ _ h) (λ o. accepting o refl))
-      (λ h. leaving (refusal 17 0) _ (named 17 refl refl) refl (both-left _ _ h)))
+      e w (cells-sound m b e _ (both-2 _ _ h)) (named 14 refl refl) (λ x l k o t. leaving-by x l k refl o t) (both-then _ _ h) refl (λ o. accepting o refl))
+      (λ h. leaving (refusal 17 0) (named 17 refl refl) refl (both-left _ _ h) (both-left _ _ (both-left _ _ h))))
 
   -- 28: 16
   pub drop-segment-exit : (i : ℕ) → soundOver m b ≡ true → wellFormed (op.DropSegment i) ≡ true → Exit r m b (op.DropSegment i) (occasion r m b (op.DropSegment i))
-  unfolding perform dropOn occasion answerOf changeOf countsAfter meteringOf fuelBy limiterAfter put spanOf grows accepted
+  unfolding perform dropOn occasion question answerOf changeOf countsAfter meteringOf fuelBy limiterAfter put spanOf grows accepted
   drop-segment-exit i e w =
       ending e w
       (branch (λ (o : Outcome). Ends r m b (op.DropSegment i) (onNone o b)) _ _ _
       (λ h. accepting h refl)
-      (λ h. unknown h))
+      (λ h. unknown refl h))
 
   -- 29: 17
   pub new-segment-exit : (element : RefType) (items : Items) → soundOver m b ≡ true → wellFormed (op.NewSegment element items) ≡ true
       → Exit r m b (op.NewSegment element items) (occasion r m b (op.NewSegment element items))
-  unfolding perform newSegmentOn newSegment madeSegment occasion answerOf changeOf countsAfter meteringOf fuelBy limiterAfter put spanOf grows accepted
+  unfolding perform newSegmentOn newSegment madeSegment occasion question answerOf changeOf countsAfter meteringOf fuelBy limiterAfter put spanOf grows accepted
   new-segment-exit element items e w =
       ending e w
       (branch (λ (d : Done Outcome). Ends r m b (op.NewSegment element items) (onItems d b)) _ _ _
       (λ h.
       surely (λ (s : Done MadeSegment). Ends r m b (op.NewSegment element items) (onItems (segmentMade m s) b)) _ _ _
       (items-sound m b e _ (both-2 _ _ h)) (accepting h refl))
-      (λ h. leaving (refusal 17 0) _ (named 17 refl refl) refl h))
+      (λ h. leaving (refusal 17 0) (named 17 refl refl) refl refl h))
 
   -- within one table the kind is its own: 12, 7
   within-ends : (i : ℕ) (s : CopySpan) → soundOver m b ≡ true → ltb i (m .counts .tables) ≡ true
       → Ends r m b (op.TableCopy i i s) (onCells (spannedDone m (copyWithin r (tableAt m i) (b .cells) s (m .fuel))) b)
-  unfolding copyWithin occasion copies answerOf changeOf countsAfter meteringOf lengthOf fuelBy limiterAfter put spanOf grows accepted
+  unfolding copyWithin occasion copies question answerOf changeOf countsAfter meteringOf lengthOf fuelBy limiterAfter put spanOf grows accepted
   within-ends i s e h =
       surely Within _ _ _ (table-sound m _ _ _ e i (ltb-true i _ h))
       (branch Within _ _ _
       (λ q.
-      paying change.Nothing (nothing-put m) refl _ _ (both-then _ _ (both-true _ _ h h) ∙ both-then _ _ (own-kind (tableAt m i .ty)) ∙ both-then _ _ q)
+      paying change.Nothing (nothing-put m) refl refl _ _ (both-then _ _ (both-true _ _ h h) ∙ both-then _ _ (own-kind (tableAt m i .ty)) ∙ both-then _ _ q)
       (λ o. accepting o refl))
-      (λ q. leaving (refusal 12 0) _ (named 12 refl refl) refl (both-right _ _ (both-right _ _ (both-left _ _ q)))))
+      (λ q. leaving (refusal 12 0) (named 12 refl refl) refl refl (both-right _ _ (both-right _ _ (both-left _ _ q)))))
     where
       Within : Done Spanned → Type 0
       Within d = Ends r m b (op.TableCopy i i s) (onCells (spannedDone m d) b)
@@ -113,7 +114,7 @@ module _ (r : ℕ) (m : Machine) (b : Buffers) where
   -- 26: 16, 14, 12, 7
   pub table-copy-exit : (into source : ℕ) (s : CopySpan) → soundOver m b ≡ true → wellFormed (op.TableCopy into source s) ≡ true
       → Exit r m b (op.TableCopy into source s) (occasion r m b (op.TableCopy into source s))
-  unfolding perform copyOn copyKnown copyTable occasion copies answerOf changeOf countsAfter meteringOf lengthOf fuelBy limiterAfter put spanOf grows accepted
+  unfolding perform copyOn copyKnown copyTable occasion copies question answerOf changeOf countsAfter meteringOf lengthOf fuelBy limiterAfter put spanOf grows accepted
   table-copy-exit into source s e w =
       ending e w
       (branch (Copies source) _ _ _
@@ -125,9 +126,9 @@ module _ (r : ℕ) (m : Machine) (b : Buffers) where
       (λ z.
       surely (λ (d : Done Spanned). Copies source (spannedDone m d)) _ _ _
       (two-sound m b into source e (ltb-true into _ (both-1 _ _ h)) (ltb-true source _ (both-2 _ _ h)) (eqb-false into source z))
-      (spanning change.Nothing (nothing-put m) refl _ _ _ 12 _ (named 12 refl refl) (both-then _ _ h)
-      (λ o. paying change.Nothing (nothing-put m) refl _ _ o (λ o. accepting o refl)))))
-      (λ h. unknown (both-left _ _ h)))
+      (spanning change.Nothing (nothing-put m) refl refl _ _ _ 12 _ (named 12 refl refl) (both-then _ _ h)
+      (λ o. paying change.Nothing (nothing-put m) refl refl _ _ o (λ o. accepting o refl)))))
+      (λ h. unknown refl (both-left _ _ h)))
     where
       Copies : ℕ → Done Outcome → Type 0
       Copies j d = Ends r m b (op.TableCopy into j s) (onCells d b)
@@ -135,14 +136,14 @@ module _ (r : ℕ) (m : Machine) (b : Buffers) where
   -- 27: 16, 14, 13, length 0 without fuel, 7
   pub table-init-exit : (i segment : ℕ) (s : CopySpan) → soundOver m b ≡ true → wellFormed (op.TableInit i segment s) ≡ true
       → Exit r m b (op.TableInit i segment s) (occasion r m b (op.TableInit i segment s))
-  unfolding perform initOn initTable occasion inits answerOf changeOf countsAfter meteringOf lengthOf fuelBy limiterAfter put spanOf grows accepted
+  unfolding perform initOn initTable occasion inits question answerOf changeOf countsAfter meteringOf lengthOf fuelBy limiterAfter put spanOf grows accepted
   table-init-exit i segment s e w =
       ending e w
       (branch (λ (d : Done Outcome). Ends r m b init (onCells d b)) _ _ _
       (λ h.
       surely Inits _ _ _
       (both-true _ _ (table-sound m _ _ _ e i (ltb-true i _ (both-1 _ _ h))) (segment-sound m _ _ _ e segment (ltb-true segment _ (both-2 _ _ h))))
-      (spanning change.Nothing (nothing-put m) refl _ _ _ 13 _ (named 13 refl refl) (both-then _ _ h)
+      (spanning change.Nothing (nothing-put m) refl refl _ _ _ 13 _ (named 13 refl refl) (both-then _ _ h)
       (λ o.
       branch Inits _ _ _
       (λ z q.
@@ -152,9 +153,9 @@ module _ (r : ℕ) (m : Machine) (b : Buffers) where
       (ap (λ (cs : List ℕ). buffers (b .bytes) cs (b .items)) (sym (over-none (b .cells) _ (b .items) _ (s .len) n)))))
       (λ z.
       let n : s .len ≡ 0 → ⊥ = eqb-false (s .len) 0 z in
-      paying change.Nothing (nothing-put m) refl _ _ (o ∙ pick-false _ _ _ z)
+      paying change.Nothing (nothing-put m) refl refl _ _ (o ∙ pick-false _ _ _ z)
       (λ o. accepting-by (sym (pick-true _ _ _ (lt-ltb 0 (s .len) (omega arith)))) refl o refl)))))
-      (λ h. unknown (both-left _ _ h)))
+      (λ h. unknown refl (both-left _ _ h)))
     where
       init : Operation
       init = op.TableInit i segment s
@@ -189,7 +190,7 @@ module _ (r : ℕ) (m : Machine) (b : Buffers) (i : ℕ) where
 
     -- 21: 16, 14, by 0, 6 at the index type's largest size, limiter 6/4, 6, 7 and 8 with notice
     pub table-grew : Grew r m b grow (ltb i (m .counts .tables)) n (admitsOf (old .ty .limits) (old .size + n))
-    unfolding both perform onTable performTable growTable wellFormed occasion tableOccasion growsTable answerOf tableAnswer changeOf tableSizeAfter countsAfter meteringOf tableMetering lengthOf fuelBy limiterAfter grows meets put spanOf tableSpan accepted
+    unfolding both perform onTable performTable growTable wellFormed occasion tableOccasion growsTable question tableQuestion answerOf tableAnswer changeOf tableSizeAfter countsAfter meteringOf tableMetering lengthOf fuelBy limiterAfter grows meets put spanOf tableSpan accepted
     table-grew =
         grew r m b grow (ltb i (m .counts .tables)) n (admitsOf (old .ty .limits) (old .size + n)) out
         (λ x f l. done (answered (answer.Refusal x) old f l) (b .cells))
@@ -205,6 +206,7 @@ module _ (r : ℕ) (m : Machine) (b : Buffers) (i : ℕ) where
           unknown = λ h. ap (λ (d : Done Outcome). onCells d b) (pick-false _ _ _ h);
           stop = λ l. put-back-stays (metered m (m .fuel) l) b (change.Table i old) (table-put-back (metered m (m .fuel) l) i);
           when = refl;
+          asks = refl;
           value = refl;
           by-none = λ h. by-none;
           by-some = λ h p. accepted-is r m b grow refl refl refl (sym (pick-true _ _ _ p)) (sym (pick-true _ _ _ p)) refl;
@@ -213,14 +215,14 @@ module _ (r : ℕ) (m : Machine) (b : Buffers) (i : ℕ) where
   -- 21 to 25, of a table in use: 14, 9, 10, 11, 7
   used-table : (o : TableOp) → soundOver m b ≡ true → ltb i (m .counts .tables) ≡ true → soundTable old (length (b .cells)) ≡ true
       → On o (performTable r old (b .cells) (m .fuel) (m .limiter) o)
-  unfolding performTable getTable setTable setSound fillTable occasion tableOccasion answerOf tableAnswer changeOf tableSizeAfter countsAfter meteringOf tableMetering lengthOf fuelBy limiterAfter grows put spanOf tableSpan accepted
+  unfolding performTable getTable setTable setSound fillTable occasion tableOccasion question tableQuestion answerOf tableAnswer changeOf tableSizeAfter countsAfter meteringOf tableMetering lengthOf fuelBy limiterAfter grows put spanOf tableSpan accepted
   used-table (table.Grow cells value) e h s = λ q. grew-exit r m b _ _ _ _ refl (table-grew cells value e)
   used-table table.Size e h s = accepting-by refl (asks-none _ Free refl) (both-true _ _ h refl) refl
   used-table (table.Get index) e h s =
       surely Gets _ _ _ s
       (branch Gets _ _ _
       (λ y.
-      refusing (change.Table i old) (table-put-back m i) refl (refusal 9 0) _ (named 9 refl refl)
+      refusing (change.Table i old) (table-put-back m i) refl (both-right _ _ refl) (refusal 9 0) (named 9 refl refl)
       (both-right _ _ (le-ltb index _ (leb-true (old .size) index y))))
       (λ y. accepting-by refl (asks-none _ Free refl) (both-true _ _ h (lt-ltb index _ (leb-false (old .size) index y))) refl))
     where
@@ -232,23 +234,23 @@ module _ (r : ℕ) (m : Machine) (b : Buffers) (i : ℕ) where
       (λ t.
       branch Sets _ _ _
       (λ y.
-      refusing (change.Table i old) (table-put-back m i) refl (refusal 10 0) _ (named 10 refl refl)
+      refusing (change.Table i old) (table-put-back m i) refl (both-right _ _ refl) (refusal 10 0) (named 10 refl refl)
       (both-right _ _ (both-right _ _ (le-ltb index _ (leb-true (old .size) index y)))))
       (λ y. accepting-by refl (asks-none _ Free refl) (both-true _ _ h (both-true _ _ t (lt-ltb index _ (leb-false (old .size) index y)))) refl))
-      (λ t. refusing (change.Table i old) (table-put-back m i) refl (refusal 14 0) _ (named 14 refl refl) (both-right _ _ (both-left _ _ t))))
+      (λ t. refusing (change.Table i old) (table-put-back m i) refl (both-right _ _ refl) (refusal 14 0) (named 14 refl refl) (both-right _ _ (both-left _ _ t))))
     where
       Sets : Done Answer → Type 0
       Sets d = On (table.Set index value) (tableStored old (m .fuel) (m .limiter) d)
   used-table (table.Fill start value len) e h s =
       surely (λ (d : Done Spanned). On (table.Fill start value len) (tableSpanned old (m .limiter) d)) _ _ _ s
-      (spanning (change.Table i old) (table-put-back m i) refl _ _ _ 11 _ (named 11 refl refl) (both-then _ _ h)
-      (λ o. paying (change.Table i old) (table-put-back m i) refl _ _ o (λ o. accepting-by refl (asks-none _ (Spans len) refl) o refl)))
+      (spanning (change.Table i old) (table-put-back m i) refl (both-right _ _ refl) _ _ _ 11 _ (named 11 refl refl) (both-then _ _ h)
+      (λ o. paying (change.Table i old) (table-put-back m i) refl (both-right _ _ refl) _ _ o (λ o. accepting-by refl (asks-none _ (Spans len) refl) o refl)))
 
   -- 16, then these
   pub table-exit : (o : TableOp) → soundOver m b ≡ true → wellFormed (op.Table i o) ≡ true → Exit r m b (op.Table i o) (occasion r m b (op.Table i o))
-  unfolding perform onTable occasion
+  unfolding perform onTable occasion question
   table-exit o e w =
       ending e w
       (branch (λ (d : Done Outcome). Ends r m b (op.Table i o) (onCells d b)) _ _ _
       (λ h. used-table o e h (table-sound m _ _ _ e i (ltb-true i _ h)))
-      (λ h. unknown (both-left _ _ h)))
+      (λ h. unknown (both-left _ _ h) (both-left _ _ h)))

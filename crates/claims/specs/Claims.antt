@@ -24,7 +24,7 @@ use Rattle.claims.specs.{Answers.accepted, Answers.valueOrListed, Answer
 use Rattle.claims.specs.{Bound.wrote, Bound.totals, Bound.mostR, Bound.mostBytes, Bound.fullestRun, Bound.zeros, Ledger.blank, Ledger.limiterSays}
 use Rattle.claims.specs.{Metered.meteringOf, Metered.meets, Spans.spanOf, Spans.spanBytes, Spans.WritesSpan}
 use Rattle.claims.specs.{Ledger.book, Cases.allHold, Cases.cases, Sessions.readAll, Sessions.replies, Sessions.answersIn}
-use Rattle.claims.specs.{Sessions.sessionText, Alike.SameRest, Alike.SameNamed, Alike.SameOutcome}
+use Rattle.claims.specs.{Script.scriptAfter, Sessions.sessionText, Alike.SameRest, Alike.SameNamed, Alike.SameOutcome}
 
 -- R, the bytes that a reference counts, is a number of its own in every claim; the machine's is 4
 pub record Claims : Type 0 where
@@ -33,6 +33,8 @@ pub record Claims : Type 0 where
   -- 2. A refusal changes no cell, size, segment, room or instance number, and takes fuel only at 8, or at 4 in the notice after 8: the price.
   pub refusal-leaves : (r : ℕ) (m : Machine) (b : Buffers) (op : Operation) → accepted (step r m b op .answer) ≡ false
       → Leaves r m b op (step r m b op)
+  -- Accepted or refused, an operation moves the limiter script on by each question and notice; an accepted 04 replaces it, a refused one leaves it.
+  pub script-moves : (r : ℕ) (m : Machine) (b : Buffers) (op : Operation) → step r m b op .machine .limiter ≡ scriptAfter r m b op
   -- 3. An operation is accepted exactly on its occasion, and then answers, changes, takes and writes what document 01 says.
   pub accepted-when : (r : ℕ) (m : Machine) (b : Buffers) (op : Operation) → accepted (step r m b op .answer) ≡ acceptedWhen r m b op
   pub accepted-does : (r : ℕ) (m : Machine) (b : Buffers) (op : Operation) → accepted (step r m b op .answer) ≡ true

@@ -1,10 +1,11 @@
 -- Demand 3's ledger: the amount last set and the charges since, from the operations, their answers and the limiter's alone.
-use Rattle.types.specs.Prelude.{ℕ, _+_, _-_, _*_, _^_, Bool, true, List, [], _∷_, _++_, eqb, leb, ltb, getD, set}
-use Rattle.types.specs.Names.{pick, both, price, numberOf, saysOf, admitsOf, Answer, Limits}
+use Rattle.types.specs.Prelude.{ℕ, _+_, _-_, _*_, _^_, Bool, true, List, [], _∷_, _++_, eqb, leb, ltb, length, getD, set}
+use Rattle.types.specs.Names.{pick, both, price, numberOf, admitsOf, Answer, Limits}
 use Rattle.machine.specs.Names.{Buffers, noLimits, step, Machine, Operation}
 use Rattle.claims.specs.Answers.{accepted}
 use Rattle.claims.specs.Metered.{Metering, Free, Sets, Charges, GrowsPages, GrowsCells, Spans, Inits, fuelMetering, memoryMetering}
-use Rattle.claims.specs.Metered.{tableMetering, grants}
+use Rattle.claims.specs.Metered.{tableMetering}
+use Rattle.claims.specs.Script.{heard, saysTo}
 
 -- what the accepted creations and growths say of a table: its limits as asked for, and its size
 pub record Row : Type 0 where
@@ -37,12 +38,12 @@ withTables k rows = record { set = k .set; since = k .since; pages = k .pages; t
 abbrev pub rowAt : Book → ℕ → Row
 rowAt k i = getD (k .tables) i (record { limits = noLimits; size = 0 })
 
--- a growth refused with 4 had paid where the limiter granted it, the type admits the size and the price was there
-unfoldable pub erred : Book → ℕ → Bool → ℕ → Bool
-erred k said admits p = both (grants said) (both admits (leb p (left k)))
+-- a growth refused with 4 had paid where the limiter answered twice (it granted, and was told), the type admits the size and the price was there
+unfoldable pub erred : Book → List ℕ → Bool → ℕ → Bool
+erred k said admits p = both (eqb (length said) 2) (both admits (leb p (left k)))
 
 -- what a growth took: its price where it is accepted, at 8, and at 4 in the notice after 8
-unfoldable pub growthCharge : Book → Answer → ℕ → Bool → ℕ → ℕ
+unfoldable pub growthCharge : Book → Answer → List ℕ → Bool → ℕ → ℕ
 growthCharge k a said admits p =
     pick (accepted a) p
     (pick (eqb (numberOf a) 8) p (pick (both (eqb (numberOf a) 4) (erred k said admits p)) p 0))
@@ -52,8 +53,8 @@ unfoldable pub grown : Book → ℕ → ℕ → Answer → Book
 grown k i n a =
     pick (accepted a) (withTables k (set (k .tables) i (record { limits = rowAt k i .limits; size = rowAt k i .size + n }))) k
 
--- what an operation that has to do with fuel enters, by its answer and the limiter's answer to its question
-unfoldable pub entryBy : ℕ → ℕ → Book → Metering → Answer → ℕ → Book
+-- what an operation enters by what it has to do with fuel, from its answer and the limiter's answers to its question and notice
+unfoldable pub entryBy : ℕ → ℕ → Book → Metering → Answer → List ℕ → Book
 entryBy r b k Free a said = k
 entryBy r b k (Sets amount) a said = pick (accepted a) (record { set = amount; since = 0; pages = k .pages; tables = k .tables }) k
 entryBy r b k (Charges units) a said = pick (accepted a) (charged k units) k
@@ -67,7 +68,7 @@ entryBy r b k (Spans len) a said = pick (accepted a) (charged k (price b (len * 
 entryBy r b k (Inits len) a said = pick (both (ltb 0 len) (accepted a)) (charged k (price b (len * r))) k
 
 -- the book after one operation: a creation adds the bytes of a page, or a table
-unfoldable pub entry : ℕ → ℕ → Book → Operation → Answer → ℕ → Book
+unfoldable pub entry : ℕ → ℕ → Book → Operation → Answer → List ℕ → Book
 entry r b k (Operation.Fuel o) a said = entryBy r b k (fuelMetering o) a said
 entry r b k (Operation.NewMemory room wanted) a said = pick (accepted a) (withPages k (k .pages ++ (2 ^ (wanted .exponent) ∷ []))) k
 entry r b k (Operation.Memory number o) a said = entryBy r b k (memoryMetering number o) a said
@@ -79,13 +80,13 @@ entry r b k (Operation.TableInit table segment span) a said = entryBy r b k (Ini
 entry r b k (Operation.DropSegment segment) a said = k
 entry r b k (Operation.NewSegment element items) a said = k
 
--- the limiter's answers to the questions of a run's operations
-unfoldable pub limiterSays : ℕ → Machine → Buffers → List Operation → List ℕ
+-- the limiter's answers in a run: of each operation those to its question and notice, none where it does not ask
+unfoldable pub limiterSays : ℕ → Machine → Buffers → List Operation → List (List ℕ)
 limiterSays r m b [] = []
-limiterSays r m b (op ∷ ops) = saysOf (m .limiter) ∷ limiterSays r (step r m b op .machine) (step r m b op .buffers) ops
+limiterSays r m b (op ∷ ops) = saysTo (heard r m b op) (m .limiter) ∷ limiterSays r (step r m b op .machine) (step r m b op .buffers) ops
 
 -- the whole book: R, B, the operations, their answers and the limiter's, and nothing of the machine
-unfoldable pub book : ℕ → ℕ → Book → List Operation → List Answer → List ℕ → Book
+unfoldable pub book : ℕ → ℕ → Book → List Operation → List Answer → List (List ℕ) → Book
 book r b k [] answers said = k
 book r b k (op ∷ ops) [] said = k
 book r b k (op ∷ ops) (a ∷ answers) [] = k

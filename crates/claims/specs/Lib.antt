@@ -3,6 +3,7 @@ pub mod Metered
 pub mod Occasions
 pub mod Spans
 pub mod Effects
+pub mod Script
 pub mod Bound
 pub mod Ledger
 pub mod Alike

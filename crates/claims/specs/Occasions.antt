@@ -37,17 +37,24 @@ fuelOccasion m FuelOp.GetFuel = m .fuel .enabled
 fuelOccasion m (FuelOp.Charge units) = both (m .fuel .enabled) (leb units (m .fuel .remaining))
 fuelOccasion m (FuelOp.SetLimiter script) = wellFormedScript (scriptOf script)
 
--- 10: a number and the room are free, the type is valid, its minimum is below 2^64 bytes, the limiter grants it, and it fits the room
+-- 10, before the limiter's question: a number and the room are free, the type is valid, its minimum is below 2^64 bytes
+abbrev pub mayMakeMemory : Machine → Buffers → ℕ → WantedMemory → Bool
+mayMakeMemory m b room w =
+    both (both (ltb (m .counts .memories) 8) (leb room (length (b .bytes) - nextByte m))) (both (validWanted w) (ltb (leastOf w) (2 ^ 64)))
+
+-- 10: it may be asked for, the limiter grants it, and it fits the room
 unfoldable pub makesMemory : Machine → Buffers → ℕ → WantedMemory → Bool
-makesMemory m b room w =
-    both (both (ltb (m .counts .memories) 8) (leb room (length (b .bytes) - nextByte m)))
-    (both (validWanted w) (both (ltb (leastOf w) (2 ^ 64)) (both (granted m) (leb (leastOf w) room))))
+makesMemory m b room w = both (mayMakeMemory m b room w) (both (granted m) (leb (leastOf w) room))
+
+-- 11, before the limiter's question: the bounds allow n more pages
+abbrev pub mayGrowMemory : Machine → ℕ → ℕ → Bool
+mayGrowMemory m i n = mayHave (memoryAt m i .ty) (pagesOf (memoryAt m i) + n)
 
 -- 11: by 0 always; else the bounds allow the pages, the limiter grants them, the price is there, and they fit the room
 unfoldable pub growsMemory : ℕ → Machine → ℕ → ℕ → Bool
 growsMemory r m i n =
     pick (eqb n 0) true
-    (both (mayHave (memoryAt m i .ty) (pagesOf (memoryAt m i) + n))
+    (both (mayGrowMemory m i n)
     (both (granted m)
     (both (affords m (priceFor r m (GrowsPages i n))) (leb (grownSize (memoryAt m i) n) (memoryAt m i .room)))))
 
@@ -59,18 +66,25 @@ memoryOccasion r m i (MemoryOp.Load kind pointer offset) = reaches m i pointer o
 memoryOccasion r m i (MemoryOp.Store kind pointer offset bits) = reaches m i pointer offset (widthBytes (storeWidth kind))
 memoryOccasion r m i (MemoryOp.LinkCheck wanted) = validWanted wanted
 
--- 20: a number and the room are free, type and initial reference are valid, the limiter grants it, and it fits the room
-unfoldable pub makesTable : Machine → Buffers → ℕ → WantedTable → TypedRawRef → Bool
-makesTable m b room w v =
+-- 20, before the limiter's question: a number and the room are free, the type is valid, the initial reference is of its kind
+abbrev pub mayMakeTable : Machine → Buffers → ℕ → WantedTable → TypedRawRef → Bool
+mayMakeTable m b room w v =
     both (both (ltb (m .counts .tables) 8) (leb room (length (b .cells) - nextCell m)))
-    (both (validTable (tableTypeOf w))
-    (both (elementMatches (tableTypeOf w) (v .ty)) (both (granted m) (leb (w .limits .minimum) room))))
+    (both (validTable (tableTypeOf w)) (elementMatches (tableTypeOf w) (v .ty)))
+
+-- 20: it may be asked for, the limiter grants it, and it fits the room
+unfoldable pub makesTable : Machine → Buffers → ℕ → WantedTable → TypedRawRef → Bool
+makesTable m b room w v = both (mayMakeTable m b room w v) (both (granted m) (leb (w .limits .minimum) room))
+
+-- 21, before the limiter's question: n more cells stay below the index type's largest size
+abbrev pub mayGrowTable : Machine → ℕ → ℕ → Bool
+mayGrowTable m i n = ltb (tableAt m i .size + n) (maxSize (tableAt m i .ty .index))
 
 -- 21: by 0 or within the index type's largest size, granted, within the maximum, paid and within the room
 unfoldable pub growsTable : ℕ → Machine → ℕ → ℕ → Bool
 growsTable r m i n =
     pick (eqb n 0) true
-    (both (ltb (tableAt m i .size + n) (maxSize (tableAt m i .ty .index)))
+    (both (mayGrowTable m i n)
     (both (granted m)
     (both (admitsOf (tableAt m i .ty .limits) (tableAt m i .size + n))
     (both (affords m (priceFor r m (GrowsCells i n))) (leb (tableAt m i .size + n) (tableAt m i .room))))))
