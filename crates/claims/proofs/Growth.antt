@@ -52,7 +52,7 @@ value-number (answer.Value v) e = refl
 value-number (answer.Refusal x) e = absurd (false≢true e)
 
 -- the number of a refusal of which the limiter is told: its own, or 4
-pub heard-number : (said : ℕ) (x : Refusal) (P : ℕ → Type 0) → P 4 → P (x .number) → P (heardOf said x .number)
+heard-number : (said : ℕ) (x : Refusal) (P : ℕ → Type 0) → P 4 → P (x .number) → P (heardOf said x .number)
 unfolding heardOf
 heard-number said x P p q = branch (λ (y : Refusal). P (y .number)) _ _ _ (λ t. p) (λ t. q)
 

@@ -1,8 +1,7 @@
 -- How many questions and notices the limiter hears, by how an operation ends. Assumes nothing.
-use Prim.Native.Nat.{ℕ, zero, suc}
-use mathlib.Core.Path.{_≡_, refl, sym, ap, _∙_}
+use Prim.Native.Nat.{ℕ}
+use mathlib.Core.Path.{_≡_, sym, ap, _∙_}
 use mathlib.Core.Bool.{true, false}
-use lib.ListN.{length}
 use Rattle.types.specs.Limiter.{moved}
 use Rattle.types.specs.declared.limiter.Limiter.{Limiter}
 use Rattle.types.proofs.Picks.{pick-true, pick-false, both-true, both-right}
@@ -14,13 +13,7 @@ use Rattle.machine.specs.declared.records.Machine.{Machine}
 use Rattle.machine.specs.declared.operation.Operation.{Operation}
 use Rattle.claims.specs.Answers.{accepted}
 use Rattle.claims.specs.Occasions.{granted}
-use Rattle.claims.specs.Script.{question, asks, heard, movedBy, saysTo}
-
--- as many answers as questions and notices
-pub says-many : (n : ℕ) (l : Limiter) → length (saysTo n l) ≡ n
-unfolding saysTo
-says-many zero l = refl
-says-many (suc n) l = ap suc (says-many n (moved l))
+use Rattle.claims.specs.Script.{question, asks, heard, movedBy, scriptAfter}
 
 module _ (r : ℕ) (m : Machine) (b : Buffers) (op : Operation) where
   -- the script moved on by what was heard
@@ -30,6 +23,11 @@ module _ (r : ℕ) (m : Machine) (b : Buffers) (op : Operation) where
   -- so is one that a refusal leaves
   abbrev pub Onward : Limiter → Type 0
   Onward l = accepted (step r m b op .answer) ≡ false → l ≡ onward
+
+  -- a refused operation leaves the old one, moved on
+  pub refused-leaves : accepted (step r m b op .answer) ≡ false → scriptAfter r m b op ≡ onward
+  unfolding scriptAfter
+  refused-leaves n = pick-false _ _ _ n
 
   -- none unasked: the script stays
   pub unasked : asks m b op ≡ false → m .limiter ≡ onward

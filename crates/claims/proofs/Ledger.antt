@@ -5,7 +5,7 @@ use mathlib.Core.Bool.{Bool, true, false, false≢true}
 use mathlib.Core.List.{List, [], _∷_, _++_}
 use native.Mathlib.Omega.{arith}
 use lib.Dec.{eqb, leb, ltb}
-use lib.ListN.{length, getD, set}
+use lib.ListN.{getD, set}
 use borrow.Author.Tests.{lt-ltb, leb-true, ltb-true, ltb-false, eqb-true}
 use Rattle.types.specs.Pick.{pick, both}
 use Rattle.types.specs.Price.{price}
@@ -22,7 +22,7 @@ use Rattle.types.specs.declared.fuel.FuelCosts.{FuelCosts}
 use Rattle.types.specs.declared.limiter.Limiter.{Limiter}
 use Rattle.types.specs.declared.memory_ty.PageSize.the-variants.{One, Wasm}
 use Rattle.types.specs.declared.raw.TypedRawRef.{TypedRawRef}
-use Rattle.types.proofs.Picks.{pick-true, pick-false, both-true, both-left, both-right, both-then, both-1, both-2, either}
+use Rattle.types.proofs.Picks.{pick-true, pick-false, both-true, both-left, both-right, both-1, both-2, either}
 use Rattle.memory.specs.declared.memory.Memory.{Memory}
 use Rattle.table.specs.Table.{resized}
 use Rattle.table.specs.declared.table.Table.{Table}
@@ -53,11 +53,10 @@ use Rattle.claims.specs.Occasions.{validWanted, fuelOccasion, makesMemor
 use Rattle.claims.specs.Effects.{answerOf, tableSizeAfter, changeOf, countsAfter, fuelBy, fuelAfter, limiterAfter, acceptedStep}
 use Rattle.claims.specs.Ledger.{Row, Book, blank, left, withPages, withTables, rowAt, erred, growthCharge, grown, entryBy, entry, limiterSays, book}
 use Rattle.claims.specs.Script.{heard, saysTo}
-use Rattle.claims.proofs.Heard.{says-many}
 use Rattle.claims.proofs.Exit.{stays}
 use Rattle.claims.proofs.Exiting.{branch, surely}
 use Rattle.claims.proofs.Growth as growth
-use Rattle.claims.proofs.Growth.{Grew, heard-number}
+use Rattle.claims.proofs.Growth.{Grew}
 use Rattle.claims.proofs.MemoryExits.{memory-grew}
 use Rattle.claims.proofs.TableExits.{table-grew}
 use Rattle.claims.proofs.Exits.{refusal-leaves, accepted-when, accepted-does}
@@ -110,6 +109,26 @@ page-of e v =
     (λ t. ap (λ (x : ℕ). 2 ^ x) (eqb-true e 0 t) ∙ sym (ap pageBytes (pick-true (eqb e 0) One Wasm t)))
     (λ t. ap (λ (x : ℕ). 2 ^ x) (eqb-true e 16 (sym (pick-false _ _ _ t) ∙ v)) ∙ sym (ap pageBytes (pick-false (eqb e 0) One Wasm t)))
 
+module _ (k : Book) (said : List ℕ) (admits : Bool) (p : ℕ) where
+  -- what the book charges for a growth, by its answer
+  abbrev noted : Answer → ℕ
+  noted a = growthCharge k a said admits p
+
+  -- refused at 8 it had paid
+  noted-8 : (x : Refusal) → eqb (x .number) 8 ≡ true → noted (answer.Refusal x) ≡ p
+  unfolding growthCharge accepted numberOf
+  noted-8 x e = pick-false _ _ _ refl ∙ pick-true _ _ _ e
+
+  -- at 4 where it had erred
+  noted-4 : noted (answer.Refusal (refusal 4 0)) ≡ pick (erred k said admits p) p 0
+  unfolding growthCharge accepted numberOf both pick
+  noted-4 = refl
+
+  -- else not
+  noted-else : (x : Refusal) → eqb (x .number) 8 ≡ false → both (eqb (x .number) 4) (erred k said admits p) ≡ false → noted (answer.Refusal x) ≡ 0
+  unfolding growthCharge accepted numberOf
+  noted-else x e d = pick-false _ _ _ refl ∙ pick-false _ _ _ e ∙ pick-false _ _ _ d
+
 module _ (r c : ℕ) (m : Machine) (b : Buffers) (k : Book) (w : Balanced c m k) where
   -- the book with other amounts
   abbrev amounts : ℕ → ℕ → Book
@@ -153,13 +172,9 @@ module _ (r c : ℕ) (m : Machine) (b : Buffers) (k : Book) (w : Balanced c m k)
         (λ t. record { fuel = e; pages = w .pages; rows = w .rows })
         (λ t. record { fuel = e; pages = w .pages; rows = w .rows })
 
-  -- what the book charges for a growth, by its answer
-  abbrev noted : List ℕ → Bool → ℕ → Answer → ℕ
-  noted said admits p a = growthCharge k a said admits p
-
   -- the fuel after a growth is even with the book: with the charge, or where the growth is by 0 without
   record Fair (said : List ℕ) (n : ℕ) (admits : Bool) (p : ℕ) (s : Stepped) : Type 0 where
-    some : ltb 0 n ≡ true → Even c (s .machine .fuel) (k .set) (k .since + noted said admits p (s .answer))
+    some : ltb 0 n ≡ true → Even c (s .machine .fuel) (k .set) (k .since + noted k said admits p (s .answer))
     none : ltb 0 n ≡ false → Even c (s .machine .fuel) (k .set) (k .since)
 
   -- a growth of one that is in use or not: by more than 0 it meets the fuel step, and where it is in use the book knows its price and whether its type admits it
@@ -170,20 +185,19 @@ module _ (r c : ℕ) (m : Machine) (b : Buffers) (k : Book) (w : Balanced c m k)
     abbrev said : List ℕ
     said = saysTo (heard r m b op) (m .limiter)
 
-    -- so many of them
-    many : (j : ℕ) → heard r m b op ≡ j → eqb (length said) 2 ≡ eqb j 2
-    many j h = ap (λ (x : ℕ). eqb x 2) (says-many _ _ ∙ h)
+    -- asked and not told it had not paid at 4; told it had where the type admits the size and the price was there
+    erred-once : heard r m b op ≡ 1 → erred k said admits p ≡ false
+    unfolding erred saysTo both
+    erred-once h = subst (λ (j : ℕ). erred k (saysTo j (m .limiter)) admits p ≡ false) (sym h) refl
 
-    -- what is noted of a refusal, by its number
-    noted-is : (x : Refusal) → noted said admits p (answer.Refusal x)
-        ≡ pick (eqb (x .number) 8) p (pick (both (eqb (x .number) 4) (erred k said admits p)) p 0)
-    unfolding growthCharge accepted numberOf pick
-    noted-is x = refl
+    erred-twice : heard r m b op ≡ 2 → erred k said admits p ≡ both admits (leb p (left k))
+    unfolding erred saysTo both
+    erred-twice h = subst (λ (j : ℕ). erred k (saysTo j (m .limiter)) admits p ≡ both admits (leb p (left k))) (sym h) refl
 
     -- nothing is taken, and nothing noted
     free : (x : Refusal) (l : Limiter) → eqb (x .number) 8 ≡ false → both (eqb (x .number) 4) (erred k said admits p) ≡ false
         → Fair said n admits p (stays m b x (m .fuel) l)
-    free x l e d = record { some = λ z. nought (w .fuel) (noted-is x ∙ pick-false _ _ _ e ∙ pick-false _ _ _ d); none = λ z. w .fuel }
+    free x l e d = record { some = λ z. nought (w .fuel) (noted-else k said admits p x e d); none = λ z. w .fuel }
 
     -- the price is there by the book where it is there
     there-by-book : used ≡ true → affords m (priceOf r m op) ≡ leb p (left k)
@@ -194,20 +208,21 @@ module _ (r c : ℕ) (m : Machine) (b : Buffers) (k : Book) (w : Balanced c m k)
 
     -- a refusal of which the limiter is told is noted where it paid
     noted-told : (told j a : ℕ) → used ≡ true → heard r m b op ≡ 2 → eqb j 4 ≡ false → eqb j 8 ≡ both may (affords m (priceOf r m op))
-        → noted said admits p (answer.Refusal (heardOf told (refusal j a))) ≡ pick (eqb j 8) p 0
-    unfolding erred
+        → noted k said admits p (answer.Refusal (heardOf told (refusal j a))) ≡ pick (eqb j 8) p 0
+    unfolding heardOf
     noted-told told j a u h d e =
-        noted-is _
-        ∙ heard-number told (refusal j a)
-        (λ (x : ℕ). pick (eqb x 8) p (pick (both (eqb x 4) (erred k said admits p)) p 0) ≡ pick (eqb j 8) p 0)
-        (pick-false _ _ _ refl ∙ ap (λ (t : Bool). pick t p 0) (both-then _ _ refl ∙ both-then _ _ (many 2 h) ∙ (λ i. both (sym (same u .1) i) (sym (there-by-book u) i)) ∙ sym e))
-        (ap (pick (eqb j 8) p) (pick-false _ _ _ (both-left _ _ d)))
+        branch (λ (x : Refusal). noted k said admits p (answer.Refusal x) ≡ pick (eqb j 8) p 0) _ _ _
+        (λ t. noted-4 k said admits p ∙ ap (λ (t : Bool). pick t p 0) (erred-twice h ∙ (λ i. both (sym (same u .1) i) (sym (there-by-book u) i)) ∙ sym e))
+        (λ t.
+        either (eqb j 8)
+        (λ y. noted-8 k said admits p (refusal j a) y ∙ sym (pick-true _ _ _ y))
+        (λ y. noted-else k said admits p (refusal j a) y (both-left _ _ d) ∙ sym (pick-false _ _ _ y)))
 
     -- each way of a growth on a sound machine
     fair : Grew r m b op used n may → Fair said n admits p (step r m b op)
-    unfolding acceptedStep growthCharge erred
+    unfolding acceptedStep growthCharge
     fair (growth.before j l t x e d o s) = subst (Fair said n admits p) (sym s) (free _ l e (both-left _ _ d))
-    fair (growth.erred h g o s) = subst (Fair said n admits p) (sym s) (free _ _ refl (both-right _ _ (both-left _ _ (many 1 h))))
+    fair (growth.erred h g o s) = subst (Fair said n admits p) (sym s) (free _ _ refl (both-right _ _ (erred-once h)))
     fair (growth.told j a h u z g o x d e q s) =
         subst (Fair said n admits p) (sym s)
         (record {
@@ -222,7 +237,7 @@ module _ (r c : ℕ) (m : Machine) (b : Buffers) (k : Book) (w : Balanced c m k)
         subst (Fair said n admits p) (sym s)
         (record {
           some = λ t.
-              subst (λ (x : Fuel). Even c x (k .set) (k .since + noted said admits p (answerOf m b op))) (sym (after-it ∙ pick-true _ _ _ t))
+              subst (λ (x : Fuel). Even c x (k .set) (k .since + noted k said admits p (answerOf m b op))) (sym (after-it ∙ pick-true _ _ _ t))
               (spend (w .fuel) (affords-is m _ (w .fuel .on) (payable r m b op (metered ∙ t) o .affordable)) (pick-true _ _ _ v ∙ same (in-use o) .0));
           none = λ t. subst (λ (x : Fuel). Even c x (k .set) (k .since)) (sym (after-it ∙ pick-false _ _ _ t)) (w .fuel);
         })
@@ -313,7 +328,7 @@ module _ (r c : ℕ) (m : Machine) (b : Buffers) (k : Book) (w : Balanced c m k)
     entered Free g done pays due = either (accepted a) (λ t. same (done t)) (λ t. same (kept t))
     entered (Sets n) g done pays due =
         branch P (accepted a) _ _
-        (λ t. evenly n 0 (done t) (record { on = w .fuel .on; rate = w .fuel .rate; even = omega arith }))
+        (λ t. evenly n _ (done t) (record { on = w .fuel .on; rate = w .fuel .rate; even = omega arith }))
         (λ t. same (kept t))
     entered (Charges n) g done pays due =
         branch P (accepted a) _ _

@@ -25,7 +25,7 @@ use Rattle.claims.specs.Metered.{Metering, Free, Spans, memoryMetering, 
 use Rattle.claims.specs.Occasions.{granted, makesMemory, growsMemory, memoryOccasion, makesTable, growsTable, tableOccasion, occasion}
 use Rattle.claims.specs.Effects.{handedTo, askedBy, limiterAfter, acceptedStep}
 use Rattle.claims.specs.Script.{memoryQuestion, tableQuestion, question, replaced, scriptAfter}
-use Rattle.claims.proofs.Heard.{onward, no-question, heard-done, moved-once}
+use Rattle.claims.proofs.Heard.{onward, refused-leaves, no-question, heard-done, moved-once}
 use Rattle.claims.proofs.Exiting.{branch}
 use Rattle.claims.proofs.Exits.{refusal-script, accepted-when, accepted-does}
 
@@ -111,4 +111,4 @@ script-moves r m b op =
     let s = both-2 _ _ w in
     ap (λ (x : Stepped). x .machine .limiter) (accepted-does r m b op a)
     ∙ accepted-script r m b op (record { sound = both-1 _ _ s; formed = both-1 _ _ w; when = both-2 _ _ s; value = a }) ∙ sym (pick-true _ _ _ a))
-    (λ n. refusal-script r m b op n ∙ sym (pick-false _ _ _ n))
+    (λ n. refusal-script r m b op n ∙ sym (refused-leaves r m b op n))
