@@ -1,4 +1,4 @@
--- Machines that agree on what an operation names and on fuel, script, numbers, room left and segments answer it alike. Assumes nothing.
+-- Machines that agree on what an operation names and on fuel, script, numbers, room left and segments give it the same answer, fuel and script. Assumes nothing.
 use Prim.Native.Nat.{ℕ, _+_, _-_, _≤_, _<_}
 use mathlib.Core.Path.{_≡_, refl, sym, ap, subst, _∙_}
 use mathlib.Core.Bool.{Bool, true, false}
@@ -53,7 +53,7 @@ use Rattle.machine.specs.Fueling.{fueled, onFuel}
 use Rattle.machine.specs.Memories.{performMemory, linkTo, onMemory, madeMemory, newMemoryOn}
 use Rattle.machine.specs.Tables.{performTable, onTable, madeTable, newTableOn, copyKnown, copyOn}
 use Rattle.machine.specs.Segments.{initOn, dropOn, madeSegment, newSegmentOn}
-use Rattle.machine.specs.Step.{Performed, perform, decide, step}
+use Rattle.machine.specs.Step.{Performed, Stepped, perform, decide, step}
 use Rattle.machine.specs.declared.records.Machine.{Machine}
 use Rattle.machine.specs.declared.outcome.Outcome.{Outcome}
 use Rattle.machine.specs.declared.operation.Operation.{Operation}
@@ -64,7 +64,8 @@ use Rattle.types.specs.declared.table_ty.WantedTable.{WantedTable}
 use Rattle.machine.proofs.Rooms.{memory-sound, table-sound, segment-sound, next-byte-inside}
 use Rattle.claims.proofs.Exiting.{room-inside}
 use Rattle.claims.proofs.TableExiting.{cells-sound, two-sound}
-use Rattle.claims.specs.Alike.{SameMemory, SameTable, SameRest, SameNamed, SameOutcome}
+use Rattle.claims.proofs.Cuts.{part-alike, cell-alike}
+use Rattle.claims.specs.Alike.{SameMemory, SameTable, Watched, namesOnly, Agree}
 use Rattle.machine.specs.declared.fueling.Fueled.{Fueled}
 use Rattle.machine.specs.declared.operation.MemoryOp.{MemoryOp}
 use Rattle.machine.specs.declared.operation.MemoryOp.the-variants as memory
@@ -102,6 +103,10 @@ ofSpan l s = fueled (s .answer) (s .fuel) l
 abbrev ofOut : Outcome → Fueled
 ofOut o = fueled (o .answer) (o .fuel) (o .limiter)
 
+-- of a step
+abbrev pub ofStep : Stepped → Fueled
+ofStep s = fueled (s .answer) (s .machine .fuel) (s .machine .limiter)
+
 -- two choices by one test show the same where their values do
 way : {A : Type 0} (see : A → Fueled) (t : Bool) (x y x′ y′ : A) → (t ≡ true → see x ≡ see x′) → (t ≡ false → see y ≡ see y′) → see (pick t x y) ≡ see (pick t x′ y′)
 way see t x y x′ y′ f g =
@@ -109,19 +114,8 @@ way see t x y x′ y′ f g =
     (λ k. ap see (pick-true t x y k) ∙ f k ∙ sym (ap see (pick-true t x′ y′ k)))
     (λ k. ap see (pick-false t x y k) ∙ g k ∙ sym (ap see (pick-false t x′ y′ k)))
 
--- cells within a span, by the span's own
-cut-cut : (l : List ℕ) (s z a n : ℕ) → a + n ≤ z → cut l (s + a) n ≡ cut (cut l s z) a n
-unfolding cut
-cut-cut l s z a n h =
-    ap (take n) (sym (drop-drop a s l)) ∙ cut-of (drop s l) a n ∙ ap (drop a) (sym (take-take (a + n) z (drop s l) h)) ∙ sym (cut-of (take z (drop s l)) a n)
-
--- one cell of it
-getD-cut : (l : List ℕ) (s z i : ℕ) → i < z → getD l (s + i) 0 ≡ getD (cut l s z) i 0
-unfolding cut
-getD-cut l s z i h = sym (getD-take z (drop s l) i 0 h ∙ getD-drop s l i 0)
-
 -- a machine with other memories and tables
-abbrev beside : Machine → List Memory → List Table → Machine
+abbrev pub beside : Machine → List Memory → List Table → Machine
 beside m ms ts = record { memories = ms; tables = ts; segments = m .segments; counts = m .counts; fuel = m .fuel; limiter = m .limiter }
 
 -- two sound machines of the same fuel, limiter, counts, segments and items
@@ -158,8 +152,7 @@ module _ (r : ℕ) (m : Machine) (b : Buffers) (ms : List Memory) (ts : List Tab
         found (At x) q =
             let g = address-is (memoryAt m′ i .size) ptr offset n x q .1 in
             ap (λ (l : List ℕ). answer.Value (extend k (leValue l)))
-            (cut-cut (b .bytes) (memoryAt m i .start) (memoryAt m i .size) x n (omega (arith, w .size)) ∙ ap (λ (l : List ℕ). cut l x n) (w .bytes)
-            ∙ sym (cut-cut bs (memoryAt m′ i .start) (memoryAt m′ i .size) x n g))
+            (part-alike (b .bytes) bs _ _ _ _ x n (w .size) (omega (arith, w .size)) (w .bytes))
 
     -- 14: the answer is the same
     store-alike : (k : StoreKind) (ptr offset bits : ℕ) → storeMemory k (memoryAt m i) (b .bytes) ptr offset bits .out ≡ storeMemory k (memoryAt m′ i) bs ptr offset bits .out
@@ -196,8 +189,7 @@ module _ (r : ℕ) (m : Machine) (b : Buffers) (ms : List Memory) (ts : List Tab
         (λ k.
         let g : j < tableAt m′ i .size = leb-false _ _ k in
         let q : getD (b .cells) (tableAt m i .start + j) 0 ≡ getD cs (tableAt m′ i .start + j) 0 =
-        getD-cut (b .cells) (tableAt m i .start) (tableAt m i .size) j (omega (arith, w .size)) ∙ ap (λ (l : List ℕ). getD l j 0) (w .cells)
-        ∙ sym (getD-cut cs (tableAt m′ i .start) (tableAt m′ i .size) j g) in
+        cell-alike (b .cells) cs _ _ _ _ j (w .size) (omega (arith, w .size)) (w .cells) in
         simp (pick-true, pick-false, sound-table, sound-table′, w .size, k, q))
 
     -- 21 to 25
@@ -251,78 +243,48 @@ module _ (r : ℕ) (m : Machine) (b : Buffers) (ms : List Memory) (ts : List Tab
   new-segment-alike (made-segment.Refused x) = refl
   new-segment-alike (made-segment.Made x) = refl
 
-  -- every operation: 16 or 17, then as above
-  perform-alike : (op : Operation) → length (b .bytes) - nextByte m ≡ length bs - nextByte m′ → length (b .cells) - nextCell m ≡ length cs - nextCell m′
-      → SameNamed m b m′ b′ op → ofOut (perform r m b op .out) ≡ ofOut (perform r m′ b′ op .out)
-  unfolding perform SameNamed onFuel newMemoryOn onMemory newTableOn onTable copyOn copyKnown initOn dropOn newSegmentOn nextItem sight
-  perform-alike (op.Fuel o) p q w = refl
-  perform-alike (op.NewMemory room wanted) p q w =
-      rw p (way (sight ofOut) _ _ _ _ _ (λ t. new-memory-alike room wanted (ap (leb room) p ∙ both-2 _ _ t) (both-2 _ _ t)) (λ t. refl))
-  perform-alike (op.Memory number o) p q w = way (sight ofOut) _ _ _ _ _ (λ t. memory-alike number (ltb-true _ _ t) w o) (λ t. refl)
-  perform-alike (op.NewTable room wanted initial) p q w =
-      rw q (way (sight ofOut) _ _ _ _ _ (λ t. new-table-alike room wanted initial (ap (leb room) q ∙ both-2 _ _ t) (both-2 _ _ t)) (λ t. refl))
-  perform-alike (op.Table number o) p q w = way (sight ofOut) _ _ _ _ _ (λ t. table-alike number (ltb-true _ _ t) w o) (λ t. refl)
-  perform-alike (op.TableCopy into source span) p q w =
-      way (sight ofOut) _ _ _ _ _
-      (λ t.
-      let h = ltb-true into (m .counts .tables) (both-1 _ _ t) in
-      let g = ltb-true source (m .counts .tables) (both-2 _ _ t) in
-      way (sight ofOut) _ _ _ _ _
-      (λ k. within-alike into h (w .0) span)
-      (λ k. copy-alike into source span h g (eqb-false into source k) (w .0) (w .1)))
-      (λ t. refl)
-  perform-alike (op.TableInit table segment span) p q w =
-      way (sight ofOut) _ _ _ _ _
-      (λ t.
-      let g = segment-sound m _ _ _ e segment (ltb-true _ _ (both-2 _ _ t)) in
-      init-alike table (ltb-true _ _ (both-1 _ _ t)) w (segmentAt m segment) span g)
-      (λ t. refl)
-  perform-alike (op.DropSegment segment) p q w = way ofOut _ _ _ _ _ (λ t. refl) (λ t. refl)
-  perform-alike (op.NewSegment element items) p q w = way (sight ofOut) _ _ _ _ _ (λ t. new-segment-alike _) (λ t. refl)
+  -- the watched instances are the same in both
+  module _ (w : Watched) (g : Agree w m b m′ b′) where
+    -- every operation: 16 or 17, then as above
+    perform-alike : (op : Operation) → namesOnly w op ≡ true → ofOut (perform r m b op .out) ≡ ofOut (perform r m′ b′ op .out)
+    unfolding perform namesOnly onFuel newMemoryOn onMemory newTableOn onTable copyOn copyKnown initOn dropOn newSegmentOn nextItem sight
+    perform-alike (op.Fuel o) n = refl
+    perform-alike (op.NewMemory room wanted) n =
+        let p = g .rest .bytes in
+        rw p (way (sight ofOut) _ _ _ _ _ (λ t. new-memory-alike room wanted (ap (leb room) p ∙ both-2 _ _ t) (both-2 _ _ t)) (λ t. refl))
+    perform-alike (op.Memory number o) n =
+        way (sight ofOut) _ _ _ _ _ (λ t. let h = ltb-true number (m .counts .memories) t in memory-alike number h (g .memory number n h) o) (λ t. refl)
+    perform-alike (op.NewTable room wanted initial) n =
+        let p = g .rest .cells in
+        rw p (way (sight ofOut) _ _ _ _ _ (λ t. new-table-alike room wanted initial (ap (leb room) p ∙ both-2 _ _ t) (both-2 _ _ t)) (λ t. refl))
+    perform-alike (op.Table number o) n =
+        way (sight ofOut) _ _ _ _ _ (λ t. let h = ltb-true number (m .counts .tables) t in table-alike number h (g .table number n h) o) (λ t. refl)
+    perform-alike (op.TableCopy into source span) n =
+        way (sight ofOut) _ _ _ _ _
+        (λ t.
+        let h = ltb-true into (m .counts .tables) (both-1 _ _ t) in
+        let k = ltb-true source (m .counts .tables) (both-2 _ _ t) in
+        let v = g .table into (both-1 _ _ n) h in
+        way (sight ofOut) _ _ _ _ _
+        (λ q. within-alike into h v span)
+        (λ q. copy-alike into source span h k (eqb-false into source q) v (g .table source (both-2 _ _ n) k)))
+        (λ t. refl)
+    perform-alike (op.TableInit table segment span) n =
+        way (sight ofOut) _ _ _ _ _
+        (λ t.
+        let h = ltb-true table (m .counts .tables) (both-1 _ _ t) in
+        init-alike table h (g .table table n h) (segmentAt m segment) span (segment-sound m _ _ _ e segment (ltb-true _ _ (both-2 _ _ t))))
+        (λ t. refl)
+    perform-alike (op.DropSegment segment) n = way ofOut _ _ _ _ _ (λ t. refl) (λ t. refl)
+    perform-alike (op.NewSegment element items) n = way (sight ofOut) _ _ _ _ _ (λ t. new-segment-alike _) (λ t. refl)
 
-  -- 18 first, then the operation
-  step-alike : (op : Operation) → length (b .bytes) - nextByte m ≡ length bs - nextByte m′ → length (b .cells) - nextCell m ≡ length cs - nextCell m′
-      → SameNamed m b m′ b′ op → SameOutcome (step r m b op) (step r m′ b′ op)
-  unfolding step decide settled
-  step-alike op p q w =
-      record {
-        answer = ap (λ (x : Fueled). x .answer) seen;
-        fuel = ap (λ (x : Fueled). x .fuel) seen;
-        limiter = ap (λ (x : Fueled). x .limiter) seen;
-      }
-    where
-      see : Performed → Fueled
-      see x = ofOut (x .out)
-
-      seen : ofOut (decide r m b op .out) ≡ ofOut (decide r m′ b′ op .out)
-      seen =
-          way see (wellFormed op) _ _ _ _
-          (λ t. ap see (pick-true _ _ _ e) ∙ perform-alike op p q w ∙ sym (ap see (pick-true _ _ _ e′)))
-          (λ t. refl)
-
--- the whole: the second machine is the first with memories and tables of its own
-pub alike : (r : ℕ) (m : Machine) (b : Buffers) (m′ : Machine) (b′ : Buffers) (op : Operation)
-    → soundOver m b ≡ true → soundOver m′ b′ ≡ true → SameRest m b m′ b′ → SameNamed m b m′ b′ op
-    → SameOutcome (step r m b op) (step r m′ b′ op)
-alike r m b m′ b′ op e e′ w v =
-    subst (λ (x : Machine × Buffers). P (x .0) (x .1)) whole
-    (λ h p q n. step-alike r m b (m′ .memories) (m′ .tables) (b′ .bytes) (b′ .cells) e h op p q n)
-    e′ (w .bytes) (w .cells) v
-  where
-    P : Machine → Buffers → Type 0
-    P x y = soundOver x y ≡ true → length (b .bytes) - nextByte m ≡ length (y .bytes) - nextByte x
-        → length (b .cells) - nextCell m ≡ length (y .cells) - nextCell x → SameNamed m b x y op → SameOutcome (step r m b op) (step r x y op)
-
-    whole : _≡_ {A = Machine × Buffers} (beside m (m′ .memories) (m′ .tables), buffers (b′ .bytes) (b′ .cells) (b .items)) (m′, b′)
-    whole =
-        (λ i. (
-          record {
-            memories = m′ .memories;
-            tables = m′ .tables;
-            segments = w .segments i;
-            counts = w .counts i;
-            fuel = w .fuel i;
-            limiter = w .limiter i;
-          },
-          buffers (b′ .bytes) (b′ .cells) (w .items i),
-        ))
+    -- 18 first, then the operation
+    pub step-alike : (op : Operation) → namesOnly w op ≡ true → ofStep (step r m b op) ≡ ofStep (step r m′ b′ op)
+    unfolding step decide settled
+    step-alike op n =
+        way (λ (x : Performed). ofOut (x .out)) (wellFormed op) _ _ _ _
+        (λ t. ap see (pick-true _ _ _ e) ∙ perform-alike op n ∙ sym (ap see (pick-true _ _ _ e′)))
+        (λ t. refl)
+      where
+        see : Performed → Fueled
+        see x = ofOut (x .out)

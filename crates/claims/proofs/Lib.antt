@@ -13,7 +13,9 @@ pub mod Spans
 pub mod Reached
 pub mod Beside
 pub mod Ledger
+pub mod Cuts
 pub mod Alike
+pub mod Agreeing
 pub mod Cases
 pub mod Sessions
 pub mod Claims

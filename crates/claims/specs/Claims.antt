@@ -24,7 +24,7 @@ use Rattle.claims.specs.{Answers.accepted, Answers.valueOrListed, Answer
 use Rattle.claims.specs.{Bound.wrote, Bound.totals, Bound.mostR, Bound.mostBytes, Bound.fullestRun, Bound.zeros, Ledger.blank, Ledger.limiterSays}
 use Rattle.claims.specs.{Metered.meteringOf, Metered.meets, Spans.spanOf, Spans.spanBytes, Spans.WritesSpan}
 use Rattle.claims.specs.{Ledger.book, Cases.allHold, Cases.cases, Sessions.readAll, Sessions.replies, Sessions.answersIn}
-use Rattle.claims.specs.{Script.scriptAfter, Sessions.sessionText, Alike.SameRest, Alike.SameNamed, Alike.SameOutcome}
+use Rattle.claims.specs.{Script.scriptAfter, Sessions.sessionText, Alike.Watched, Alike.namesOnly, Alike.allNameOnly, Alike.Agree, Alike.SameStep, Alike.SameRun}
 
 -- R, the bytes that a reference counts, is a number of its own in every claim; the machine's is 4
 pub record Claims : Type 0 where
@@ -64,10 +64,14 @@ pub record Claims : Type 0 where
   -- 6. An operation changes cells and size of one instance at most.
   pub others-stay : (r : ℕ) (m : Machine) (b : Buffers) (op : Operation) → soundOver m b ≡ true → OthersStay m b op (step r m b op)
   pub only-sizes : (r : ℕ) (m : Machine) (b : Buffers) (op : Operation) → soundOver m b ≡ true → OnlySizes m (step r m b op)
-  -- Machines that agree on fuel, script, room left, numbers, segments and the instances that an operation names answer it alike.
-  pub alike : (r : ℕ) (m : Machine) (b : Buffers) (m′ : Machine) (b′ : Buffers) (op : Operation)
-      → soundOver m b ≡ true → soundOver m′ b′ ≡ true → SameRest m b m′ b′ → SameNamed m b m′ b′ op
-      → SameOutcome (step r m b op) (step r m′ b′ op)
+  -- Machines that agree on fuel, script, room left, numbers, segments and watched instances answer alike what names no other, and agree again.
+  pub alike : (r : ℕ) (w : Watched) (m : Machine) (b : Buffers) (m′ : Machine) (b′ : Buffers) (op : Operation)
+      → soundOver m b ≡ true → soundOver m′ b′ ≡ true → Agree w m b m′ b′ → namesOnly w op ≡ true
+      → SameStep w (step r m b op) (step r m′ b′ op)
+  -- So every later answer is the same, to the end of any list of operations that name watched instances only.
+  pub alike-run : (r : ℕ) (w : Watched) (m : Machine) (b : Buffers) (m′ : Machine) (b′ : Buffers) (ops : List Operation)
+      → soundOver m b ≡ true → soundOver m′ b′ ≡ true → Agree w m b m′ b′ → allNameOnly w ops ≡ true
+      → SameRun w (run r m b ops) (run r m′ b′ ops)
   -- 7. A fresh machine is sound and stays so, and no operation of a run from it answers 19.
   pub fresh-sound : (metering : Bool) (costs : FuelCosts) (b : Buffers) → soundReferences (length (b .cells)) (length (b .items)) ≡ true
       → soundOver (freshMachine metering costs) b ≡ true
