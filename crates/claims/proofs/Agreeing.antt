@@ -57,7 +57,8 @@ use Rattle.machine.proofs.Apart.{others-stay, only-sizes}
 use Rattle.machine.proofs.Kept.{step-sound, step-bytes-long, step-cells-long}
 use Rattle.claims.specs.Answers.{accepted}
 use Rattle.claims.specs.Occasions.{makesMemory, makesTable, reaches, memoryOccasion, tableOccasion, copies, inits, occasion}
-use Rattle.claims.specs.Effects.{memoryWritten, tableWritten, written, memorySizeAfter, tableSizeAfter, changeOf, countsAfter, acceptedStep}
+use Rattle.claims.specs.Spans.{memorySpan, tableSpan, spanOf, put}
+use Rattle.claims.specs.Effects.{written, memorySizeAfter, tableSizeAfter, changeOf, countsAfter, acceptedStep}
 use Rattle.claims.specs.Alike.{SameMemory, SameTable, SameRest, Watched, namesOnly, allNameOnly, Agree, SameStep, SameRun}
 use Rattle.claims.proofs.Exits.{refusal-leaves, accepted-when, accepted-does}
 use Rattle.claims.proofs.Cuts.{cut-short, part-alike, first-alike, inside-alike, more-alike, made-alike}
@@ -237,12 +238,12 @@ module _ (m : Machine) (b : Buffers) (e : soundOver m b ≡ true) where
     made-memory : (room : ℕ) (q : WantedMemory) → accepted (step r m b (op.NewMemory room q) .answer) ≡ true
         → memoryAt (acceptedStep r m b (op.NewMemory room q) .machine) (m .counts .memories) ≡ memoryOf (typeOf q) (nextByte m) room (leastOf q)
     unfolding acceptedStep changeOf occasion makesMemory
-    made-memory room q a = put-memory _ _ (ltb-true _ _ (both-1 _ _ (both-1 _ _ (on-occasion r m b (op.NewMemory room q) e a))))
+    made-memory room q a = put-memory _ _ (ltb-true _ _ (both-1 _ _ (both-1 _ _ (both-1 _ _ (on-occasion r m b (op.NewMemory room q) e a)))))
 
     made-table : (room : ℕ) (q : WantedTable) (v : TypedRawRef) → accepted (step r m b (op.NewTable room q v) .answer) ≡ true
         → tableAt (acceptedStep r m b (op.NewTable room q v) .machine) (m .counts .tables) ≡ tableOf (tableTypeOf q) (nextCell m) room (q .limits .minimum)
     unfolding acceptedStep changeOf occasion makesTable
-    made-table room q v a = put-table _ _ (ltb-true _ _ (both-1 _ _ (both-1 _ _ (on-occasion r m b (op.NewTable room q v) e a))))
+    made-table room q v a = put-table _ _ (ltb-true _ _ (both-1 _ _ (both-1 _ _ (both-1 _ _ (on-occasion r m b (op.NewTable room q v) e a)))))
 
     named-memory : (i : ℕ) (o : MemoryOp) → i < m .counts .memories
         → memoryAt (acceptedStep r m b (op.Memory i o) .machine) i ≡ of-memory.resized (memoryAt m i) (memorySizeAfter (memoryAt m i) o)
@@ -343,7 +344,7 @@ module _ (r : ℕ) (m : Machine) (b : Buffers) (ms : List Memory) (ts : List Tab
   -- 10: the memory made, and the others
   memory-made : (room : ℕ) (q : WantedMemory) → accepted (step r m b (op.NewMemory room q) .answer) ≡ true
       → accepted (step r m′ b′ (op.NewMemory room q) .answer) ≡ true → Memories (op.NewMemory room q)
-  unfolding acceptedStep countsAfter targetOf written numberIn
+  unfolding acceptedStep countsAfter targetOf put spanOf numberIn
   memory-made room q a a′ =
       let o = op.NewMemory room q in
       let p = made-memory m b e r room q a in
@@ -361,7 +362,7 @@ module _ (r : ℕ) (m : Machine) (b : Buffers) (ms : List Memory) (ts : List Tab
   -- 20: the table made, and the others
   table-made : (room : ℕ) (q : WantedTable) (x : TypedRawRef) → accepted (step r m b (op.NewTable room q x) .answer) ≡ true
       → accepted (step r m′ b′ (op.NewTable room q x) .answer) ≡ true → Tables (op.NewTable room q x)
-  unfolding acceptedStep countsAfter targetOf written numberIn
+  unfolding acceptedStep countsAfter targetOf put spanOf numberIn
   table-made room q x a a′ =
       let o = op.NewTable room q x in
       let p = made-table m b e r room q x a in
@@ -388,9 +389,9 @@ module _ (r : ℕ) (m : Machine) (b : Buffers) (ms : List Memory) (ts : List Tab
   -- its bytes afterwards
   memory-bytes : (i : ℕ) (o : MemoryOp) → accepted (step r m b (op.Memory i o) .answer) ≡ true → accepted (step r m′ b′ (op.Memory i o) .answer) ≡ true
       → i < m .counts .memories → SameMemory m b m′ b′ i
-      → cut (memoryWritten m b i o .bytes) (memoryAt m i .start) (memorySizeAfter (memoryAt m i) o)
-      ≡ cut (memoryWritten m′ b′ i o .bytes) (memoryAt m′ i .start) (memorySizeAfter (memoryAt m′ i) o)
-  unfolding memoryWritten memorySizeAfter occasion memoryOccasion reaches
+      → cut (put b (memorySpan m i o) .bytes) (memoryAt m i .start) (memorySizeAfter (memoryAt m i) o)
+      ≡ cut (put b′ (memorySpan m′ i o) .bytes) (memoryAt m′ i .start) (memorySizeAfter (memoryAt m′ i) o)
+  unfolding put memorySpan memorySizeAfter occasion memoryOccasion reaches
   memory-bytes i (memory.Grow pages) a a′ h v =
       let x = memoryAt m i in
       let x′ = memoryAt m′ i in
@@ -416,7 +417,7 @@ module _ (r : ℕ) (m : Machine) (b : Buffers) (ms : List Memory) (ts : List Tab
   -- 11 to 14, 30: the memory named, and the others
   memory-named : (k : ℕ) (o : MemoryOp) → w .memory k ≡ true → accepted (step r m b (op.Memory k o) .answer) ≡ true
       → accepted (step r m′ b′ (op.Memory k o) .answer) ≡ true → Memories (op.Memory k o)
-  unfolding acceptedStep countsAfter targetOf written numberIn
+  unfolding acceptedStep countsAfter targetOf put spanOf numberIn
   memory-named k o n a a′ =
       record {
         room = byte-room r m b (op.Memory k o) e a refl ∙ g .rest .bytes ∙ sym (byte-room r m′ b′ (op.Memory k o) e′ a′ refl);
@@ -448,9 +449,9 @@ module _ (r : ℕ) (m : Machine) (b : Buffers) (ms : List Memory) (ts : List Tab
   -- its cells afterwards
   table-cells : (i : ℕ) (o : TableOp) → accepted (step r m b (op.Table i o) .answer) ≡ true → accepted (step r m′ b′ (op.Table i o) .answer) ≡ true
       → i < m .counts .tables → SameTable m b m′ b′ i
-      → cut (tableWritten m b i o .cells) (tableAt m i .start) (tableSizeAfter (tableAt m i) o)
-      ≡ cut (tableWritten m′ b′ i o .cells) (tableAt m′ i .start) (tableSizeAfter (tableAt m′ i) o)
-  unfolding tableWritten tableSizeAfter occasion tableOccasion
+      → cut (put b (tableSpan m i o) .cells) (tableAt m i .start) (tableSizeAfter (tableAt m i) o)
+      ≡ cut (put b′ (tableSpan m′ i o) .cells) (tableAt m′ i .start) (tableSizeAfter (tableAt m′ i) o)
+  unfolding put tableSpan tableSizeAfter occasion tableOccasion
   table-cells i (table.Grow cells value) a a′ h v =
       let f = table-held m b e r i (table.Grow cells value) h a in
       let f′ = table-held m′ b′ e′ r i (table.Grow cells value) h a′ in
@@ -483,7 +484,7 @@ module _ (r : ℕ) (m : Machine) (b : Buffers) (ms : List Memory) (ts : List Tab
   -- 21 to 25: the table named
   table-named : (k : ℕ) (o : TableOp) → w .table k ≡ true → accepted (step r m b (op.Table k o) .answer) ≡ true
       → accepted (step r m′ b′ (op.Table k o) .answer) ≡ true → Tables (op.Table k o)
-  unfolding acceptedStep countsAfter targetOf written
+  unfolding acceptedStep countsAfter targetOf put spanOf
   table-named k o n a a′ =
       tables-but (op.Table k o) k a a′ refl refl refl
       (λ h.
@@ -493,7 +494,7 @@ module _ (r : ℕ) (m : Machine) (b : Buffers) (ms : List Memory) (ts : List Tab
   -- 26: the destination, with cells of a source that is the same in both
   table-copied : (k j : ℕ) (s : CopySpan) → w .table k ≡ true → w .table j ≡ true → accepted (step r m b (op.TableCopy k j s) .answer) ≡ true
       → accepted (step r m′ b′ (op.TableCopy k j s) .answer) ≡ true → Tables (op.TableCopy k j s)
-  unfolding acceptedStep countsAfter targetOf written changeOf changed occasion copies
+  unfolding acceptedStep countsAfter targetOf put spanOf changeOf changed occasion copies
   table-copied k j s n u a a′ =
       let c = on-occasion r m b (op.TableCopy k j s) e a in
       let y : j < m .counts .tables = ltb-true _ _ (both-2 _ _ (both-1 _ _ c)) in
@@ -513,7 +514,7 @@ module _ (r : ℕ) (m : Machine) (b : Buffers) (ms : List Memory) (ts : List Tab
   -- 27: the table named, with the same items
   table-set-up : (k j : ℕ) (s : CopySpan) → w .table k ≡ true → accepted (step r m b (op.TableInit k j s) .answer) ≡ true
       → accepted (step r m′ b′ (op.TableInit k j s) .answer) ≡ true → Tables (op.TableInit k j s)
-  unfolding acceptedStep countsAfter targetOf written changeOf changed occasion inits
+  unfolding acceptedStep countsAfter targetOf put spanOf changeOf changed occasion inits
   table-set-up k j s n a a′ =
       let c = on-occasion r m b (op.TableInit k j s) e a in
       let t : s .to + s .len ≤ tableAt m k .size = within-is _ _ _ (both-1 _ _ (both-1 _ _ (both-2 _ _ (both-2 _ _ c)))) in
@@ -562,7 +563,7 @@ module _ (r : ℕ) (m : Machine) (b : Buffers) (ms : List Memory) (ts : List Tab
 
   -- the items
   items-after : (op : Operation) → accepted (step r m b op .answer) ≡ true → accepted (step r m′ b′ op .answer) ≡ true → written m b op .items ≡ written m′ b′ op .items
-  unfolding written acceptedStep targetOf atItems nextItem
+  unfolding put spanOf acceptedStep targetOf atItems nextItem
   items-after (op.Fuel o) a a′ = refl
   items-after (op.NewMemory room wanted) a a′ = refl
   items-after (op.Memory number o) a a′ = items-stay (op.Memory number o) a a′ refl refl

@@ -150,13 +150,13 @@ module _ (r : ℕ) (m : Machine) (b : Buffers) (s : soundOver m b ≡ true) wher
   unfolding fits spanOf occasion makesMemory makesTable copies inits
   span-fits (op.Fuel o) e = refl
   span-fits (op.NewMemory room wanted) e =
-      let free = leb-true room _ (both-2 _ _ (both-1 _ _ e)) in
-      let least = leb-true _ room (both-2 _ _ (both-2 _ _ (both-2 _ _ (both-2 _ _ e)))) in
+      let free = leb-true room _ (both-2 _ _ (both-1 _ _ (both-1 _ _ e))) in
+      let least = leb-true _ room (both-2 _ _ (both-2 _ _ e)) in
       filled-inside (nextByte m) (leastBytes wanted) 0 (length (b .bytes)) (omega (arith, free, least, next-byte-inside m _ _ _ s))
   span-fits (op.Memory number o) e = memory-fits number o (both-1 _ _ e) (both-2 _ _ e)
   span-fits (op.NewTable room wanted first) e =
-      let free = leb-true room _ (both-2 _ _ (both-1 _ _ e)) in
-      let least = leb-true _ room (both-2 _ _ (both-2 _ _ (both-2 _ _ (both-2 _ _ e)))) in
+      let free = leb-true room _ (both-2 _ _ (both-1 _ _ (both-1 _ _ e))) in
+      let least = leb-true _ room (both-2 _ _ (both-2 _ _ e)) in
       filled-inside (nextCell m) (wanted .limits .minimum) (first .raw .bits) (length (b .cells)) (omega (arith, free, least, next-cell-inside m _ _ _ s))
   span-fits (op.Table number o) e = table-fits number o (both-1 _ _ e) (both-2 _ _ e)
   span-fits (op.TableCopy into source span) e =
