@@ -1,24 +1,20 @@
--- Machines that agree on what an operation names and on fuel, script, numbers, room left and segments give it the same answer, fuel and script. Assumes nothing.
-use Prim.Native.Nat.{ℕ, _+_, _-_, _≤_, _<_}
-use mathlib.Core.Path.{_≡_, refl, sym, ap, subst, _∙_}
+-- Machines that agree on what an operation names and on fuel, script, numbers, room left and segments: the same answer, fuel and script. Assumes nothing.
+use Prim.Native.Nat.{ℕ, _+_, _-_, _<_}
+use mathlib.Core.Path.{_≡_, refl, sym, ap, _∙_}
 use mathlib.Core.Bool.{Bool, true, false}
 use mathlib.Core.List.{List}
 use native.Mathlib.Omega.{arith}
 use lib.Dec.{leb}
-use lib.ListN.{length, take, drop, getD}
-use lib.Seq.{take-take, drop-drop, getD-take, getD-drop}
+use lib.ListN.{length, getD}
 use borrow.Author.Tests.{leb-false, ltb-true, eqb-false}
 use Rattle.types.specs.Pick.{pick}
-use Rattle.types.specs.Span.{cut}
 use Rattle.types.specs.Done.{Done, done}
 use Rattle.types.specs.declared.answer.Answer.{Answer}
 use Rattle.types.specs.declared.answer.Answer.the-variants as answer
-use Rattle.types.specs.declared.fuel.Fuel.{Fuel}
 use Rattle.types.specs.declared.grant.Spanned.{Spanned}
 use Rattle.types.specs.declared.limiter.Limiter.{Limiter}
 use Rattle.types.specs.declared.raw.TypedRawRef.{TypedRawRef}
 use Rattle.types.proofs.Picks.{pick-true, pick-false, pick-ap, both-true, both-1, both-2, either}
-use Rattle.types.proofs.Spans.{cut-of}
 use Rattle.memory.specs.LittleEndian.{leValue}
 use Rattle.memory.specs.Access.{widthBytes, addressOf, loadWidth, extend, loadedOf, loadFound, loadAt, storeFound, storeAt}
 use Rattle.memory.specs.Memory.{pagesOf, soundMemory, loadMemory, storeMemory}
@@ -282,7 +278,7 @@ module _ (r : ℕ) (m : Machine) (b : Buffers) (ms : List Memory) (ts : List Tab
     pub step-alike : (op : Operation) → namesOnly w op ≡ true → ofStep (step r m b op) ≡ ofStep (step r m′ b′ op)
     unfolding step decide settled
     step-alike op n =
-        way (λ (x : Performed). ofOut (x .out)) (wellFormed op) _ _ _ _
+        way see (wellFormed op) _ _ _ _
         (λ t. ap see (pick-true _ _ _ e) ∙ perform-alike op n ∙ sym (ap see (pick-true _ _ _ e′)))
         (λ t. refl)
       where

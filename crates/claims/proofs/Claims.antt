@@ -13,7 +13,7 @@ use Rattle.claims.proofs.Bound.{byte-bound}
 use Rattle.claims.proofs.Reached.{bound-reached}
 use Rattle.claims.proofs.Spans.{span-alone, span-counted, refused-writes-none}
 use Rattle.claims.proofs.Ledger.{ledger}
-use Rattle.claims.proofs.Agreeing.{alike, alike-run}
+use Rattle.claims.proofs.AlikeRun.{alike, alike-run}
 use Rattle.claims.proofs.Never.{never-unsound}
 use Rattle.claims.proofs.Cases.{worked-cases}
 

@@ -15,7 +15,9 @@ pub mod Beside
 pub mod Ledger
 pub mod Cuts
 pub mod Alike
+pub mod Left
 pub mod Agreeing
+pub mod AlikeRun
 pub mod Cases
 pub mod Sessions
 pub mod Claims
