@@ -1,6 +1,7 @@
 -- The claims hold. Assumes nothing.
 use mathlib.Core.Path.{sym}
 use Rattle.machine.proofs.Formed.{form-holds}
+use Rattle.machine.proofs.Sizes.{pages-as-12, cells-as-22}
 use Rattle.machine.proofs.Kept.{step-sound, fresh-sound}
 use Rattle.machine.proofs.Apart.{others-stay, only-sizes}
 use Rattle.lines.proofs.Text.{read-write, read-unique}
@@ -15,6 +16,7 @@ use Rattle.claims.proofs.Spans.{span-alone, span-counted, refused-write
 use Rattle.claims.proofs.Ledger.{ledger}
 use Rattle.claims.proofs.AlikeRun.{alike, alike-run}
 use Rattle.claims.proofs.Never.{never-unsound}
+use Rattle.claims.proofs.Forms.{stays-in-form}
 use Rattle.claims.proofs.Cases.{worked-cases}
 
 -- every claim by its law
@@ -42,6 +44,9 @@ claims =
       operate-is-step = λ κs a x s p. p;
       row-is-step = λ κs a x s p. p;
       form-holds = λ l e. sym (form-holds l e);
+      stays-in-form = stays-in-form;
+      pages-as-12 = pages-as-12;
+      cells-as-22 = cells-as-22;
       lent-is-step = λ κs a x s p. p;
       session-is-run = session-is-run;
       replies-run = replies-run;

@@ -20,4 +20,5 @@ pub mod Agreeing
 pub mod AlikeRun
 pub mod Cases
 pub mod Sessions
+pub mod Forms
 pub mod Claims

@@ -6,10 +6,10 @@ use denote.Triple.Clauses.{AtExit}
 use denote.Ref.{now}
 use Rattle.types.specs.Names.{over, rawBytes, FuelCosts}
 use Rattle.machine.specs.Names.{Buffers, buffers, freshMachine, soundReferences, soundOver, stepped, step, run, OthersStay, OnlySizes}
-use Rattle.machine.specs.Names.{Machine, Operation}
+use Rattle.machine.specs.Names.{Machine, Operation, MemoryOp, TableOp}
 use Rattle.machine.proofs.records.Machine.operate.Reads as operate-reads
 use Rattle.machine.proofs.records.Machine.operate.Kinds as operate-kinds
-use Rattle.machine.specs.{Words.wordsOf, Words.machineFrom, Words.inForm, Row.inRow, Row.operateRow}
+use Rattle.machine.specs.{Words.wordsOf, Words.machineFrom, Words.inForm, Row.inRow, Row.operateRow, Row.rowPages, Row.rowCells}
 use Rattle.machine.proofs.row.operate.Reads as row-reads
 use Rattle.machine.proofs.row.operate.Kinds as row-kinds
 use Rattle.lines.proofs.session.piece.Reads as piece-reads
@@ -92,7 +92,14 @@ pub record Claims : Type 0 where
       ≡ operateRow rawBytes (now (a .0)) (buffers (now (a .1 .0)) (now (a .1 .1 .0)) (now (a .1 .1 .1 .0))) (a .1 .1 .1 .1 .0)
   -- A row in form holds exactly the words of the machine that it says.
   pub form-holds : (l : List ℕ) → inForm l ≡ true → over l 0 (wordsOf (machineFrom l)) ≡ l
-  -- The same of `operate_kept`, which runs an operation through records in lent lists and lent fuel.
+  -- A row in form is in form after every operation, whatever the operation and its answer.
+  pub stays-in-form : (r : ℕ) (l : List ℕ) (b : Buffers) (op : Operation) → inForm l ≡ true → inForm (operateRow r l b op .words) ≡ true
+  -- On a row in form whose machine is sound the two sizes, which read one record, are what 12 and 22 answer.
+  pub pages-as-12 : (r : ℕ) (l : List ℕ) (b : Buffers) (i : ℕ) → inForm l ≡ true → soundOver (machineFrom l) b ≡ true → length (b .bytes) < 2 ^ 64
+      → rowPages l i ≡ step r (machineFrom l) b (Operation.Memory i MemoryOp.Size) .answer
+  pub cells-as-22 : (r : ℕ) (l : List ℕ) (b : Buffers) (i : ℕ) → inForm l ≡ true → soundOver (machineFrom l) b ≡ true
+      → rowCells l i ≡ step r (machineFrom l) b (Operation.Table i TableOp.Size) .answer
+  -- As `operate` so `operate_kept`, which runs an operation through records in lent lists and lent fuel.
   pub lent-is-step : (κs : Lfts 3) (a : Dens κs lent-kinds.ps) (x : resT lent-kinds.r κs .Denot) (s : AtExit (endedOf 3 lent-kinds.ps lent-kinds.r) κs)
       → lent-reads.Post κs a x s
       → stepped (x .answer) (x .machine) (now (s .1 .0)) (now (s .1 .1 .0)) (now (s .1 .1 .1 .0))

@@ -46,12 +46,12 @@ state-long k f p e =
     (length-both (placeWords p) (p .script) 2 16 18 (length-place p) e refl) refl
 
 -- a machine whose lists have 8 places
-record Eights (m : Machine) : Type 0 where
-  memories : length (m .memories) ≡ 8
-  tables : length (m .tables) ≡ 8
-  segments : length (m .segments) ≡ 8
+pub record Eights (m : Machine) : Type 0 where
+  pub memories : length (m .memories) ≡ 8
+  pub tables : length (m .tables) ≡ 8
+  pub segments : length (m .segments) ≡ 8
 
-eights : (m : Machine) → Shaped m → Eights m
+pub eights : (m : Machine) → Shaped m → Eights m
 eights m h = record { memories = h .memories; tables = h .tables; segments = h .segments }
 
 module _ (m : Machine) (h : Eights m) where
@@ -123,7 +123,7 @@ module _ (m : Machine) (h : Eights m) where
       over-right (instanceWords m) s 0 160 t e ∙ ap (λ (z : List ℕ). instanceWords m ++ z) (over-all s t 26 p q)
 
 -- a change keeps the lists' lengths
-changed-eights : (x : Change) (m : Machine) → Eights m → Eights (changed x m)
+pub changed-eights : (x : Change) (m : Machine) → Eights m → Eights (changed x m)
 unfolding changed
 changed-eights change.Nothing m h = h
 changed-eights (change.Memory i r) m h =

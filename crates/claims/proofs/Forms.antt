@@ -1,0 +1,186 @@
+-- A row in form is in form after every operation: flags and costs as they were, and a script of answers of at most 2. Assumes nothing.
+use Prim.Native.Nat.{ℕ, zero, suc, _+_, _≤_, _<_}
+use mathlib.Core.Path.{_≡_, refl, sym, ap, subst, _∙_}
+use mathlib.Core.Bool.{true}
+use mathlib.Core.List.{List, [], _∷_, _++_}
+use native.Mathlib.Omega.{arith}
+use lib.Dec.{leb}
+use lib.ListN.{length, getD, drop, replicate, length-append, length-drop}
+use borrow.Author.Tests.{leb-true}
+use Rattle.types.specs.Fuel.{paid}
+use Rattle.types.specs.Limiter.{moved, padded, allAnswers, wellFormed}
+use Rattle.types.specs.declared.fuel.Fuel.{Fuel}
+use Rattle.types.specs.declared.fuel.FuelCosts.{FuelCosts}
+use Rattle.types.specs.declared.limiter.Limiter.{Limiter}
+use Rattle.types.proofs.Picks.{both-1, both-2, either}
+use Rattle.types.proofs.Scripts.{well-short}
+use Rattle.machine.specs.Machine.{Buffers}
+use Rattle.machine.specs.Operation.{scriptOf}
+use Rattle.machine.specs.Step.{Stepped, step}
+use Rattle.machine.specs.Words.{scriptAt, answerFrom, recordsFrom, limiterFrom, machineFrom, allAt, answerAt, inForm}
+use Rattle.machine.specs.Row.{InRow, operateRow}
+use Rattle.machine.specs.stages.Rows.{Shaped}
+use Rattle.machine.specs.declared.records.Machine.{Machine}
+use Rattle.machine.specs.declared.operation.Operation.{Operation}
+use Rattle.machine.specs.declared.operation.Operation.the-variants as op
+use Rattle.machine.specs.declared.operation.FuelOp.{FuelOp}
+use Rattle.machine.specs.declared.operation.FuelOp.the-variants as fuel
+use Rattle.machine.proofs.Back.{shaped-from}
+use Rattle.machine.proofs.Formed.{form-long}
+use Rattle.machine.proofs.Forming.{put-form}
+use Rattle.machine.proofs.Settling.{Eights, eights, changed-eights}
+use Rattle.claims.specs.Answers.{accepted}
+use Rattle.claims.specs.Metered.{Metering, Free, Sets, Charges, GrowsPages, GrowsCells, Spans, Inits, meteringOf, priceOf}
+use Rattle.claims.specs.Occasions.{fuelOccasion, occasion}
+use Rattle.claims.specs.Effects.{changeOf, fuelBy, handedTo, acceptedStep}
+use Rattle.claims.specs.Script.{heard, movedBy, replaced, scriptAfter}
+use Rattle.claims.proofs.Exiting.{branch}
+use Rattle.claims.proofs.Exits.{refusal-leaves, accepted-when, accepted-does}
+use Rattle.claims.proofs.Script.{script-moves}
+
+-- a script of 16 places whose answers are at most 2
+record Answers (l : Limiter) : Type 0 where
+  long : length (l .script) ≡ 16
+  each : (i : ℕ) → getD (l .script) i 0 ≤ 2
+
+-- a script that moved on is the same
+moved-answers : (n : ℕ) (l : Limiter) → Answers l → Answers (movedBy n l)
+unfolding movedBy moved
+moved-answers zero l h = h
+moved-answers (suc n) l h = moved-answers n (moved l) (record { long = h .long; each = h .each })
+
+-- a script that is handed over, and the zeros behind it
+zeros : (n k i : ℕ) → getD (drop k (replicate n 0)) i 0 ≤ 2
+zeros zero zero i = omega arith
+zeros zero (suc k) i = omega arith
+zeros (suc n) zero zero = omega arith
+zeros (suc n) zero (suc i) = zeros n zero i
+zeros (suc n) (suc k) i = zeros n k i
+
+script-each : (s rest : List ℕ) → allAnswers s ≡ true → ((i : ℕ) → getD rest i 0 ≤ 2) → (i : ℕ) → getD (s ++ rest) i 0 ≤ 2
+unfolding allAnswers
+script-each [] rest e h i = h i
+script-each (x ∷ s) rest e h zero = leb-true x 2 (both-1 (leb x 2) (allAnswers s) e)
+script-each (x ∷ s) rest e h (suc i) = script-each s rest (both-2 (leb x 2) (allAnswers s) e) h i
+
+padded-long : (s : List ℕ) → length s ≤ 16 → length (padded s) ≡ 16
+unfolding padded
+padded-long s h =
+    let row : List ℕ = replicate 16 0 in
+    let a = length-append s (drop (length s) row) in
+    let b = length-drop (length s) row in
+    omega (arith, a, b, h)
+
+padded-each : (s : List ℕ) → wellFormed s ≡ true → (i : ℕ) → getD (padded s) i 0 ≤ 2
+unfolding padded wellFormed
+padded-each s e = script-each s _ (both-2 _ _ e) (zeros 16 (length s))
+
+handed-answers : (m : Machine) (l : Limiter) (o : FuelOp) → fuelOccasion m o ≡ true → Answers l → Answers (handedTo l o)
+unfolding fuelOccasion handedTo
+handed-answers m l (fuel.SetFuel amount) e h = h
+handed-answers m l fuel.GetFuel e h = h
+handed-answers m l (fuel.Charge units) e h = h
+handed-answers m l (fuel.SetLimiter script) e h =
+    record { long = padded-long (scriptOf script) (well-short (scriptOf script) e); each = padded-each (scriptOf script) e }
+
+-- the costs stay
+paid-costs : (f : Fuel) (p : ℕ) → paid f p .costs ≡ f .costs
+paid-costs f p = branch (λ (g : Fuel). g .costs ≡ f .costs) _ _ _ (λ t. refl) (λ t. refl)
+
+by-costs : (f : Fuel) (p : ℕ) (x : Metering) → fuelBy f p x .costs ≡ f .costs
+unfolding fuelBy
+by-costs f p Free = refl
+by-costs f p (Sets amount) = refl
+by-costs f p (Charges units) = refl
+by-costs f p (GrowsPages memory pages) = branch (λ (g : Fuel). g .costs ≡ f .costs) _ _ _ (λ t. paid-costs f p) (λ t. refl)
+by-costs f p (GrowsCells table cells) = branch (λ (g : Fuel). g .costs ≡ f .costs) _ _ _ (λ t. paid-costs f p) (λ t. refl)
+by-costs f p (Spans len) = paid-costs f p
+by-costs f p (Inits len) = branch (λ (g : Fuel). g .costs ≡ f .costs) _ _ _ (λ t. paid-costs f p) (λ t. refl)
+
+-- a script that another takes the place of
+module _ (r : ℕ) (m : Machine) (b : Buffers) where
+  replaced-answers : (l : Limiter) (o : Operation) → occasion r m b o ≡ true → Answers l → Answers (replaced l o)
+  unfolding occasion replaced
+  replaced-answers l (op.Fuel o) e h = handed-answers m l o e h
+  replaced-answers l (op.NewMemory room wanted) e h = h
+  replaced-answers l (op.Memory number o) e h = h
+  replaced-answers l (op.NewTable room wanted initial) e h = h
+  replaced-answers l (op.Table number o) e h = h
+  replaced-answers l (op.TableCopy into source span) e h = h
+  replaced-answers l (op.TableInit table segment span) e h = h
+  replaced-answers l (op.DropSegment segment) e h = h
+  replaced-answers l (op.NewSegment element items) e h = h
+
+module _ (r : ℕ) (m : Machine) (b : Buffers) (op : Operation) where
+  step-answers : Answers (m .limiter) → Answers (step r m b op .machine .limiter)
+  unfolding scriptAfter
+  step-answers h =
+      let n = moved-answers (heard r m b op) (m .limiter) h in
+      subst Answers (sym (script-moves r m b op))
+      (branch Answers _ _ _ (λ a. replaced-answers r m b _ op (both-2 _ _ (both-2 _ _ (sym (accepted-when r m b op) ∙ a))) n) (λ a. n))
+
+  step-costs : step r m b op .machine .fuel .costs ≡ m .fuel .costs
+  unfolding acceptedStep
+  step-costs =
+      either (accepted (step r m b op .answer))
+      (λ a. ap (λ (s : Stepped). s .machine .fuel .costs) (accepted-does r m b op a) ∙ by-costs (m .fuel) (priceOf r m op) (meteringOf op))
+      (λ a.
+      ap (λ (f : Fuel). f .costs) (refusal-leaves r m b op a .fuel)
+      ∙ branch (λ (f : Fuel). f .costs ≡ m .fuel .costs) _ _ _ (λ t. paid-costs (m .fuel) (priceOf r m op)) (λ t. refl))
+
+  step-eights : Eights m → Eights (step r m b op .machine)
+  unfolding acceptedStep
+  step-eights h =
+      either (accepted (step r m b op .answer))
+      (λ a.
+      let d = changed-eights (changeOf m op) m h in
+      subst (λ (s : Stepped). Eights (s .machine)) (sym (accepted-does r m b op a)) (record { memories = d .memories; tables = d .tables; segments = d .segments }))
+      (λ a. subst Eights (sym (refusal-leaves r m b op a .records)) (record { memories = h .memories; tables = h .tables; segments = h .segments }))
+
+  step-shaped : Shaped m → Answers (m .limiter) → Shaped (step r m b op .machine)
+  step-shaped s h =
+      let e = step-eights (eights m s) in
+      let a = step-answers h in
+      record {
+        memories = e .memories;
+        tables = e .tables;
+        segments = e .segments;
+        fits = record {
+          script = a .long;
+          copied = subst (λ (k : FuelCosts). k .copied < 4294967296) (sym step-costs) (s .fits .copied);
+          translated = subst (λ (k : FuelCosts). k .translated < 4294967296) (sym step-costs) (s .fits .translated);
+          validated = subst (λ (k : FuelCosts). k .validated < 4294967296) (sym step-costs) (s .fits .validated);
+          answers = λ i. let q = a .each i in omega (arith, q);
+        };
+      }
+
+-- the script of a row in form
+from-each : (l : List ℕ) (a n : ℕ) → allAt answerAt 1 l a n ≡ true → (i : ℕ) → getD (recordsFrom (λ (k : List ℕ) b. answerFrom (getD k b 0)) 1 l a n) i 0 ≤ 2
+unfolding allAt recordsFrom
+from-each l a zero e i = omega arith
+from-each l a (suc n) e zero =
+    let q = leb-true (getD l a 0) 2 (both-1 (answerAt l a) (allAt answerAt 1 l (a + 1) n) e) in
+    omega (arith, q)
+from-each l a (suc n) e (suc i) = from-each l (a + 1) n (both-2 (answerAt l a) (allAt answerAt 1 l (a + 1) n) e) i
+
+form-answers : (l : List ℕ) → inForm l ≡ true → Answers (machineFrom l .limiter)
+unfolding inForm limiterFrom
+form-answers l e =
+    record {
+      long = shaped-from l .fits .script;
+      each = from-each l scriptAt 16 (both-2 _ _ (both-2 _ _ (both-2 _ _ (both-2 _ _ (both-2 _ _ e)))));
+    }
+
+-- after every operation
+pub stays-in-form : (r : ℕ) (l : List ℕ) (b : Buffers) (op : Operation) → inForm l ≡ true → inForm (operateRow r l b op .words) ≡ true
+unfolding operateRow
+stays-in-form r l b op e =
+    branch (λ (x : InRow). inForm (x .words) ≡ true) _ _ _
+    (λ w.
+    branch (λ (x : InRow). inForm (x .words) ≡ true) _ _ _
+    (λ f.
+    let m = machineFrom l in
+    let a = form-answers l e in
+    put-form (step r m b op .machine) l (step-shaped r m b op (shaped-from l) a) (step-answers r m b op a .each) (form-long l e))
+    (λ f. e))
+    (λ w. e)
