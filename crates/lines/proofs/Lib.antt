@@ -13,4 +13,5 @@ pub mod LineEnds
 pub mod Pieces
 pub mod Runs
 pub mod Carried
+pub mod Hosts
 pub mod Unique

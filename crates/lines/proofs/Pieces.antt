@@ -59,7 +59,7 @@ module _ (r : ℕ) (h : Held) where
       (skip-end l more g ∙ ap (λ (z : List ℕ). t ++ z) (session-whole k r (malformed h .held) (drop (lfAt l + 1) l) more)
       ∙ sym (append-assoc t (w .out) (session r (w .held) (drop (w .used) (drop (lfAt l + 1) l) ++ more)))))
 
-no-skip : (k r : ℕ) (h : Held) (l : List ℕ) → wholeLines k r h l .skip ≡ false
+pub no-skip : (k r : ℕ) (h : Held) (l : List ℕ) → wholeLines k r h l .skip ≡ false
 unfolding wholeLines
 no-skip zero r h l = refl
 no-skip (suc k) r h l =
@@ -135,24 +135,30 @@ fed-all r h xs =
 abbrev pub started : Held → Host
 started h = record { held = h; skip = false; tail = []; sent = [] }
 
--- a host that is left with nothing has sent the session of the whole
-pub fed-whole : (r : ℕ) (h : Held) (xs : List Feed) → fedAll r (started h) xs .skip ≡ false → fedAll r (started h) xs .tail ≡ [] →
-    fedAll r (started h) xs .sent ≡ session r h (whole xs)
-fed-whole r h xs k e =
-    let z : Host = fedAll r (started h) xs in
+-- a host that is left with nothing has nothing more to say
+pub none-left : (r : ℕ) (z : Host) → z .skip ≡ false → z .tail ≡ [] → z .sent ≡ z .sent ++ sessionFrom (z .skip) r (z .held) (z .tail)
+none-left r z k e =
     sym (append-nil (z .sent))
     ∙ ap (λ (y : List ℕ). z .sent ++ y) (sym (nothing r (z .held)))
     ∙ plain r (z .held) (z .skip) (z .sent) [] k
     ∙ ap (λ (y : List ℕ). z .sent ++ sessionFrom (z .skip) r (z .held) y) (sym e)
-    ∙ fed-all r (started h) xs
-    ∙ sym (plain r h false [] (whole xs) refl)
+
+-- all that is sent, and what is left to say
+pub fed-started : (r : ℕ) (h : Held) (xs : List Feed) →
+    fedAll r (started h) xs .sent ++ sessionFrom (fedAll r (started h) xs .skip) r (fedAll r (started h) xs .held) (fedAll r (started h) xs .tail) ≡ session r h (whole xs)
+fed-started r h xs = fed-all r (started h) xs ∙ sym (plain r h false [] (whole xs) refl)
+
+-- a host that is left with nothing has sent the session of the whole
+pub fed-whole : (r : ℕ) (h : Held) (xs : List Feed) → fedAll r (started h) xs .skip ≡ false → fedAll r (started h) xs .tail ≡ [] →
+    fedAll r (started h) xs .sent ≡ session r h (whole xs)
+fed-whole r h xs k e = none-left r (fedAll r (started h) xs) k e ∙ fed-started r h xs
 
 -- the end of the input: a last line that lacks its LF is answered as with it
-lf-lf : lfAt (lf ∷ []) ≡ 0
+pub lf-lf : lfAt (lf ∷ []) ≡ 0
 unfolding lfAt
 lf-lf = pick-true _ _ _ refl
 
-last-behind : (l : List ℕ) → lfAt l ≡ length l → drop (lfAt (l ++ (lf ∷ [])) + 1) (l ++ (lf ∷ [])) ≡ drop (lfAt l + 1) l
+pub last-behind : (l : List ℕ) → lfAt l ≡ length l → drop (lfAt (l ++ (lf ∷ [])) + 1) (l ++ (lf ∷ [])) ≡ drop (lfAt l + 1) l
 last-behind l e =
     let g : length l ≤ lfAt l + 1 = omega arith in
     let a : drop {A = ℕ} (lfAt (lf ∷ []) + 1) (lf ∷ []) ≡ [] = rw lf-lf refl in
@@ -280,7 +286,7 @@ piece-wrote (suc k) true r h l =
     (λ e. rw (pick-false _ _ _ e) (omega arith))
 
 -- what was used stays used
-close-used : (l : List ℕ) (x : Run) → 0 < length l → 0 < x .used → 0 < closeOf l x .used
+pub close-used : (l : List ℕ) (x : Run) → 0 < length l → 0 < x .used → 0 < closeOf l x .used
 unfolding closeOf
 close-used l x g e =
     let w = drop (x .used) l in

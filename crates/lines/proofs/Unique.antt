@@ -24,6 +24,10 @@ use Rattle.lines.proofs.session.Session.new.Reads as new-reads
 use Rattle.lines.proofs.session.Session.new.Kinds as new-kinds
 use Rattle.lines.proofs.session.piece.Reads as piece-reads
 use Rattle.lines.proofs.session.piece.Kinds as piece-kinds
+use Rattle.lines.proofs.input.keep.Reads as keep-reads
+use Rattle.lines.proofs.input.keep.Kinds as keep-kinds
+use Rattle.lines.proofs.input.end_line.Reads as end-line-reads
+use Rattle.lines.proofs.input.end_line.Kinds as end-line-kinds
 
 pub no-line-one : One 0 no-line-kinds.ps no-line-kinds.r no-line-reads.Pre no-line-reads.Post
 no-line-one κs a x x′ s s′ z p q = p ∙ sym q
@@ -54,3 +58,10 @@ piece-one κs a x x′ s s′ z p q = (ap (λ (o : Progressed). o .progress) (p 
   where
     lent : Progressed → List ℕ × Buffers × List ℕ
     lent o = (o .words, o .buffers, o .out)
+
+-- one number of bytes, and one content of the input
+pub keep-one : OneWith 1 keep-kinds.ps keep-kinds.r keep-reads.Pre keep-reads.Post (List ℕ) (λ κs s. now (s .0))
+keep-one κs a x x′ s s′ z p q = (ap (λ (o : Done ℕ). o .out) (p ∙ sym q), ap (λ (o : Done ℕ). o .cells) (p ∙ sym q))
+
+pub end-line-one : OneWith 1 end-line-kinds.ps end-line-kinds.r end-line-reads.Pre end-line-reads.Post (List ℕ) (λ κs s. now (s .1 .0))
+end-line-one κs a x x′ s s′ z p q = (ap (λ (o : Done ℕ). o .out) (p ∙ sym q), ap (λ (o : Done ℕ). o .cells) (p ∙ sym q))

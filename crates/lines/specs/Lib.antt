@@ -8,4 +8,5 @@ pub mod AnswerLine
 pub mod Session
 pub mod Pieces
 pub mod Progress
+pub mod Input
 pub mod stages

@@ -3,6 +3,7 @@ pub mod answer_line;
 pub mod code;
 pub mod field;
 mod fields;
+pub mod input;
 pub mod line;
 pub mod session;
 pub mod write;

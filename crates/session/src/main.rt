@@ -1,10 +1,15 @@
 // Operation lines on standard input, one answer line for each on standard output.
+use lines::input::end_line;
+use lines::input::keep;
 use lines::session::Session;
 use lines::session::piece;
 use machine::row;
 use types::fuel::FuelCosts;
 ghost use Prim.Native.Nat.{_≤_};
+ghost use mathlib.Core.Path.{_≡_};
 ghost use lib.ListN.{length};
+ghost use Rattle.types.specs.Done.{done};
+ghost use Rattle.lines.specs.Input.{keptOf};
 
 // A session, how many bytes at the start of the input are still to be used, and whether all went well so far.
 struct Host {
@@ -136,19 +141,18 @@ fn drain(
     }
 }
 
-// What is left of the input comes to its start; answers how many bytes that are.
-fn keep(input: &mut [u8], from: usize, end: usize) -> usize {
-    let mut to = 0;
-    let mut at = from;
-    while at < end {
-        if input.len() <= at {
-            return to;
-        }
-        input[to] = input[at];
-        to += 1;
-        at += 1;
+// What is left of the first bytes is kept.
+fn settle(h: Handled, input: &mut [u8], end: usize) -> Host
+    ensures { λ r. ⌜ (r .session ≡ h .session) × (r .fine ≡ h .fine)
+        × (done (r .kept) (now (input .exit)) ≡ keptOf (now (input .entry)) (h .used) end) ⌝ }
+{
+    let session = h.session;
+    let kept = keep(input, h.used, end);
+    Host {
+        session,
+        kept,
+        fine: h.fine,
     }
-    to
 }
 
 // The whole lines of the first bytes, and what is left of them at the start.
@@ -167,13 +171,7 @@ fn use_up(
         return host;
     }
     let h = drain(session, words, bytes, cells, items, &input[0..end], out);
-    let next = h.session;
-    let kept = keep(input, h.used, end);
-    Host {
-        session: next,
-        kept,
-        fine: h.fine,
-    }
+    settle(h, input, end)
 }
 
 // One read, and the lines in what came.
@@ -216,12 +214,6 @@ fn turn(
     }
 }
 
-fn end_line(input: &mut [u8], at: usize) {
-    if at < input.len() {
-        input[at] = 10;
-    }
-}
-
 // A last line that lacks its LF gets it.
 fn finish(
     host: Host,
@@ -232,18 +224,9 @@ fn finish(
     input: &mut [u8],
     out: &mut [u8],
 ) {
-    let kept = host.kept;
     let session = host.session;
-    if kept == 0 {
-        if !session.skip {
-            return;
-        }
-    }
-    if input.len() <= kept {
-        return;
-    }
-    end_line(input, kept);
-    use_up(host, words, bytes, cells, items, input, out, kept + 1);
+    let end = end_line(session, input, host.kept);
+    use_up(host, words, bytes, cells, items, input, out, end);
 }
 
 // A proved loop has to end, and nothing says that the input does: the turns are counted down from a number that no run uses up.
