@@ -84,7 +84,3 @@ charge-if-step f p = refl
 pub charge-unchecked-step : (f : Fuel) (p : ℕ) → requested f (ChargeUnchecked p) ≡ chargedBy f (consumeUnchecked f p)
 unfolding requested
 charge-unchecked-step f p = refl
-
--- two outcomes that meet the contract of `request` are equal, answer and record
-pub request-one : (f : Fuel) (q : FuelRequest) (a b : FuelDone) → a ≡ requested f q → b ≡ requested f q → a ≡ b
-request-one f q a b x y = x ∙ sym y

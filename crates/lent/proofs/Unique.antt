@@ -1,22 +1,28 @@
--- Uniqueness: what each public function ensures names one answer, and one content of all that it is lent to write. Assumes nothing.
--- A function proved by a walk has no generated reading, so the statement is over the one definition that its `ensures` cites.
+-- Uniqueness: what each public function promises names one answer, and one content of each thing that it is lent to write. Assumes nothing.
+-- A function proved by a walk has no generated reading, so the statement is over the relation that is its whole `ensures`.
 use mathlib.Core.Path.{_≡_, sym, _∙_, ap}
+use mathlib.Core.List.{List}
 use denote.Ref.{now}
 use Rattle.types.proofs.One.{OneWith}
-use Rattle.types.specs.Raw.{rawBytes}
-use Rattle.machine.specs.declared.operation.Operation.{Operation}
 use Rattle.machine.specs.Machine.{Buffers, buffers}
 use Rattle.machine.specs.Step.{Stepped}
+use Rattle.machine.specs.declared.operation.Operation.{Operation}
 use Rattle.machine.specs.declared.operate.Operated.{Operated}
 use Prim.Native.Nat.{ℕ}
 use Rattle.types.specs.declared.answer.Answer.{Answer}
+use Rattle.types.specs.declared.fuel.Fuel.{Fuel}
+use Rattle.types.specs.declared.limiter.Limiter.{Limiter}
 use Rattle.types.specs.declared.raw.TypedRawRef.{TypedRawRef}
 use Rattle.memory.specs.declared.memory.Memory.{Memory}
 use Rattle.table.specs.declared.table.Table.{Table}
+use Rattle.table.specs.declared.element.ElementSegment.{ElementSegment}
+use Rattle.lent.specs.declared.fuel.FuelRequest.{FuelRequest}
+use Rattle.lent.specs.declared.operate.Standing.{Standing}
+use Rattle.lent.specs.Fuel.{FuelDone, Requests}
 use Rattle.lent.specs.Growth.{Lending, Grew, grew}
-use Rattle.lent.specs.Memories.{growMemoryAt}
-use Rattle.lent.specs.Tables.{growTableAt}
-use Rattle.lent.specs.Records.{Lent, LentStepped, lentStep}
+use Rattle.lent.specs.Memories.{GrowsMemory}
+use Rattle.lent.specs.Tables.{GrowsTable}
+use Rattle.lent.specs.Records.{Lent, LentStepped, Operates}
 use Rattle.lent.proofs.operate.operate_kept.Reads as operate-kept-reads
 use Rattle.lent.proofs.operate.operate_kept.Kinds as operate-kept-kinds
 
@@ -27,18 +33,41 @@ stepped-outcome o = record { answer = o .answer; machine = o .machine }
 pub operate-kept-one : OneWith 3 operate-kept-kinds.ps operate-kept-kinds.r operate-kept-reads.Pre operate-kept-reads.Post Buffers (λ κs s. buffers (now (s .1 .0)) (now (s .1 .1 .0)) (now (s .1 .1 .1 .0)))
 operate-kept-one κs a x x′ s s′ z p q = (ap stepped-outcome (p ∙ sym q), ap (λ (o : Stepped). o .buffers) (p ∙ sym q))
 
--- what `operate_lent` ensures is this one relation: one answer, one content of what is lent and of the buffers
-pub operate-lent-one : (l : Lent) (b : Buffers) (op : Operation) (q q′ : LentStepped) → q ≡ lentStep rawBytes l b op → q′ ≡ lentStep rawBytes l b op → q ≡ q′
-operate-lent-one l b op q q′ p p′ = p ∙ sym p′
+-- one answer, and one content of the fuel record
+pub request-one : (f : Fuel) (q : FuelRequest) (a a′ : Answer) (g g′ : Fuel) → Requests f q a g → Requests f q a′ g′ → (a ≡ a′) × (g ≡ g′)
+request-one f q a a′ g g′ p p′ = let e = p ∙ sym p′ in (ap (λ (d : FuelDone). d .answer) e, ap (λ (d : FuelDone). d .fuel) e)
 
--- what the two growths ensure: one answer, and one content of the list, the buffer, the fuel record and the limiter
-grown-one : {A : Type 0} {g : Grew A} (r r′ : Answer) (x x′ : Lending A) → grew r x ≡ g → grew r′ x′ ≡ g → (r ≡ r′) × (x ≡ x′)
-grown-one {A = A} r r′ x x′ p q = (ap (λ (o : Grew A). o .answer) (p ∙ sym q), ap (λ (o : Grew A). o .lent) (p ∙ sym q))
+-- one answer, and one content of the records, the cells, the fuel record and the limiter
+abbrev OneGrown : {A : Type 0} → (Answer → List A → List ℕ → Fuel → Limiter → Type 0) → Type 0
+OneGrown {A = A} Grows =
+    (a a′ : Answer) (rs rs′ : List A) (cs cs′ : List ℕ) (f f′ : Fuel) (l l′ : Limiter) →
+    Grows a rs cs f l → Grows a′ rs′ cs′ f′ l′ → (a ≡ a′) × (rs ≡ rs′) × (cs ≡ cs′) × (f ≡ f′) × (l ≡ l′)
 
-pub memories-grow-one : (count i pages : ℕ) (l : Lending Memory) (r r′ : Answer) (x x′ : Lending Memory)
-    → grew r x ≡ growMemoryAt count i pages l → grew r′ x′ ≡ growMemoryAt count i pages l → (r ≡ r′) × (x ≡ x′)
-memories-grow-one count i pages l = grown-one
+grown-one : {A : Type 0} (g h : Grew A) → g ≡ h
+    → (g .answer ≡ h .answer) × (g .lent .records ≡ h .lent .records) × (g .lent .cells ≡ h .lent .cells) × (g .lent .fuel ≡ h .lent .fuel) × (g .lent .limiter ≡ h .lent .limiter)
+grown-one {A = A} g h e =
+    (ap (λ (o : Grew A). o .answer) e, ap (λ (o : Grew A). o .lent .records) e, ap (λ (o : Grew A). o .lent .cells) e, ap (λ (o : Grew A). o .lent .fuel) e, ap (λ (o : Grew A). o .lent .limiter) e)
 
-pub tables-grow-one : (count i delta : ℕ) (v : TypedRawRef) (l : Lending Table) (r r′ : Answer) (x x′ : Lending Table)
-    → grew r x ≡ growTableAt rawBytes count i delta v l → grew r′ x′ ≡ growTableAt rawBytes count i delta v l → (r ≡ r′) × (x ≡ x′)
-tables-grow-one count i delta v l = grown-one
+pub memories-grow-one : (count i pages : ℕ) (before : Lending Memory) → OneGrown (GrowsMemory count i pages before)
+memories-grow-one count i pages before a a′ rs rs′ cs cs′ f f′ l l′ p q = grown-one _ _ (p ∙ sym q)
+
+pub tables-grow-one : (r count i delta : ℕ) (v : TypedRawRef) (before : Lending Table) → OneGrown (GrowsTable r count i delta v before)
+tables-grow-one r count i delta v before a a′ rs rs′ cs cs′ f f′ l l′ p q = grown-one _ _ (p ∙ sym q)
+
+-- one answer, and one content of each list, of the numbers in use with the limiter, of the fuel record and of each buffer
+pub operate-lent-one : (r : ℕ) (before : Lent) (b : Buffers) (op : Operation) (a a′ : Answer) (ms ms′ : List Memory) (ts ts′ : List Table) (gs gs′ : List ElementSegment)
+    (s s′ : Standing) (f f′ : Fuel) (bytes bytes′ cells cells′ items items′ : List ℕ)
+    → Operates r before b op a ms ts gs s f bytes cells items → Operates r before b op a′ ms′ ts′ gs′ s′ f′ bytes′ cells′ items′
+    → (a ≡ a′) × (ms ≡ ms′) × (ts ≡ ts′) × (gs ≡ gs′) × (s ≡ s′) × (f ≡ f′) × (bytes ≡ bytes′) × (cells ≡ cells′) × (items ≡ items′)
+operate-lent-one r before b op a a′ ms ms′ ts ts′ gs gs′ s s′ f f′ bytes bytes′ cells cells′ items items′ p q =
+    let e = p ∙ sym q in (
+      ap (λ (o : LentStepped). o .answer) e,
+      ap (λ (o : LentStepped). o .lent .memories) e,
+      ap (λ (o : LentStepped). o .lent .tables) e,
+      ap (λ (o : LentStepped). o .lent .segments) e,
+      ap (λ (o : LentStepped). o .lent .standing) e,
+      ap (λ (o : LentStepped). o .lent .fuel) e,
+      ap (λ (o : LentStepped). o .buffers .bytes) e,
+      ap (λ (o : LentStepped). o .buffers .cells) e,
+      ap (λ (o : LentStepped). o .buffers .items) e,
+    )

@@ -1,4 +1,5 @@
 -- Document 01, "Fuel": the fuel record is lent and charged where it stands.
+use Rattle.types.specs.Prelude.{_≡_}
 use Rattle.types.specs.Names.{accept, setFuel, getFuel, consume, consumeIf, consumeUnchecked, Answer, Fuel, FuelStep}
 use Rattle.lent.specs.declared.fuel.FuelRequest.{FuelRequest}
 
@@ -28,3 +29,7 @@ requested f FuelRequest.Get = fuelDone (getFuel f) f
 requested f (FuelRequest.Charge p) = chargedBy f (consume f p)
 requested f (FuelRequest.ChargeIf p) = chargedBy f (consumeIf f p)
 requested f (FuelRequest.ChargeUnchecked p) = chargedBy f (consumeUnchecked f p)
+
+-- all that a request promises: its answer and the lent record after it are the request's
+abbrev pub Requests : Fuel → FuelRequest → Answer → Fuel → Type 0
+Requests f q a after = fuelDone a after ≡ requested f q

@@ -1,6 +1,6 @@
 -- Document 01, "The machine": memories stand in a lent list of records. The record of one is read and grown, and its size stored.
-use Rattle.types.specs.Prelude.{ℕ, Bool, ltb, length, getD, set}
-use Rattle.types.specs.Names.{Done}
+use Rattle.types.specs.Prelude.{ℕ, Bool, List, _≡_, ltb, length, getD, set}
+use Rattle.types.specs.Names.{Done, Answer, Fuel, Limiter}
 use Rattle.memory.specs.Names.{soundMemory, growMemory, Memory, GrownMemory}
 use Rattle.machine.specs.Names.{noMemory, memoryEnd, soundList}
 use Rattle.lent.specs.Growth.{Lending, lending, Grew, grew, growAt}
@@ -24,3 +24,7 @@ unfoldable pub growMemoryAt : ℕ → ℕ → ℕ → Lending Memory → Grew Me
 growMemoryAt n i pages l =
     growAt (soundMemoryList n l) (ltb i n) l
     (memoryGrown i l (growMemory (recordOf l i) (l .cells) pages (l .fuel) (l .limiter)))
+
+-- all that a growth promises: its answer, and the records, bytes, fuel and limiter after it, are the growth's
+abbrev pub GrowsMemory : ℕ → ℕ → ℕ → Lending Memory → Answer → List Memory → List ℕ → Fuel → Limiter → Type 0
+GrowsMemory n i pages l a records bytes fuel limiter = grew a (lending records bytes fuel limiter) ≡ growMemoryAt n i pages l

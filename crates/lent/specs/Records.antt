@@ -1,9 +1,9 @@
 -- Document 01, "The machine": records stand in lent lists, and the fuel record is lent and charged where it stands. One operation on all that is lent.
-use Rattle.types.specs.Prelude.{ℕ, Bool, List, _++_, leb, length, take, drop}
+use Rattle.types.specs.Prelude.{ℕ, Bool, List, _≡_, _++_, leb, length, take, drop}
 use Rattle.types.specs.Names.{unless, both, refuse, Answer, Fuel}
 use Rattle.memory.specs.Names.{Memory}
 use Rattle.table.specs.Names.{Table, ElementSegment}
-use Rattle.machine.specs.Names.{Buffers, wellFormed, step, Machine, Operation}
+use Rattle.machine.specs.Names.{Buffers, buffers, wellFormed, step, Machine, Operation}
 use Rattle.lent.specs.declared.operate.Standing.{Standing}
 
 -- what is lent beside the buffers: three lists of records, the numbers in use with the limiter, and the fuel record
@@ -69,3 +69,8 @@ stepPlaced r l b op =
 -- one operation on all that is lent
 unfoldable pub lentStep : ℕ → Lent → Buffers → Operation → LentStepped
 lentStep r l b op = unless (placed l) (lentStepped (unfit op) l b) (stepPlaced r l b op)
+
+-- all that an operation on lent lists promises: its answer, and each list, record and buffer after it, are the step's
+abbrev pub Operates : ℕ → Lent → Buffers → Operation → Answer → List Memory → List Table → List ElementSegment → Standing → Fuel → List ℕ → List ℕ → List ℕ → Type 0
+Operates r l b op a ms ts gs s f bytes cells items =
+    lentStepped a (lent ms ts gs s f) (buffers bytes cells items) ≡ lentStep r l b op

@@ -1,7 +1,7 @@
 -- Document 01, "The machine": tables stand in a lent list of records. The record of one is read and grown, and its size stored.
 -- R, the bytes that a reference counts, is the first argument of a growth.
-use Rattle.types.specs.Prelude.{ℕ, Bool, leb, ltb, length, getD, set}
-use Rattle.types.specs.Names.{word32, both, Done, TypedRawRef}
+use Rattle.types.specs.Prelude.{ℕ, Bool, List, _≡_, leb, ltb, length, getD, set}
+use Rattle.types.specs.Names.{word32, both, Done, Answer, Fuel, Limiter, TypedRawRef}
 use Rattle.table.specs.Names.{soundTable, growTable, Table, GrownTable}
 use Rattle.machine.specs.Names.{noTable, tableEnd, soundList}
 use Rattle.lent.specs.Growth.{Lending, lending, Grew, grew, growAt}
@@ -26,3 +26,7 @@ unfoldable pub growTableAt : ℕ → ℕ → ℕ → ℕ → TypedRawRef → Len
 growTableAt r n i cells v l =
     growAt (soundTableList n l) (ltb i n) l
     (tableGrown i l (growTable r (recordOf l i) (l .cells) cells v (l .fuel) (l .limiter)))
+
+-- all that a growth promises: its answer, and the records, cells, fuel and limiter after it, are the growth's
+abbrev pub GrowsTable : ℕ → ℕ → ℕ → ℕ → TypedRawRef → Lending Table → Answer → List Table → List ℕ → Fuel → Limiter → Type 0
+GrowsTable r n i delta v l a records cells fuel limiter = grew a (lending records cells fuel limiter) ≡ growTableAt r n i delta v l

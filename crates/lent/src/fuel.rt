@@ -4,7 +4,7 @@ use types::answer::Value;
 use types::fuel::Fuel;
 use types::fuel::FuelStep;
 ghost use mathlib.Core.Path.{_≡_};
-ghost use Rattle.lent.specs.Fuel.{setBy, chargedBy, fuelDone, requested};
+ghost use Rattle.lent.specs.Fuel.{setBy, chargedBy, fuelDone, requested, Requests};
 ghost use Rattle.lent.specs.stages.Fuel.{fuelLeft, leftOf};
 ghost use Rattle.types.specs.Fuel.{setFuel, getFuel, consume, consumeIf, consumeUnchecked};
 
@@ -101,7 +101,7 @@ fn requested(fuel: Fuel, request: FuelRequest) -> FuelLeft
 
 // A request to the record where it stands: what is left is written back.
 pub fn request(fuel: &mut Fuel, request: FuelRequest) -> Answer
-    ensures { λ r. ⌜ fuelDone r (now (fuel .exit)) ≡ requested (now (fuel .entry)) request ⌝ }
+    ensures { λ r. ⌜ Requests (now (fuel .entry)) request r (now (fuel .exit)) ⌝ }
 {
     let r = requested(*fuel, request);
     fuel.remaining = r.left;

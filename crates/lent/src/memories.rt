@@ -14,8 +14,8 @@ ghost use lib.Dec.{ltb};
 ghost use lib.ListN.{length};
 ghost use Rattle.types.specs.Done.{done};
 ghost use Rattle.memory.specs.Grow.{growMemory};
-ghost use Rattle.lent.specs.Growth.{lending, grew};
-ghost use Rattle.lent.specs.Memories.{growMemoryAt};
+ghost use Rattle.lent.specs.Growth.{lending};
+ghost use Rattle.lent.specs.Memories.{GrowsMemory};
 ghost use Rattle.lent.specs.stages.Growth.{memoriesAlone, kept, regrown, memoryBack, memoryRegrown};
 
 // The machine that has these memories alone, whose soundness is the list's.
@@ -128,8 +128,8 @@ fn grow_here(
     limiter: &mut Limiter,
 ) -> Answer
     requires { ⌜ 8 ≤ length (now memories) ⌝ }
-    ensures { λ r. ⌜ grew r (lending (now (memories .exit)) (now (bytes .exit)) (now (fuel .exit)) (now (limiter .exit)))
-        ≡ growMemoryAt count i pages (lending (now (memories .entry)) (now (bytes .entry)) (now (fuel .entry)) (now (limiter .entry))) ⌝ }
+    ensures { λ r. ⌜ GrowsMemory count i pages (lending (now (memories .entry)) (now (bytes .entry)) (now (fuel .entry)) (now (limiter .entry)))
+        r (now (memories .exit)) (now (bytes .exit)) (now (fuel .exit)) (now (limiter .exit)) ⌝ }
 {
     let first = [
         memories[0],
@@ -158,8 +158,8 @@ pub fn grow(
     fuel: &mut Fuel,
     limiter: &mut Limiter,
 ) -> Answer
-    ensures { λ r. ⌜ grew r (lending (now (memories .exit)) (now (bytes .exit)) (now (fuel .exit)) (now (limiter .exit)))
-        ≡ growMemoryAt count i pages (lending (now (memories .entry)) (now (bytes .entry)) (now (fuel .entry)) (now (limiter .entry))) ⌝ }
+    ensures { λ r. ⌜ GrowsMemory count i pages (lending (now (memories .entry)) (now (bytes .entry)) (now (fuel .entry)) (now (limiter .entry)))
+        r (now (memories .exit)) (now (bytes .exit)) (now (fuel .exit)) (now (limiter .exit)) ⌝ }
 {
     if memories.len() < 8 {
         return Answer::Refusal(Refusal {

@@ -19,7 +19,7 @@ ghost use lib.ListN.{length, set};
 ghost use Rattle.types.specs.Raw.{rawBytes};
 ghost use Rattle.machine.specs.Machine.{buffers, noMemory, noTable, noSegment};
 ghost use Rattle.machine.specs.Step.{stepped, step};
-ghost use Rattle.lent.specs.Records.{lent, gathered, longEnough, unfit, lentStepped, lentStep};
+ghost use Rattle.lent.specs.Records.{lent, gathered, longEnough, unfit, Operates};
 ghost use Rattle.lent.specs.stages.Places.{verdict, firstPlaces, putMemory, putTable, putSegment, put, placedOf, placing, place, eight};
 
 // How many instances there are, and the limiter.
@@ -404,7 +404,8 @@ pub fn operate_lent(
     items: &mut [u64],
     op: Operation,
 ) -> Answer
-    ensures { λ r. ⌜ lentStepped r (lent (now (memories .exit)) (now (tables .exit)) (now (segments .exit)) (now (standing .exit)) (now (fuel .exit))) (buffers (now (bytes .exit)) (now (cells .exit)) (now (items .exit))) ≡ lentStep rawBytes (lent (now (memories .entry)) (now (tables .entry)) (now (segments .entry)) (now (standing .entry)) (now (fuel .entry))) (buffers (now (bytes .entry)) (now (cells .entry)) (now (items .entry))) op ⌝ }
+    ensures { λ r. ⌜ Operates rawBytes (lent (now (memories .entry)) (now (tables .entry)) (now (segments .entry)) (now (standing .entry)) (now (fuel .entry))) (buffers (now (bytes .entry)) (now (cells .entry)) (now (items .entry))) op
+        r (now (memories .exit)) (now (tables .exit)) (now (segments .exit)) (now (standing .exit)) (now (fuel .exit)) (now (bytes .exit)) (now (cells .exit)) (now (items .exit)) ⌝ }
 {
     let found = judge(memories.len(), tables.len(), segments.len(), op);
     if found.short {

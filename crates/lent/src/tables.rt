@@ -16,8 +16,8 @@ ghost use lib.ListN.{length};
 ghost use Rattle.types.specs.Done.{done};
 ghost use Rattle.types.specs.Raw.{rawBytes};
 ghost use Rattle.table.specs.Grow.{growTable};
-ghost use Rattle.lent.specs.Growth.{lending, grew};
-ghost use Rattle.lent.specs.Tables.{growTableAt};
+ghost use Rattle.lent.specs.Growth.{lending};
+ghost use Rattle.lent.specs.Tables.{GrowsTable};
 ghost use Rattle.lent.specs.stages.Growth.{tablesAlone, kept, regrown, tableBack, tableRegrown};
 
 // The machine that has these tables alone, whose soundness is the list's.
@@ -135,8 +135,8 @@ fn grow_here(
     limiter: &mut Limiter,
 ) -> Answer
     requires { ⌜ 8 ≤ length (now tables) ⌝ }
-    ensures { λ r. ⌜ grew r (lending (now (tables .exit)) (now (cells .exit)) (now (fuel .exit)) (now (limiter .exit)))
-        ≡ growTableAt rawBytes count i delta value (lending (now (tables .entry)) (now (cells .entry)) (now (fuel .entry)) (now (limiter .entry))) ⌝ }
+    ensures { λ r. ⌜ GrowsTable rawBytes count i delta value (lending (now (tables .entry)) (now (cells .entry)) (now (fuel .entry)) (now (limiter .entry)))
+        r (now (tables .exit)) (now (cells .exit)) (now (fuel .exit)) (now (limiter .exit)) ⌝ }
 {
     let first = [
         tables[0],
@@ -166,8 +166,8 @@ pub fn grow(
     fuel: &mut Fuel,
     limiter: &mut Limiter,
 ) -> Answer
-    ensures { λ r. ⌜ grew r (lending (now (tables .exit)) (now (cells .exit)) (now (fuel .exit)) (now (limiter .exit)))
-        ≡ growTableAt rawBytes count i delta value (lending (now (tables .entry)) (now (cells .entry)) (now (fuel .entry)) (now (limiter .entry))) ⌝ }
+    ensures { λ r. ⌜ GrowsTable rawBytes count i delta value (lending (now (tables .entry)) (now (cells .entry)) (now (fuel .entry)) (now (limiter .entry)))
+        r (now (tables .exit)) (now (cells .exit)) (now (fuel .exit)) (now (limiter .exit)) ⌝ }
 {
     if tables.len() < 8 {
         return Answer::Refusal(Refusal {
