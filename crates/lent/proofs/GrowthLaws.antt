@@ -6,7 +6,7 @@ use mathlib.Core.List.{List}
 use native.Mathlib.Omega.{arith}
 use lib.Dec.{leb, ltb}
 use lib.ListN.{length, getD, set}
-use borrow.Author.Tests.{ltb-true, leb-true, lt-leb}
+use borrow.Author.Tests.{ltb-true, leb-true}
 use Rattle.types.specs.Numbers.{word32}
 use Rattle.types.specs.Pick.{pick, both}
 use Rattle.types.specs.Done.{Done, done}
@@ -17,7 +17,7 @@ use Rattle.types.specs.declared.answer.Answer.{Answer}
 use Rattle.types.specs.declared.fuel.Fuel.{Fuel}
 use Rattle.types.specs.declared.limiter.Limiter.{Limiter}
 use Rattle.types.specs.declared.raw.TypedRawRef.{TypedRawRef}
-use Rattle.types.proofs.Picks.{pick-true, pick-false, both-1, both-2, both-left, both-right}
+use Rattle.types.proofs.Picks.{pick-true, pick-false, both-1, both-2}
 use Rattle.memory.specs.Memory as memory
 use Rattle.memory.specs.Grow as memory-grow
 use Rattle.memory.specs.declared.memory.Memory.{Memory}
@@ -144,7 +144,7 @@ module _ {A : Type 0} (none : A) (size : A → ℕ) (resize : A → ℕ → A) (
     place-small true true w v h e = subst (λ (z : Done Regrown). z .out .place < 8) (sym e) (h refl refl)
 
 -- a sound list has at most 8 records in use
-few : {A : Type 0} (sound : A → Bool) (start end : A → ℕ) (n i : ℕ) (xs : List A) → soundList sound start end n xs ≡ true → ltb i n ≡ true → i < 8
+pub few : {A : Type 0} (sound : A → Bool) (start end : A → ℕ) (n i : ℕ) (xs : List A) → soundList sound start end n xs ≡ true → ltb i n ≡ true → i < 8
 unfolding soundList
 few sound start end n i xs s k =
     let a = leb-true n 8 (both-1 _ _ (both-2 _ _ s)) in
@@ -152,7 +152,7 @@ few sound start end n i xs s k =
     omega arith
 
 -- a list alone is a machine's whose other lists are empty
-both-last : (a : Bool) → both a true ≡ a
+pub both-last : (a : Bool) → both a true ≡ a
 unfolding both
 both-last true = refl
 both-last false = refl
@@ -271,12 +271,3 @@ module _ (r n i delta : ℕ) (x : TypedRawRef) (l : Lending Table) (long : 8 ≤
       ap (λ (y : Table). stored noTable (λ (r : Table). r .size) table.resized (λ _. refl) l (table-back y)) (eight-get noTable (l .records) i long (table-few s k))
       ∙ (λ j. grew (g .out .answer) (lending (set (l .records) i (sym (p .table) j)) (g .cells) (sym (p .fuel) j) (sym (p .limiter) j))))
       table-says
-
--- a list with too few places
-pub memory-short : (n i pages : ℕ) (l : Lending Memory) → length (l .records) < 8 → grew (refuse 19 0) l ≡ growMemoryAt n i pages l
-unfolding growMemoryAt growAt soundMemoryList soundList
-memory-short n i pages l h = sym (pick-false _ _ _ (both-left _ _ (lt-leb 8 (length (l .records)) h)))
-
-pub table-short : (r n i delta : ℕ) (x : TypedRawRef) (l : Lending Table) → length (l .records) < 8 → grew (refuse 19 0) l ≡ growTableAt r n i delta x l
-unfolding growTableAt growAt soundTableList soundList
-table-short r n i delta x l h = sym (pick-false _ _ _ (both-right _ _ (both-left _ _ (lt-leb 8 (length (l .records)) h))))

@@ -5,3 +5,5 @@ pub mod GrowthLaws
 pub mod RecordParts
 pub mod RecordLaws
 pub mod Unique
+pub mod GrowthAnswers
+pub mod GrowthSteps

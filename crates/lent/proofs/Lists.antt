@@ -38,7 +38,7 @@ module _ {A : Type 0} where
   set-kept (x ∷ l) zero d = refl
   set-kept (x ∷ l) (suc i) d = ap (λ (k : List A). x ∷ k) (set-kept l i d)
 
-  get-front : (n i : ℕ) (l : List A) (d : A) → i < n → getD (take n l) i d ≡ getD l i d
+  pub get-front : (n i : ℕ) (l : List A) (d : A) → i < n → getD (take n l) i d ≡ getD l i d
   get-front zero i l d h = absurd (omega arith)
   get-front (suc n) i [] d h = refl
   get-front (suc n) zero (x ∷ l) d h = refl

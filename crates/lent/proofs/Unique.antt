@@ -19,7 +19,7 @@ use Rattle.table.specs.declared.element.ElementSegment.{ElementSegment}
 use Rattle.lent.specs.declared.fuel.FuelRequest.{FuelRequest}
 use Rattle.lent.specs.declared.operate.Standing.{Standing}
 use Rattle.lent.specs.Fuel.{FuelDone, Requests}
-use Rattle.lent.specs.Growth.{Lending, Grew, grew}
+use Rattle.lent.specs.Growth.{Lending, Grew}
 use Rattle.lent.specs.Memories.{GrowsMemory}
 use Rattle.lent.specs.Tables.{GrowsTable}
 use Rattle.lent.specs.Records.{Lent, LentStepped, Operates}

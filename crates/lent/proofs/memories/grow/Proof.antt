@@ -1,11 +1,11 @@
 -- `lent::memories::grow` meets its contract, by a walk of its code: a list with too few places is refused. Assumes nothing.
-use Rattle.lent.proofs.Walk.{_≡_, refl, [], _∷_, List, ℕ, _≤_, _<_, _^_, ltb→lt, nltb→le, lit<, length, URA, named, w64, Val, vint, Lft, Share, ftrue, flft, fres, SProp, ent, emp, via, fst∗, id⊢, Routine, Heap, Calls, Loops, WpFn, Atoms, Fun, fact, givenOf, tables, FmC, Given, Item, atRet, ‵, raw, _⊛_, some, later, ⋆, _$_, _∵_, !, qed, by, move, keep, drop, use1, group, split, join, pick, fsplit, fsplit3, fjoin, feqL, suffices, frame, await, done, look, init, forget, stop, hop, fld, from, load, lit, addr, of-opd, bin, and-then, no-more, assigns, land, first, branches, skips, exec, returns-within, returns, enter, alloc1, alloc0, params1, pass1, pass0, free1, free0, agg, whole, sub, look-in, name-done, owns, Is, shows, uint-makes, uint-vals, uint-tells, u8, u64, usize, RefT, MutRef, ptr-vals, mut-tells, slice-vals, MutSlice, Room, finally, res-finally, mut-slice-tells, plain, owned, peeks, heard, nothing, yes, Contract, Triple, calls-at, ensured, lasts, onEntry, tripleOf, cited, says, Stays, stay-none, gave-ref, gave-slice, walkOf, AllGo, goes-none, goes-gave-ref, goes-gave-slice, Walks, ends-at, walked, Mem, list-of, record-of, closes-walk}
+use Rattle.lent.proofs.Walk.{_≡_, refl, sym, [], _∷_, List, ℕ, _≤_, _<_, _^_, ltb→lt, nltb→le, lit<, length, URA, named, w64, Val, vint, Lft, Share, ftrue, flft, fres, SProp, ent, emp, via, fst∗, id⊢, Routine, Heap, Calls, Loops, WpFn, Atoms, Fun, fact, givenOf, tables, FmC, Given, Item, atRet, ‵, raw, _⊛_, some, later, ⋆, _$_, _∵_, !, qed, by, move, keep, drop, use1, group, split, join, pick, fsplit, fsplit3, fjoin, feqL, suffices, frame, await, done, look, init, forget, stop, hop, fld, from, load, lit, addr, of-opd, bin, and-then, no-more, assigns, land, first, branches, skips, exec, returns-within, returns, enter, alloc1, alloc0, params1, pass1, pass0, free1, free0, agg, whole, sub, look-in, name-done, owns, Is, shows, uint-makes, uint-vals, uint-tells, u8, u64, usize, RefT, MutRef, ptr-vals, mut-tells, slice-vals, MutSlice, Room, finally, res-finally, mut-slice-tells, plain, owned, peeks, heard, nothing, yes, Contract, Triple, calls-at, ensured, lasts, onEntry, tripleOf, cited, says, Stays, stay-none, gave-ref, gave-slice, walkOf, AllGo, goes-none, goes-gave-ref, goes-gave-slice, Walks, ends-at, walked, Mem, list-of, record-of, closes-walk}
 use denote.Struct.Laws as LL
 use denote.Enum.Laws as EL
 use Rattle.types.specs.Answer.{refusal, refuse}
 use Rattle.lent.specs.Growth.{Lending, lending, grew}
 use Rattle.lent.specs.Memories.{growMemoryAt}
-use Rattle.lent.proofs.GrowthLaws.{memory-short}
+use Rattle.lent.proofs.GrowthAnswers.{memory-answers}
 use Rattle.memory.specs.declared.memory.Memory.{Memory}
 use Rattle.memory.proofs.memory.Memory as Y
 use Rattle.types.specs.declared.fuel.Fuel.{Fuel}
@@ -121,7 +121,7 @@ module _ {M : Type 1} (𝓤 : URA M) (H : Heap 𝓤) (A : Atoms 𝓤) (W : Given
         free1 ! $ move ! (28 ∷ 29 ∷ []) $ free1 ! $ move ! (26 ∷ 27 ∷ []) $ free1 ! $ move ! (24 ∷ 25 ∷ []) $ free1 ! $ move ! (22 ∷ 23 ∷ []) $ free1 ! $ move ! (20 ∷ 21 ∷ []) $ free1 ! $
         move ! (18 ∷ 19 ∷ []) $ free1 ! $ move ! (16 ∷ 17 ∷ []) $ free1 ! $ move ! (14 ∷ 15 ∷ []) $ free1 ! $ move ! (12 ∷ 13 ∷ []) $ free1 ! $ move ! (10 ∷ 11 ∷ []) $ free1 ! $ move ! (8 ∷ 9 ∷ []) $ free1 ! $
         free0 ! $ owned ! S.the-row (Is S.the-row) (EL.makes S.the-type S′.the-plain 𝓤 H A) (refuse 19 0) _ is19 $ keep ! (8 ∷ 7 ∷ 6 ∷ 5 ∷ 4 ∷ 3 ∷ 2 ∷ 1 ∷ 0 ∷ []) $
-        by ! (exits (refuse 19 0) (xs .now) (cs .now) (yf .now) (yl .now) (memory-short n i d l (ltb→lt (length (xs .now)) 8 few)) refl refl _))
+        by ! (exits (refuse 19 0) (xs .now) (cs .now) (yf .now) (yl .now) (sym (memory-answers d .short n i l (ltb→lt (length (xs .now)) 8 few))) refl refl _))
         -- the list has its places
         (λ many. skips ! $ exec ! C Λ _ t-4 (atRet _ Post) $ assigns ! (addr ! (from ! (fld ! refl (hop ! (look-in ! 38 (sub ! 0 refl (whole !))) (stop !))))) (from ! (stop !)) (init ! 18 refl (tt, tt)) $
         assigns ! (agg ! (and-then ! (load ! (from ! (stop !)) (look ! 18 refl)) (and-then ! (load ! (from ! (fld ! refl (stop !))) (look-in ! 38 (sub ! 1 refl (whole !)))) (no-more !)))) (from ! (stop !)) (init ! 16 refl (tt, (tt, (record { fits = room-xs .0 }, tt)))) $

@@ -1,0 +1,118 @@
+-- A growth at a place of a lent list is the machine's own step on all that is lent, where all else that is lent is sound. Assumes nothing.
+use Prim.Native.Nat.{ℕ, zero, suc, _≤_, _<_}
+use mathlib.Core.Path.{_≡_, refl, sym, ap, _∙_}
+use mathlib.Core.Bool.{Bool, true, false}
+use mathlib.Core.List.{List, [], _∷_}
+use native.Mathlib.Omega.{arith}
+use lib.Dec.{leb, ltb}
+use lib.ListN.{length, take, drop, set, take-append-drop}
+use borrow.Author.Tests.{ltb-true, leb-true, leb-false, le-leb, lt-ltb}
+use Rattle.types.specs.Pick.{pick, both}
+use Rattle.types.specs.Answer.{refuse}
+use Rattle.types.specs.Done.{Done}
+use Rattle.types.specs.declared.answer.Answer.{Answer}
+use Rattle.types.proofs.Picks.{pick-true, pick-false, both-true, both-1, both-2, both-left, both-then, either}
+use Rattle.memory.specs.Memory.{soundMemory}
+use Rattle.memory.specs.Grow.{growMemory}
+use Rattle.memory.specs.declared.memory.Memory.{Memory}
+use Rattle.memory.specs.declared.grow.GrownMemory.{GrownMemory}
+use Rattle.machine.specs.Machine.{Buffers, buffers, noMemory, memoryAt, memoryEnd}
+use Rattle.machine.specs.Sound.{soundList, soundMemories, soundTables, soundSegments, soundReferences, soundMachine, soundOver}
+use Rattle.machine.specs.Operation.{memoryWellFormed, wellFormed}
+use Rattle.machine.specs.Outcome.{keeps, refused, changed, settled}
+use Rattle.machine.specs.Memories.{memoryOut, memoryDone, performMemory, onMemory}
+use Rattle.machine.specs.Step.{Performed, onNone, onBytes, perform, decide, after, step}
+use Rattle.machine.specs.declared.records.Machine.{Machine}
+use Rattle.machine.specs.declared.operation.Operation.{Operation}
+use Rattle.machine.specs.declared.operation.Operation.the-variants as operation
+use Rattle.machine.specs.declared.operation.MemoryOp.the-variants as memory-op
+use Rattle.lent.specs.Growth.{Lending, lending, Grew, grew, growAt}
+use Rattle.lent.specs.Memories.{soundMemoryList, recordOf as memoryOf, memoryGrown, growMemoryAt}
+use Rattle.lent.specs.Records.{Lent, lent, machineOf, longEnough, placed, lentBack, LentStepped, lentStepped, unfit, stepPlaced, lentStep}
+use Rattle.lent.proofs.Lists.{eight-take, set-front, get-front, eight-sound}
+use Rattle.lent.proofs.GrowthLaws.{few, both-last}
+use Rattle.lent.proofs.GrowthAnswers.{memory-answers}
+
+-- what an operation leaves, as what is lent has it
+abbrev pub backOf : Lent → Performed → LentStepped
+backOf x p = lentStepped (after (machineOf x) p .answer) (lentBack (after (machineOf x) p .machine) x) (p .buffers)
+
+module _ (r : ℕ) (x : Lent) (b : Buffers) where
+  abbrev m : Machine
+  m = machineOf x
+
+  long-taken : {A : Type 0} (n : ℕ) (l : List A) → n ≤ length (take n l) → n ≤ length l
+  long-taken zero l h = omega arith
+  long-taken (suc n) [] h = h
+  long-taken (suc n) (y ∷ l) h = let k = long-taken n l (omega arith) in omega arith
+
+  list-long : {A : Type 0} (sound : A → Bool) (start end : A → ℕ) (n : ℕ) (l : List A) → soundList sound start end n (take 8 l) ≡ true → leb 8 (length l) ≡ true
+  unfolding soundList
+  list-long sound start end n l e = le-leb _ _ (long-taken 8 l (leb-true _ _ (both-1 _ _ e)))
+
+  both-first : (s t : Bool) → t ≡ true → both s t ≡ s
+  both-first s t e = ap (both s) e ∙ both-last s
+
+  -- a refusal leaves all
+  kept-all : (a : Answer) → backOf x (onNone (keeps m a) b) ≡ lentStepped a x b
+  unfolding settled changed
+  kept-all a = (λ i. lentStepped a (lent (take-append-drop 8 (x .memories) i) (take-append-drop 8 (x .tables) i) (take-append-drop 8 (x .segments) i) (x .standing) (x .fuel)) b)
+
+  -- memories, bytes, fuel and limiter, as lent to a growth of a memory
+  abbrev pub memoriesOf : Lending Memory
+  memoriesOf = lending (x .memories) (b .bytes) (x .fuel) (x .standing .limiter)
+
+  -- a growth of a memory, with all else that is lent as it was
+  abbrev pub withMemories : Grew Memory → LentStepped
+  withMemories g =
+      lentStepped (g .answer) (lent (g .lent .records) (x .tables) (x .segments) (record { counts = x .standing .counts; limiter = g .lent .limiter }) (g .lent .fuel))
+      (buffers (g .lent .cells) (b .cells) (b .items))
+
+  -- all but the memories is sound
+  pub record MemoriesBeside : Type 0 where
+    pub references : soundReferences (length (b .cells)) (length (b .items)) ≡ true
+    pub tables : soundTables m (length (b .cells)) ≡ true
+    pub segments : soundSegments m (length (b .items)) ≡ true
+
+  module _ (beside : MemoriesBeside) (i pages : ℕ) where
+    abbrev op : Operation
+    op = operation.Memory i (memory-op.Grow pages)
+
+    abbrev grown : Memory → Done GrownMemory
+    grown y = growMemory y (b .bytes) pages (x .fuel) (x .standing .limiter)
+
+    memory-stored : (g : Done GrownMemory) → i < 8 → backOf x (onBytes (record { out = memoryOut m i (g .out); cells = g .cells }) b) ≡ withMemories (memoryGrown i memoriesOf g)
+    unfolding settled changed
+    memory-stored g h =
+        ap (λ (n : Machine). lentStepped (g .out .answer) (lentBack (record { memories = n .memories; tables = n .tables; segments = n .segments; counts = m .counts; fuel = g .out .fuel; limiter = g .out .limiter }) x) (buffers (g .cells) (b .cells) (b .items)))
+        (pick-true (ltb i 8) _ _ (lt-ltb i 8 h))
+        ∙ (λ j. lentStepped (g .out .answer) (lent (sym (set-front 8 i (x .memories) (g .out .memory) h) j) (take-append-drop 8 (x .tables) j) (take-append-drop 8 (x .segments) j) (record { counts = x .standing .counts; limiter = g .out .limiter }) (g .out .fuel)) (buffers (g .cells) (b .cells) (b .items)))
+
+    memory-tests : (s k : Bool) → (s ≡ true → k ≡ true → i < 8)
+        → backOf x (pick s (onBytes (pick k (memoryDone m i (grown (memoryAt m i))) (refused m 16 (b .bytes))) b) (onNone (keeps m (refuse 19 0)) b))
+        ≡ withMemories (growAt s k memoriesOf (memoryGrown i memoriesOf (grown (memoryOf memoriesOf i))))
+    unfolding pick growAt
+    memory-tests false k h = kept-all (refuse 19 0)
+    memory-tests true false h = kept-all (refuse 16 0)
+    memory-tests true true h =
+        memory-stored (grown (memoryAt m i)) (h refl refl)
+        ∙ ap (λ (y : Memory). withMemories (memoryGrown i memoriesOf (grown y))) (get-front 8 i (x .memories) noMemory (h refl refl))
+
+    memories-over : 8 ≤ length (x .memories) → soundOver m b ≡ soundMemoryList (x .standing .counts .memories) memoriesOf
+    unfolding soundMachine soundMemories soundMemoryList
+    memories-over h =
+        both-then _ _ (beside .references) ∙ both-first _ _ (both-true _ _ (beside .tables) (beside .segments))
+        ∙ ap (soundList _ _ memoryEnd (x .standing .counts .memories)) (sym (eight-take noMemory (x .memories) h))
+        ∙ eight-sound (λ (y : Memory). soundMemory y (length (b .bytes))) (λ (y : Memory). y .start) memoryEnd noMemory (x .memories) (x .standing .counts .memories) h
+
+    pub memory-grow-steps : lentStep r x b op ≡ withMemories (growMemoryAt (x .standing .counts .memories) i pages memoriesOf)
+    unfolding lentStep stepPlaced step decide perform onMemory performMemory wellFormed memoryWellFormed unfit growMemoryAt longEnough pick soundMemoryList soundTables soundSegments
+    memory-grow-steps =
+        either (leb 8 (length (x .memories)))
+        (λ t.
+        pick-true (placed x) _ _ (both-true _ _ t (both-true _ _ (list-long _ _ _ _ (x .tables) (beside .tables)) (list-long _ _ _ _ (x .segments) (beside .segments))))
+        ∙ ap (λ (s : Bool). backOf x (pick s (perform r m b op) (onNone (keeps m (refuse 19 0)) b))) (memories-over (leb-true _ _ t))
+        ∙ memory-tests (soundMemoryList (x .standing .counts .memories) memoriesOf) (ltb i (x .standing .counts .memories)) (few _ _ _ _ i (x .memories)))
+        (λ t.
+        pick-false (placed x) _ _ (both-left _ _ t)
+        ∙ ap withMemories (sym (memory-answers pages .short (x .standing .counts .memories) i memoriesOf (leb-false _ _ t))))
