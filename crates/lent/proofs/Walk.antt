@@ -54,7 +54,8 @@ use mir.Syntax.{Fn}
 use prog.Memory.{Memory}
 use prog.Model.{Model}
 use prog.Routine.{Name, Env}
-use prog.Wp.{Closed}
+use prog.Wp.{Closed, Env as LocalEnv}
+use types.Kit.{Goal, Step, step, frees}
 use contract.Running.{GhostRules, Running, tablesOf}
 use sound.WpLaws.{WpFn-mono}
 use denote.Triple.Clauses.{Ended, Clauses, closing}
@@ -64,6 +65,31 @@ use denote.Triple.Walked.{walk-meets}
 -- the place in memory that a program's memory is at
 abbrev pub Mem : Type 0
 Mem = Memory
+
+-- a local where its function returns: its cell holds a value, or is bare
+abbrev pub Ending : Type 0
+Ending = Ty × (ℕ × List Val)
+
+abbrev pub held : Ty → ℕ → Val → Ending
+held τ b v = (τ, (b, v ∷ []))
+
+abbrev pub bare : Ty → ℕ → Ending
+bare τ b = (τ, (b, []))
+
+abbrev pub env-of : List Ending → List (Ty × ℕ)
+env-of [] = []
+env-of ((τ, (b, vs)) ∷ es) = (τ, b) ∷ env-of es
+
+abbrev pub endings : {M : Type 1} {𝓤 : URA M} → List Ending → List (Item 𝓤) → List (Item 𝓤)
+endings [] Γ = Γ
+endings ((τ, (b, [])) ∷ es) Γ = ‵ (froom τ b 0) ∷ ‵ (fdies τ b) ∷ endings es Γ
+endings ((τ, (b, v ∷ vs)) ∷ es) Γ = ‵ (fat fullShare τ b 0 v) ∷ ‵ (fdies τ b) ∷ endings es Γ
+
+-- all locals are freed at once
+pub free-all : {M : Type 1} {𝓤 : URA M} {H : Heap 𝓤} {A : Atoms 𝓤} {W : Given 𝓤 H A} → Go {0} → (es : List Ending) {Γ : List (Item 𝓤)} {g : Goal 𝓤 H} → Step (Go {0}) W Γ g (endings es Γ) (frees (env-of es) g)
+free-all t [] = free0 t
+free-all t ((τ, (b, [])) ∷ es) = step (λ s. free1 t $ free-all t es $ s)
+free-all t ((τ, (b, v ∷ vs)) ∷ es) = step (λ s. forget t 0 refl $ free1 t $ free-all t es $ s)
 
 -- the machine value of a lent list, and of a lent record
 abbrev pub list-of : {A : Type 0} → RefT (List A) → Val

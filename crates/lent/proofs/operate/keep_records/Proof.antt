@@ -1,5 +1,5 @@
 -- `lent::operate::keep_records` meets its contract, by a walk of its code. Assumes nothing.
-use Rattle.lent.proofs.Walk.{_≡_, refl, ap, subst, _∙_, sym, [], _∷_, List, map, ℕ, lit<, length, length-map, fullShare, URA, named, Ty, tyRef, mut, erased, tyArray, Val, vptr, Lft, Share, ftrue, fat, froom, fdies, flft, fres, GName, fsep, flent, SProp, ent, emp, via, fst∗, id⊢, sep, ex, Routine, Heap, Calls, Loops, WpFn, Atoms, sem, Fun, fact, givenOf, tables, FmC, Given, Sq, runs, atRet, ‵, raw, _⊛_, some, later, ⋆, _$_, _∵_, !, qed, by, move, keep, drop, use1, use2, use3, group, split, join, pick, rewrite, fsplit, fjoin, fpack, feqL, feqI, suffices, frame, await, done, look, init, forget, stop, hop, fld, from, load, lit, addr, of-opd, and-then, no-more, assigns, land, returns, enter, alloc1, alloc0, params1, pass1, pass0, free1, free0, agg, whole, sub, look-in, Body, cells, Arr, arr-parts, lft-new, lft-end, RattleType, owns, Is, shows, Typed, mem, cellAt, partAt, shares, u8, u64, RefT, MutRef, sliceTy, sliceVal, slice-vals, MutSlice, Room, finally, mut-slice-tells, Held, lends-ref, ref-back, lends-slice, slice-back, shadow, row, whole-in, whole-out, array-tells, array-lawful, array-makes, each, array-apart, array-whole, plain, only, owned, peeks, heard, nothing, array-field, spelt, yes, Contract, Triple, calls-at, ensured, lasts, onEntry, tripleOf, cited, says, Stays, stay-none, gave-slice, walkOf, AllGo, goes-none, goes-gave-slice, Walks, ends-at, walked, Mem, list-of, closes-walk}
+use Rattle.lent.proofs.Walk.{_≡_, refl, ap, subst, _∙_, sym, [], _∷_, List, map, ℕ, lit<, length, length-map, fullShare, URA, named, Ty, tyRef, mut, erased, tyArray, Val, vptr, Lft, Share, ftrue, fat, froom, fdies, flft, fres, GName, fsep, flent, SProp, ent, emp, via, fst∗, id⊢, sep, ex, Routine, Heap, Calls, Loops, WpFn, Atoms, sem, Fun, fact, givenOf, tables, FmC, Given, Sq, runs, atRet, ‵, raw, _⊛_, some, later, ⋆, _$_, _∵_, !, qed, by, move, keep, drop, use1, use2, use3, group, split, join, pick, rewrite, fsplit, fjoin, fpack, feqL, feqI, suffices, frame, await, done, look, init, stop, hop, fld, from, load, lit, addr, of-opd, and-then, no-more, assigns, land, returns, enter, alloc1, alloc0, params1, pass1, pass0, agg, whole, sub, look-in, Body, cells, Arr, arr-parts, lft-new, lft-end, RattleType, owns, Is, shows, Typed, mem, cellAt, partAt, shares, u8, u64, RefT, MutRef, sliceTy, sliceVal, slice-vals, MutSlice, Room, finally, mut-slice-tells, Held, lends-ref, ref-back, lends-slice, slice-back, shadow, row, whole-in, whole-out, array-tells, array-lawful, array-makes, each, array-apart, array-whole, plain, only, owned, peeks, heard, nothing, array-field, spelt, yes, Contract, Triple, calls-at, ensured, lasts, onEntry, tripleOf, cited, says, Stays, stay-none, gave-slice, walkOf, AllGo, goes-none, goes-gave-slice, Walks, ends-at, walked, Mem, list-of, closes-walk, free-all, held}
 use denote.Memory.{partOf}
 use denote.Struct.Laws as LL
 use denote.Enum.Laws as EL
@@ -217,14 +217,7 @@ module _ {M : Type 1} (𝓤 : URA M) (H : Heap 𝓤) (A : Atoms 𝓤) (W : Given
         assigns ! (of-opd ! (load ! (from ! (stop !)) (look ! 0 refl))) (from ! (stop !)) (init ! 9 refl (LL.lawful F.the-type F′.the-laws 𝓤 H A W .typed fu′ _ is4 .0)) $
         assigns ! (agg ! (and-then ! (load ! (from ! (stop !)) (look ! 17 refl)) (and-then ! (load ! (from ! (stop !)) (look ! 15 refl)) (and-then ! (load ! (from ! (stop !)) (look ! 13 refl)) (and-then ! (load ! (from ! (stop !)) (look ! 11 refl)) (and-then ! (load ! (from ! (stop !)) (look ! 9 refl)) (and-then ! (load ! (from ! (stop !)) (look ! 47 refl)) (no-more !)))))))) (from ! (stop !)) (init ! 72 refl (LL.lawful K.the-type K′.the-laws 𝓤 H A W .typed (kept ms′ ts′ gs′ sd′ fu′ r) _ (is-kept (kept ms′ ts′ gs′ sd′ fu′ r) is0 is1 is2 is3 is4 is) .0)) $
         returns ! (look ! 72 refl) $
-        forget ! 9 refl $ forget ! 11 refl $ forget ! 13 refl $ forget ! 15 refl $ forget ! 17 refl $ forget ! 19 refl $ forget ! 21 refl $ forget ! 23 refl $ forget ! 25 refl $ forget ! 27 refl $ forget ! 29 refl $ forget ! 31 refl $ forget ! 33 refl $ forget ! 35 refl $ forget ! 37 refl $ forget ! 39 refl $ forget ! 41 refl $ forget ! 43 refl $ forget ! 45 refl $ forget ! 47 refl $ forget ! 0 refl $ forget ! 1 refl $ forget ! 2 refl $ forget ! 3 refl $ forget ! 4 refl $ forget ! 54 refl $ forget ! 56 refl $ forget ! 58 refl $ forget ! 60 refl $ forget ! 62 refl $ forget ! 64 refl $ forget ! 66 refl $ forget ! 68 refl $ forget ! 70 refl $ forget ! 72 refl $
-        move ! (72 ∷ 73 ∷ []) $ free1 ! $ move ! (70 ∷ 71 ∷ []) $ free1 ! $ move ! (68 ∷ 69 ∷ []) $ free1 ! $ move ! (66 ∷ 67 ∷ []) $ free1 ! $ move ! (64 ∷ 65 ∷ []) $ free1 ! $ move ! (62 ∷ 63 ∷ []) $
-        free1 ! $ move ! (60 ∷ 61 ∷ []) $ free1 ! $ move ! (58 ∷ 59 ∷ []) $ free1 ! $ move ! (56 ∷ 57 ∷ []) $ free1 ! $ move ! (54 ∷ 55 ∷ []) $ free1 ! $ move ! (4 ∷ 53 ∷ []) $ free1 ! $ move ! (3 ∷ 51 ∷ []) $
-        free1 ! $ move ! (2 ∷ 49 ∷ []) $ free1 ! $ move ! (1 ∷ 47 ∷ []) $ free1 ! $ move ! (0 ∷ 45 ∷ []) $ free1 ! $ move ! (42 ∷ 43 ∷ []) $ free1 ! $ move ! (40 ∷ 41 ∷ []) $ free1 ! $ move ! (38 ∷ 39 ∷ []) $
-        free1 ! $ move ! (36 ∷ 37 ∷ []) $ free1 ! $ move ! (34 ∷ 35 ∷ []) $ free1 ! $ move ! (32 ∷ 33 ∷ []) $ free1 ! $ move ! (30 ∷ 31 ∷ []) $ free1 ! $ move ! (28 ∷ 29 ∷ []) $ free1 ! $
-        move ! (26 ∷ 27 ∷ []) $ free1 ! $ move ! (24 ∷ 25 ∷ []) $ free1 ! $ move ! (22 ∷ 23 ∷ []) $ free1 ! $ move ! (20 ∷ 21 ∷ []) $ free1 ! $ move ! (18 ∷ 19 ∷ []) $ free1 ! $ move ! (16 ∷ 17 ∷ []) $
-        free1 ! $ move ! (14 ∷ 15 ∷ []) $ free1 ! $ move ! (12 ∷ 13 ∷ []) $ free1 ! $ move ! (10 ∷ 11 ∷ []) $ free1 ! $ move ! (8 ∷ 9 ∷ []) $ free1 ! $ move ! (6 ∷ 7 ∷ []) $ free1 ! $ move ! (4 ∷ 5 ∷ []) $
-        free1 ! $ free0 ! $ keep ! (0 ∷ 3 ∷ 2 ∷ 1 ∷ []) $ by ! (exits (kept ms′ ts′ gs′ sd′ fu′ r) bs′ cs′ ks′ e long-bs long-cs long-ks (is-kept (kept ms′ ts′ gs′ sd′ fu′ r) is0 is1 is2 is3 is4 is))
+        move ! (72 ∷ 73 ∷ 70 ∷ 71 ∷ 68 ∷ 69 ∷ 66 ∷ 67 ∷ 64 ∷ 65 ∷ 62 ∷ 63 ∷ 60 ∷ 61 ∷ 58 ∷ 59 ∷ 56 ∷ 57 ∷ 54 ∷ 55 ∷ 4 ∷ 53 ∷ 3 ∷ 52 ∷ 2 ∷ 51 ∷ 1 ∷ 50 ∷ 0 ∷ 49 ∷ 47 ∷ 48 ∷ 45 ∷ 46 ∷ 43 ∷ 44 ∷ 41 ∷ 42 ∷ 39 ∷ 40 ∷ 37 ∷ 38 ∷ 35 ∷ 36 ∷ 33 ∷ 34 ∷ 31 ∷ 32 ∷ 29 ∷ 30 ∷ 27 ∷ 28 ∷ 25 ∷ 26 ∷ 23 ∷ 24 ∷ 21 ∷ 22 ∷ 19 ∷ 20 ∷ 17 ∷ 18 ∷ 15 ∷ 16 ∷ 13 ∷ 14 ∷ 11 ∷ 12 ∷ 9 ∷ 10 ∷ []) $ free-all ! (held _ l0 _ ∷ held _ l1 _ ∷ held _ l2 _ ∷ held _ l3 _ ∷ held _ l4 _ ∷ held _ l5 _ ∷ held _ l6 _ ∷ held _ l7 _ ∷ held _ l8 _ ∷ held _ l9 _ ∷ held _ l10 _ ∷ held _ l11 _ ∷ held _ l12 _ ∷ held _ l13 _ ∷ held _ l14 _ ∷ held _ l15 _ ∷ held _ l16 _ ∷ held _ l17 _ ∷ held _ l18 _ ∷ held _ l19 _ ∷ held _ l20 _ ∷ held _ l21 _ ∷ held _ l22 _ ∷ held _ l23 _ ∷ held _ l24 _ ∷ held _ l25 _ ∷ held _ l26 _ ∷ held _ l27 _ ∷ held _ l28 _ ∷ held _ l29 _ ∷ held _ l30 _ ∷ held _ l31 _ ∷ held _ l32 _ ∷ held _ l33 _ ∷ held _ l34 _ ∷ []) $ keep ! (0 ∷ 3 ∷ 2 ∷ 1 ∷ []) $ by ! (exits (kept ms′ ts′ gs′ sd′ fu′ r) bs′ cs′ ks′ e long-bs long-cs long-ks (is-kept (kept ms′ ts′ gs′ sd′ fu′ r) is0 is1 is2 is3 is4 is))
 
     -- what was lent comes back
     back : (l0 l1 l2 l3 l4 l5 l6 l7 l8 l9 l10 l11 l12 l13 l14 l15 l16 l17 l18 l19 l20 l21 l22 l23 l24 l25 l26 l27 l28 l29 l30 l31 l32 l33 l34 : ℕ) (τ1 τ2 τ3 τ4 τ5 τ6 τ7 τ8 τ9 τ16 τ17 τ18 τ19 τ20 τ21 τ22 τ23 τ24 τ25 τ26 τ27 τ28 τ29 : Ty) (w-1 w-2 w-3 w-4 w-5 w-6 w-7 w-8 w-9 w-16 w-17 w-18 w-19 w-20 w-21 w-22 w-23 w-24 w-25 w-26 w-27 w-28 w-29 : Val)

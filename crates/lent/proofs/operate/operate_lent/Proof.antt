@@ -1,5 +1,5 @@
 -- `lent::operate::operate_lent` meets its contract, by a walk of its code. Assumes nothing.
-use Rattle.lent.proofs.Walk.{_≡_, refl, ap, subst, _∙_, true, [], _∷_, List, ℕ, _≤_, is-true, is-false, length, set, fullShare, URA, named, w64, Ty, tyInt, tyBool, tyRef, mut, erased, Val, vbool, vint, Lft, Share, ftrue, fat, froom, fdies, flft, fres, SProp, ent, emp, via, fst∗, id⊢, Routine, Heap, Calls, Loops, WpFn, Atoms, Fun, fact, givenOf, tables, FmC, Given, Item, Go, nth, Sq, runs, atRet, ‵, raw, _⊛_, some, later, ⋆, _$_, _∵_, !, qed, by, move, keep, drop, use0, use1, group, split, join, pick, rewrite, fsplit, fsplit3, fjoin, feqL, suffices, frame, await, done, Reads, look, init, forget, stop, hop, fld, from, load, addr, of-opd, and-then, no-more, assigns, land, first, branches, skips, exec, returns-within, returns, enter, alloc1, alloc0, params1, pass1, pass0, free1, free0, agg, whole, sub, look-in, name-done, owns, Is, shows, uint-makes, u8, u64, usize, RefT, MutRef, ptr-vals, mut-tells, sliceTy, slice-vals, MutSlice, Room, finally, res-finally, mut-slice-tells, plain, only, owned, peeks, heard, nothing, yes, Contract, Triple, calls-at, ensured, lasts, onEntry, tripleOf, cited, says, Stays, stay-none, gave-ref, gave-slice, walkOf, AllGo, goes-none, goes-gave-ref, goes-gave-slice, Walks, ends-at, walked, Mem, list-of, record-of, closes-walk}
+use Rattle.lent.proofs.Walk.{_≡_, refl, ap, subst, _∙_, true, [], _∷_, List, ℕ, _≤_, is-true, is-false, length, set, fullShare, URA, named, w64, Ty, tyInt, tyBool, tyRef, mut, erased, Val, vbool, vint, Lft, Share, ftrue, fat, froom, fdies, flft, fres, SProp, ent, emp, via, fst∗, id⊢, Routine, Heap, Calls, Loops, WpFn, Atoms, Fun, fact, givenOf, tables, FmC, Given, Item, Go, nth, Sq, runs, atRet, ‵, raw, _⊛_, some, later, ⋆, _$_, _∵_, !, qed, by, move, keep, drop, use0, use1, group, split, join, pick, rewrite, fsplit, fsplit3, fjoin, feqL, suffices, frame, await, done, Reads, look, init, stop, hop, fld, from, load, addr, of-opd, and-then, no-more, assigns, land, first, branches, skips, exec, returns-within, returns, enter, alloc1, alloc0, params1, pass1, pass0, agg, whole, sub, look-in, name-done, owns, Is, shows, uint-makes, u8, u64, usize, RefT, MutRef, ptr-vals, mut-tells, sliceTy, slice-vals, MutSlice, Room, finally, res-finally, mut-slice-tells, plain, only, owned, peeks, heard, nothing, yes, Contract, Triple, calls-at, ensured, lasts, onEntry, tripleOf, cited, says, Stays, stay-none, gave-ref, gave-slice, walkOf, AllGo, goes-none, goes-gave-ref, goes-gave-slice, Walks, ends-at, walked, Mem, list-of, record-of, closes-walk, free-all, held, bare}
 use denote.Struct.Laws as LL
 use denote.Enum.Laws as EL
 use Rattle.types.specs.Raw.{rawBytes}
@@ -153,13 +153,7 @@ module _ {M : Type 1} (𝓤 : URA M) (H : Heap 𝓤) (A : Atoms 𝓤) (W : Given
     finish l0 l1 l2 l3 l4 l5 l6 l7 l8 l9 l10 l11 l12 l13 l14 l15 l16 l17 l18 l19 l20 l21 l22 l23 l24 l25 l26 l27 l28 l29 τ1 τ2 τ3 τ4 τ5 τ6 τ7 τ8 τ9 τ10 τ12 τ13 τ14 τ15 τ16 τ17 τ18 τ19 τ20 τ21 τ22 τ23 τ24 τ25 τ26 τ27 τ28 τ29 w-1 w-2 w-3 w-4 w-5 w-6 w-7 w-8 w-9 w-10 w-12 w-13 w-14 w-15 w-16 w-17 w-18 w-19 w-20 w-21 w-22 w-23 w-24 w-25 w-26 w-27 w-28 w-29 fit r xm′ xt′ xg′ yd′ yf′ bs′ cs′ ks′ e len-xm len-xt len-xg len-bs len-cs len-ks is =
         assigns ! (of-opd ! (load ! (from ! (fld ! {τ = S′.mir} {d = 248} refl (stop !))) (get-8 l11 r _ 45 refl))) (from ! (stop !)) (init ! 67 refl (EL.lawful S.the-type S′.the-laws 𝓤 H A W tt .typed (r .answer) _ (new-answer r _ is) .0)) $
         owned ! S.the-row (Is S.the-row) (EL.makes S.the-type S′.the-plain 𝓤 H A) (r .answer) _ (new-answer r _ is) $ returns ! (look ! 68 refl) $
-        forget ! 10 refl $ forget ! 12 refl $ forget ! 14 refl $ forget ! 16 refl $ forget ! 18 refl $ forget ! 20 refl $ forget ! 22 refl $ forget ! 24 refl $ forget ! 26 refl $ forget ! 28 refl $ forget ! 30 refl $ forget ! 32 refl $ forget ! 34 refl $ forget ! 36 refl $ forget ! 38 refl $ forget ! 40 refl $ forget ! 42 refl $ forget ! 44 refl $ forget ! 46 refl $ forget ! 48 refl $ forget ! 50 refl $ forget ! 52 refl $ forget ! 54 refl $ forget ! 56 refl $ forget ! 58 refl $ forget ! 60 refl $ forget ! 62 refl $ forget ! 64 refl $ forget ! 66 refl $ forget ! 68 refl $
-        move ! (68 ∷ 69 ∷ []) $ free1 ! $ move ! (66 ∷ 67 ∷ []) $ free1 ! $ move ! (64 ∷ 65 ∷ []) $ free1 ! $ move ! (62 ∷ 63 ∷ []) $ free1 ! $ move ! (60 ∷ 61 ∷ []) $ free1 ! $ move ! (58 ∷ 59 ∷ []) $
-        free1 ! $ move ! (56 ∷ 57 ∷ []) $ free1 ! $ move ! (54 ∷ 55 ∷ []) $ free1 ! $ move ! (52 ∷ 53 ∷ []) $ free1 ! $ move ! (50 ∷ 51 ∷ []) $ free1 ! $ move ! (48 ∷ 49 ∷ []) $ free1 ! $
-        move ! (46 ∷ 47 ∷ []) $ free1 ! $ move ! (44 ∷ 45 ∷ []) $ free1 ! $ move ! (42 ∷ 43 ∷ []) $ free1 ! $ move ! (40 ∷ 41 ∷ []) $ free1 ! $ move ! (38 ∷ 39 ∷ []) $ free1 ! $ move ! (36 ∷ 37 ∷ []) $
-        free1 ! $ move ! (34 ∷ 35 ∷ []) $ free1 ! $ move ! (32 ∷ 33 ∷ []) $ free1 ! $ move ! (30 ∷ 31 ∷ []) $ free1 ! $ move ! (28 ∷ 29 ∷ []) $ free1 ! $ move ! (26 ∷ 27 ∷ []) $ free1 ! $
-        move ! (24 ∷ 25 ∷ []) $ free1 ! $ move ! (22 ∷ 23 ∷ []) $ free1 ! $ move ! (20 ∷ 21 ∷ []) $ free1 ! $ move ! (18 ∷ 19 ∷ []) $ free1 ! $ move ! (16 ∷ 17 ∷ []) $ free1 ! $ move ! (14 ∷ 15 ∷ []) $
-        free1 ! $ move ! (12 ∷ 13 ∷ []) $ free1 ! $ move ! (10 ∷ 11 ∷ []) $ free1 ! $ free0 ! $ keep ! (1 ∷ 7 ∷ 6 ∷ 5 ∷ 9 ∷ 8 ∷ 4 ∷ 3 ∷ 2 ∷ 0 ∷ []) $
+        move ! (68 ∷ 69 ∷ 66 ∷ 67 ∷ 64 ∷ 65 ∷ 62 ∷ 63 ∷ 60 ∷ 61 ∷ 58 ∷ 59 ∷ 56 ∷ 57 ∷ 54 ∷ 55 ∷ 52 ∷ 53 ∷ 50 ∷ 51 ∷ 48 ∷ 49 ∷ 46 ∷ 47 ∷ 44 ∷ 45 ∷ 42 ∷ 43 ∷ 40 ∷ 41 ∷ 38 ∷ 39 ∷ 36 ∷ 37 ∷ 34 ∷ 35 ∷ 32 ∷ 33 ∷ 30 ∷ 31 ∷ 28 ∷ 29 ∷ 26 ∷ 27 ∷ 24 ∷ 25 ∷ 22 ∷ 23 ∷ 20 ∷ 21 ∷ 18 ∷ 19 ∷ 16 ∷ 17 ∷ 14 ∷ 15 ∷ 12 ∷ 13 ∷ 10 ∷ 11 ∷ []) $ free-all ! (held _ l0 _ ∷ held _ l1 _ ∷ held _ l2 _ ∷ held _ l3 _ ∷ held _ l4 _ ∷ held _ l5 _ ∷ held _ l6 _ ∷ held _ l7 _ ∷ held _ l8 _ ∷ held _ l9 _ ∷ held _ l10 _ ∷ held _ l11 _ ∷ held _ l12 _ ∷ held _ l13 _ ∷ held _ l14 _ ∷ held _ l15 _ ∷ held _ l16 _ ∷ held _ l17 _ ∷ held _ l18 _ ∷ held _ l19 _ ∷ held _ l20 _ ∷ held _ l21 _ ∷ held _ l22 _ ∷ held _ l23 _ ∷ held _ l24 _ ∷ held _ l25 _ ∷ held _ l26 _ ∷ held _ l27 _ ∷ held _ l28 _ ∷ held _ l29 _ ∷ []) $ keep ! (1 ∷ 7 ∷ 6 ∷ 5 ∷ 9 ∷ 8 ∷ 4 ∷ 3 ∷ 2 ∷ 0 ∷ []) $
         by ! (exits (r .answer) _ xm′ xt′ xg′ yd′ yf′ bs′ cs′ ks′ (lent-steps rawBytes was before op fit (placing r bs′ cs′ ks′) xm′ xt′ xg′ yd′ yf′ (e .0) (e .1) (e .2) (e .3) (e .4) (e .5)) len-xm len-xt len-xg len-bs len-cs len-ks)
 
     -- each list is long enough
@@ -213,13 +207,7 @@ module _ {M : Type 1} (𝓤 : URA M) (H : Heap 𝓤) (A : Atoms 𝓤) (W : Given
         fsplit ! $ move ! (2 ∷ []) $ drop ! $ move ! (1 ∷ []) $ drop ! $ name-done ! tt $ use1 W (‵ (finally u64 (cs .name) (cs .now))) (res-finally 𝓤 H A W (named 6) κ6 u64 (cs .name) (cs .now)) $
         move ! (7 ∷ []) $ fsplit ! $ move ! (1 ∷ []) $ fsplit ! $ move ! (2 ∷ []) $ drop ! $ move ! (1 ∷ []) $ drop ! $
         name-done ! tt $ use1 W (‵ (finally u64 (ks .name) (ks .now))) (res-finally 𝓤 H A W (named 7) κ7 u64 (ks .name) (ks .now)) $ returns-within ! Post refl (look ! 66 refl) $
-        forget ! 66 refl $ forget ! 64 refl $ forget ! 62 refl $ forget ! 60 refl $ forget ! 58 refl $ forget ! 56 refl $ forget ! 54 refl $ forget ! 52 refl $ forget ! 50 refl $ forget ! 48 refl $ forget ! 46 refl $ forget ! 42 refl $ forget ! 40 refl $ forget ! 38 refl $ forget ! 36 refl $
-        move ! (66 ∷ 67 ∷ []) $ free1 ! $ move ! (64 ∷ 65 ∷ []) $ free1 ! $ move ! (62 ∷ 63 ∷ []) $ free1 ! $ move ! (60 ∷ 61 ∷ []) $ free1 ! $ move ! (58 ∷ 59 ∷ []) $ free1 ! $ move ! (56 ∷ 57 ∷ []) $
-        free1 ! $ move ! (54 ∷ 55 ∷ []) $ free1 ! $ move ! (52 ∷ 53 ∷ []) $ free1 ! $ move ! (50 ∷ 51 ∷ []) $ free1 ! $ move ! (48 ∷ 49 ∷ []) $ free1 ! $ move ! (46 ∷ 47 ∷ []) $ free1 ! $
-        move ! (44 ∷ 45 ∷ []) $ free1 ! $ move ! (42 ∷ 43 ∷ []) $ free1 ! $ move ! (40 ∷ 41 ∷ []) $ free1 ! $ move ! (38 ∷ 39 ∷ []) $ free1 ! $ move ! (36 ∷ 37 ∷ []) $ free1 ! $ move ! (34 ∷ 35 ∷ []) $
-        free1 ! $ move ! (32 ∷ 33 ∷ []) $ free1 ! $ move ! (30 ∷ 31 ∷ []) $ free1 ! $ move ! (28 ∷ 29 ∷ []) $ free1 ! $ move ! (26 ∷ 27 ∷ []) $ free1 ! $ move ! (24 ∷ 25 ∷ []) $ free1 ! $
-        move ! (22 ∷ 23 ∷ []) $ free1 ! $ move ! (20 ∷ 21 ∷ []) $ free1 ! $ move ! (18 ∷ 19 ∷ []) $ free1 ! $ move ! (16 ∷ 17 ∷ []) $ free1 ! $ move ! (14 ∷ 15 ∷ []) $ free1 ! $ move ! (12 ∷ 13 ∷ []) $
-        free1 ! $ move ! (10 ∷ 11 ∷ []) $ free1 ! $ move ! (8 ∷ 9 ∷ []) $ free1 ! $ free0 ! $ owned ! S.the-row (Is S.the-row) (EL.makes S.the-type S′.the-plain 𝓤 H A) (d .answer) _ (found-answer d _ is) $
+        move ! (66 ∷ 67 ∷ 64 ∷ 65 ∷ 62 ∷ 63 ∷ 60 ∷ 61 ∷ 58 ∷ 59 ∷ 56 ∷ 57 ∷ 54 ∷ 55 ∷ 52 ∷ 53 ∷ 50 ∷ 51 ∷ 48 ∷ 49 ∷ 46 ∷ 47 ∷ 44 ∷ 45 ∷ 42 ∷ 43 ∷ 40 ∷ 41 ∷ 38 ∷ 39 ∷ 36 ∷ 37 ∷ 34 ∷ 35 ∷ 32 ∷ 33 ∷ 30 ∷ 31 ∷ 28 ∷ 29 ∷ 26 ∷ 27 ∷ 24 ∷ 25 ∷ 22 ∷ 23 ∷ 20 ∷ 21 ∷ 18 ∷ 19 ∷ 16 ∷ 17 ∷ 14 ∷ 15 ∷ 12 ∷ 13 ∷ 10 ∷ 11 ∷ 8 ∷ 9 ∷ []) $ free-all ! (held _ l0 _ ∷ held _ l1 _ ∷ held _ l2 _ ∷ held _ l3 _ ∷ held _ l4 _ ∷ held _ l5 _ ∷ held _ l6 _ ∷ held _ l7 _ ∷ held _ l8 _ ∷ held _ l9 _ ∷ held _ l10 _ ∷ bare _ l11 ∷ held _ l12 _ ∷ held _ l13 _ ∷ held _ l14 _ ∷ held _ l15 _ ∷ bare _ l16 ∷ bare _ l17 ∷ bare _ l18 ∷ bare _ l19 ∷ bare _ l20 ∷ bare _ l21 ∷ bare _ l22 ∷ bare _ l23 ∷ bare _ l24 ∷ bare _ l25 ∷ bare _ l26 ∷ bare _ l27 ∷ bare _ l28 ∷ bare _ l29 ∷ []) $ owned ! S.the-row (Is S.the-row) (EL.makes S.the-type S′.the-plain 𝓤 H A) (d .answer) _ (found-answer d _ is) $
         keep ! (9 ∷ 8 ∷ 7 ∷ 6 ∷ 5 ∷ 4 ∷ 3 ∷ 2 ∷ 1 ∷ 0 ∷ []) $
         by ! (exits (d .answer) _ (xm .now) (xt .now) (xg .now) (yd .now) (yf .now) (bs .now) (cs .now) (ks .now) (refused d said (is-true _ short)) refl refl refl refl refl refl))
         (λ enough. skips ! $ exec ! C Λ _ t-7 (atRet _ Post) $

@@ -1,5 +1,5 @@
 -- `lent::operate::operate_segments` meets its contract, by a walk of its code. Assumes nothing.
-use Rattle.lent.proofs.Walk.{_≡_, refl, ap, subst, sym, [], _∷_, List, map, ℕ, _≤_, _<_, _^_, _*_, arith, ltb, ltb→lt, length, set, getD, length-set, fullShare, URA, named, w64, Ty, tyInt, tyRef, mut, erased, tyPtr, tyArray, Val, vint, vptr, WT, hasTy, Lft, Share, ftrue, fat, froom, fdies, flft, fres, fobs, fauth, fbor, fobor, SProp, ent, id⊢, Routine, Heap, Calls, Loops, WpFn, Atoms, Fun, fact, givenOf, tables, FmC, Given, Item, Go, nth, Sq, runs, atRet, ‵, raw, _⊛_, some, later, ⋆, _$_, _∵_, !, qed, by, move, keep, drop, use1, group, split, join, pick, rewrite, fsplit, fjoin, feqL, suffices, frame, await, done, Reads, look, look-raw, init, store-raw, forget, stop, hop, fld, from, load, lit, addr, of-opd, bin, and-then, no-more, assigns, land, returns, enter, alloc1, alloc0, params1, pass1, pass0, free1, free0, agg, whole, sub, look-in, owns, Is, shows, Typed, u8, u64, RefT, MutRef, ptr-vals, mut-tells, sliceTy, sliceVal, slice-vals, MutSlice, Room, heres, finally, codedHoleys, at-slice, mut-slice-tells, Held, pureI, row, place-is, elem-out, elem-back, elem-put, opens-slice, closes-slice, array-tells, array-lawful, array-makes, plain, only, owned, peeks, heard, nothing, yes, Contract, Triple, calls-at, ensured, lasts, onEntry, tripleOf, cited, says, needs, Stays, stay-none, gave-ref, stay-slice, gave-slice, walkOf, AllGo, goes-none, goes-gave-ref, goes-slice, goes-gave-slice, Walks, ends-at, walked, Holds, Mem, list-of, record-of, closes-walk}
+use Rattle.lent.proofs.Walk.{_≡_, refl, ap, subst, sym, [], _∷_, List, map, ℕ, _≤_, _<_, _^_, _*_, arith, ltb, ltb→lt, length, set, getD, length-set, fullShare, URA, named, w64, Ty, tyInt, tyRef, mut, erased, tyPtr, tyArray, Val, vint, vptr, WT, hasTy, Lft, Share, ftrue, fat, froom, fdies, flft, fres, fobs, fauth, fbor, fobor, SProp, ent, id⊢, Routine, Heap, Calls, Loops, WpFn, Atoms, Fun, fact, givenOf, tables, FmC, Given, Item, Go, nth, Sq, runs, atRet, ‵, raw, _⊛_, some, later, ⋆, _$_, _∵_, !, qed, by, move, keep, drop, use1, group, split, join, pick, rewrite, fsplit, fjoin, feqL, suffices, frame, await, done, Reads, look, look-raw, init, store-raw, stop, hop, fld, from, load, lit, addr, of-opd, bin, and-then, no-more, assigns, land, returns, enter, alloc1, alloc0, params1, pass1, pass0, agg, whole, sub, look-in, owns, Is, shows, Typed, u8, u64, RefT, MutRef, ptr-vals, mut-tells, sliceTy, sliceVal, slice-vals, MutSlice, Room, heres, finally, codedHoleys, at-slice, mut-slice-tells, Held, pureI, row, place-is, elem-out, elem-back, elem-put, opens-slice, closes-slice, array-tells, array-lawful, array-makes, plain, only, owned, peeks, heard, nothing, yes, Contract, Triple, calls-at, ensured, lasts, onEntry, tripleOf, cited, says, needs, Stays, stay-none, gave-ref, stay-slice, gave-slice, walkOf, AllGo, goes-none, goes-gave-ref, goes-slice, goes-gave-slice, Walks, ends-at, walked, Holds, Mem, list-of, record-of, closes-walk, free-all, held}
 use denote.Struct.Laws as LL
 use denote.Enum.Laws as EL
 use Rattle.types.specs.Raw.{rawBytes}
@@ -157,15 +157,7 @@ module _ {M : Type 1} (𝓤 : URA M) (H : Heap 𝓤) (A : Atoms 𝓤) (W : Given
         elem-put ! G.the-row fullShare (xg .now) (r .«segment_at») (r .segment) (G-vals (r .segment)) (xg .ptr .0) (xg .ptr .1) (here r big (e .0)) $
         assigns ! (of-opd ! (load ! (from ! (stop !)) (look ! 64 refl))) (from ! (stop !)) (init ! 86 refl (LL.lawful O.the-type O′.the-laws 𝓤 H A W .typed r _ is .0)) $ move ! (0 ∷ 7 ∷ 8 ∷ 9 ∷ []) $
         closes-slice ! tt G.the-row (xg .now) (set (xg .now) (r .«segment_at») (r .segment)) (length-set (xg .now) (r .«segment_at») (r .segment)) (xg .ptr .0) (xg .ptr .1) $ returns ! (look ! 85 refl) $
-        forget ! 9 refl $ forget ! 11 refl $ forget ! 13 refl $ forget ! 15 refl $ forget ! 17 refl $ forget ! 19 refl $ forget ! 21 refl $ forget ! 23 refl $ forget ! 25 refl $ forget ! 27 refl $ forget ! 29 refl $ forget ! 31 refl $ forget ! 33 refl $ forget ! 35 refl $ forget ! 37 refl $ forget ! 39 refl $ forget ! 41 refl $ forget ! 43 refl $ forget ! 45 refl $ forget ! 47 refl $ forget ! 49 refl $ forget ! 51 refl $ forget ! 53 refl $ forget ! 55 refl $ forget ! 57 refl $ forget ! 59 refl $ forget ! 61 refl $ forget ! 63 refl $ forget ! 65 refl $ forget ! 67 refl $ forget ! 69 refl $ forget ! 71 refl $ forget ! 73 refl $ forget ! 75 refl $ forget ! 77 refl $ forget ! 79 refl $ forget ! 81 refl $ forget ! 83 refl $ forget ! 85 refl $
-        move ! (85 ∷ 86 ∷ []) $ free1 ! $ move ! (83 ∷ 84 ∷ []) $ free1 ! $ move ! (81 ∷ 82 ∷ []) $ free1 ! $ move ! (79 ∷ 80 ∷ []) $ free1 ! $ move ! (77 ∷ 78 ∷ []) $ free1 ! $ move ! (75 ∷ 76 ∷ []) $
-        free1 ! $ move ! (73 ∷ 74 ∷ []) $ free1 ! $ move ! (71 ∷ 72 ∷ []) $ free1 ! $ move ! (69 ∷ 70 ∷ []) $ free1 ! $ move ! (67 ∷ 68 ∷ []) $ free1 ! $ move ! (65 ∷ 66 ∷ []) $ free1 ! $
-        move ! (63 ∷ 64 ∷ []) $ free1 ! $ move ! (61 ∷ 62 ∷ []) $ free1 ! $ move ! (59 ∷ 60 ∷ []) $ free1 ! $ move ! (57 ∷ 58 ∷ []) $ free1 ! $ move ! (55 ∷ 56 ∷ []) $ free1 ! $ move ! (53 ∷ 54 ∷ []) $
-        free1 ! $ move ! (51 ∷ 52 ∷ []) $ free1 ! $ move ! (49 ∷ 50 ∷ []) $ free1 ! $ move ! (47 ∷ 48 ∷ []) $ free1 ! $ move ! (45 ∷ 46 ∷ []) $ free1 ! $ move ! (43 ∷ 44 ∷ []) $ free1 ! $
-        move ! (41 ∷ 42 ∷ []) $ free1 ! $ move ! (39 ∷ 40 ∷ []) $ free1 ! $ move ! (37 ∷ 38 ∷ []) $ free1 ! $ move ! (35 ∷ 36 ∷ []) $ free1 ! $ move ! (33 ∷ 34 ∷ []) $ free1 ! $ move ! (31 ∷ 32 ∷ []) $
-        free1 ! $ move ! (29 ∷ 30 ∷ []) $ free1 ! $ move ! (27 ∷ 28 ∷ []) $ free1 ! $ move ! (25 ∷ 26 ∷ []) $ free1 ! $ move ! (23 ∷ 24 ∷ []) $ free1 ! $ move ! (21 ∷ 22 ∷ []) $ free1 ! $
-        move ! (19 ∷ 20 ∷ []) $ free1 ! $ move ! (17 ∷ 18 ∷ []) $ free1 ! $ move ! (15 ∷ 16 ∷ []) $ free1 ! $ move ! (13 ∷ 14 ∷ []) $ free1 ! $ move ! (11 ∷ 12 ∷ []) $ free1 ! $ move ! (9 ∷ 10 ∷ []) $
-        free1 ! $ free0 ! $ keep ! (0 ∷ 1 ∷ 2 ∷ 3 ∷ 8 ∷ 7 ∷ 6 ∷ 5 ∷ 4 ∷ []) $ by ! (exits r yd′ yf′ bs′ cs′ ks′ e len-bs len-cs len-ks is))
+        move ! (85 ∷ 86 ∷ 83 ∷ 84 ∷ 81 ∷ 82 ∷ 79 ∷ 80 ∷ 77 ∷ 78 ∷ 75 ∷ 76 ∷ 73 ∷ 74 ∷ 71 ∷ 72 ∷ 69 ∷ 70 ∷ 67 ∷ 68 ∷ 65 ∷ 66 ∷ 63 ∷ 64 ∷ 61 ∷ 62 ∷ 59 ∷ 60 ∷ 57 ∷ 58 ∷ 55 ∷ 56 ∷ 53 ∷ 54 ∷ 51 ∷ 52 ∷ 49 ∷ 50 ∷ 47 ∷ 48 ∷ 45 ∷ 46 ∷ 43 ∷ 44 ∷ 41 ∷ 42 ∷ 39 ∷ 40 ∷ 37 ∷ 38 ∷ 35 ∷ 36 ∷ 33 ∷ 34 ∷ 31 ∷ 32 ∷ 29 ∷ 30 ∷ 27 ∷ 28 ∷ 25 ∷ 26 ∷ 23 ∷ 24 ∷ 21 ∷ 22 ∷ 19 ∷ 20 ∷ 17 ∷ 18 ∷ 15 ∷ 16 ∷ 13 ∷ 14 ∷ 11 ∷ 12 ∷ 9 ∷ 10 ∷ []) $ free-all ! (held _ l0 _ ∷ held _ l1 _ ∷ held _ l2 _ ∷ held _ l3 _ ∷ held _ l4 _ ∷ held _ l5 _ ∷ held _ l6 _ ∷ held _ l7 _ ∷ held _ l8 _ ∷ held _ l9 _ ∷ held _ l10 _ ∷ held _ l11 _ ∷ held _ l12 _ ∷ held _ l13 _ ∷ held _ l14 _ ∷ held _ l15 _ ∷ held _ l16 _ ∷ held _ l17 _ ∷ held _ l18 _ ∷ held _ l19 _ ∷ held _ l20 _ ∷ held _ l21 _ ∷ held _ l22 _ ∷ held _ l23 _ ∷ held _ l24 _ ∷ held _ l25 _ ∷ held _ l26 _ ∷ held _ l27 _ ∷ held _ l28 _ ∷ held _ l29 _ ∷ held _ l30 _ ∷ held _ l31 _ ∷ held _ l32 _ ∷ held _ l33 _ ∷ held _ l34 _ ∷ held _ l35 _ ∷ held _ l36 _ ∷ held _ l37 _ ∷ held _ l38 _ ∷ []) $ keep ! (0 ∷ 1 ∷ 2 ∷ 3 ∷ 8 ∷ 7 ∷ 6 ∷ 5 ∷ 4 ∷ []) $ by ! (exits r yd′ yf′ bs′ cs′ ks′ e len-bs len-cs len-ks is))
 
     -- from where the records are read
     middle : (l0 l1 l2 l3 l4 l5 l6 l7 l8 l9 l10 l11 l12 l13 l14 l15 l16 l17 l18 l19 l20 l21 l22 l23 l24 l25 l26 l27 l28 l29 l30 l31 l32 l33 l34 l35 l36 l37 l38 : ℕ) (σbs σcs σks σxg σyd σyf τ1 τ2 τ9 τ10 τ13 τ14 τ15 τ16 τ17 τ18 τ19 τ20 τ21 τ22 τ23 τ24 τ25 τ26 τ27 τ28 : Ty) (w-13 w-14 w-15 w-16 w-17 w-18 w-19 w-20 w-21 w-22 w-23 w-24 w-25 w-26 w-27 w-28 : Val)

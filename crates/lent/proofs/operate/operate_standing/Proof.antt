@@ -1,5 +1,5 @@
 -- `lent::operate::operate_standing` meets its contract, by a walk of its code. Assumes nothing.
-use Rattle.lent.proofs.Walk.{_≡_, refl, ap, subst, [], _∷_, List, ℕ, length, fullShare, URA, named, Ty, tyRef, mut, erased, Val, Lft, Share, ftrue, fat, froom, fdies, flft, fobs, fauth, fbor, fobor, SProp, ent, emp, via, fst∗, id⊢, Routine, Heap, Calls, Loops, WpFn, Atoms, Fun, fact, givenOf, tables, FmC, Given, Item, Go, nth, Sq, runs, atRet, ‵, raw, _⊛_, some, later, ⋆, _$_, _∵_, !, qed, by, move, keep, drop, use1, group, split, join, pick, rewrite, fsplit, fsplit3, fjoin, fjoin3, feqL, feqI, suffices, frame, await, done, Reads, look, look-raw, init, store-raw, forget, stop, hop, fld, from, load, addr, of-opd, and-then, no-more, assigns, land, returns, enter, alloc1, alloc0, params1, pass1, pass0, free1, free0, agg, whole, sub, look-in, Body, owns, Is, shows, Typed, mem, cellAt, u8, u64, RefT, MutRef, ptr-vals, mut-tells, sliceTy, slice-vals, MutSlice, Room, finally, mut-slice-tells, array-tells, array-lawful, array-makes, plain, only, opens, closes, owned, peeks, heard, nothing, spelt, yes, Contract, Triple, calls-at, ensured, lasts, onEntry, tripleOf, cited, says, Stays, stay-none, stay-ref, gave-slice, walkOf, AllGo, goes-none, goes-ref, goes-gave-slice, Walks, ends-at, walked, Mem, list-of, record-of, closes-walk}
+use Rattle.lent.proofs.Walk.{_≡_, refl, ap, subst, [], _∷_, List, ℕ, length, fullShare, URA, named, Ty, tyRef, mut, erased, Val, Lft, Share, ftrue, fat, froom, fdies, flft, fobs, fauth, fbor, fobor, SProp, ent, emp, via, fst∗, id⊢, Routine, Heap, Calls, Loops, WpFn, Atoms, Fun, fact, givenOf, tables, FmC, Given, Item, Go, nth, Sq, runs, atRet, ‵, raw, _⊛_, some, later, ⋆, _$_, _∵_, !, qed, by, move, keep, drop, use1, group, split, join, pick, rewrite, fsplit, fsplit3, fjoin, fjoin3, feqL, feqI, suffices, frame, await, done, Reads, look, look-raw, init, store-raw, stop, hop, fld, from, load, addr, of-opd, and-then, no-more, assigns, land, returns, enter, alloc1, alloc0, params1, pass1, pass0, agg, whole, sub, look-in, Body, owns, Is, shows, Typed, mem, cellAt, u8, u64, RefT, MutRef, ptr-vals, mut-tells, sliceTy, slice-vals, MutSlice, Room, finally, mut-slice-tells, array-tells, array-lawful, array-makes, plain, only, opens, closes, owned, peeks, heard, nothing, spelt, yes, Contract, Triple, calls-at, ensured, lasts, onEntry, tripleOf, cited, says, Stays, stay-none, stay-ref, gave-slice, walkOf, AllGo, goes-none, goes-ref, goes-gave-slice, Walks, ends-at, walked, Mem, list-of, record-of, closes-walk, free-all, held}
 use denote.Struct.Laws as LL
 use denote.Enum.Laws as EL
 use Rattle.types.specs.Raw.{rawBytes}
@@ -136,11 +136,7 @@ module _ {M : Type 1} (𝓤 : URA M) (H : Heap 𝓤) (A : Atoms 𝓤) (W : Given
         owned ! D.the-row (Is D.the-row) (LL.makes D.the-type D′.the-plain 𝓤 H A) (r .standing) _ (new-D r _ is) $ move ! (9 ∷ 0 ∷ 10 ∷ 11 ∷ 12 ∷ []) $
         closes ! tt D.the-row (r .standing) (D-vals (r .standing)) (yd .ptr .0) (yd .ptr .1) $ owned ! F.the-row (Is F.the-row) (LL.makes F.the-type F′.the-plain 𝓤 H A) (r .fuel) _ (new-F r _ is) $
         move ! (8 ∷ 0 ∷ 9 ∷ 10 ∷ 11 ∷ []) $ closes ! tt F.the-row (r .fuel) (F-vals (r .fuel)) (yf .ptr .0) (yf .ptr .1) $ returns ! (look ! 46 refl) $
-        forget ! 10 refl $ forget ! 12 refl $ forget ! 14 refl $ forget ! 16 refl $ forget ! 18 refl $ forget ! 20 refl $ forget ! 22 refl $ forget ! 24 refl $ forget ! 26 refl $ forget ! 28 refl $ forget ! 30 refl $ forget ! 32 refl $ forget ! 34 refl $ forget ! 36 refl $ forget ! 38 refl $ forget ! 40 refl $ forget ! 42 refl $ forget ! 44 refl $ forget ! 46 refl $
-        move ! (46 ∷ 47 ∷ []) $ free1 ! $ move ! (44 ∷ 45 ∷ []) $ free1 ! $ move ! (42 ∷ 43 ∷ []) $ free1 ! $ move ! (40 ∷ 41 ∷ []) $ free1 ! $ move ! (38 ∷ 39 ∷ []) $ free1 ! $ move ! (36 ∷ 37 ∷ []) $
-        free1 ! $ move ! (34 ∷ 35 ∷ []) $ free1 ! $ move ! (32 ∷ 33 ∷ []) $ free1 ! $ move ! (30 ∷ 31 ∷ []) $ free1 ! $ move ! (28 ∷ 29 ∷ []) $ free1 ! $ move ! (26 ∷ 27 ∷ []) $ free1 ! $
-        move ! (24 ∷ 25 ∷ []) $ free1 ! $ move ! (22 ∷ 23 ∷ []) $ free1 ! $ move ! (20 ∷ 21 ∷ []) $ free1 ! $ move ! (18 ∷ 19 ∷ []) $ free1 ! $ move ! (16 ∷ 17 ∷ []) $ free1 ! $ move ! (14 ∷ 15 ∷ []) $
-        free1 ! $ move ! (12 ∷ 13 ∷ []) $ free1 ! $ move ! (10 ∷ 11 ∷ []) $ free1 ! $ free0 ! $ keep ! (3 ∷ 4 ∷ 5 ∷ 0 ∷ 1 ∷ 2 ∷ 6 ∷ 9 ∷ 8 ∷ 7 ∷ []) $ by ! (exits r bs′ cs′ ks′ e len-bs len-cs len-ks is)
+        move ! (46 ∷ 47 ∷ 44 ∷ 45 ∷ 42 ∷ 43 ∷ 40 ∷ 41 ∷ 38 ∷ 39 ∷ 36 ∷ 37 ∷ 34 ∷ 35 ∷ 32 ∷ 33 ∷ 30 ∷ 31 ∷ 28 ∷ 29 ∷ 26 ∷ 27 ∷ 24 ∷ 25 ∷ 22 ∷ 23 ∷ 20 ∷ 21 ∷ 18 ∷ 19 ∷ 16 ∷ 17 ∷ 14 ∷ 15 ∷ 12 ∷ 13 ∷ 10 ∷ 11 ∷ []) $ free-all ! (held _ l0 _ ∷ held _ l1 _ ∷ held _ l2 _ ∷ held _ l3 _ ∷ held _ l4 _ ∷ held _ l5 _ ∷ held _ l6 _ ∷ held _ l7 _ ∷ held _ l8 _ ∷ held _ l9 _ ∷ held _ l10 _ ∷ held _ l11 _ ∷ held _ l12 _ ∷ held _ l13 _ ∷ held _ l14 _ ∷ held _ l15 _ ∷ held _ l16 _ ∷ held _ l17 _ ∷ held _ l18 _ ∷ []) $ keep ! (3 ∷ 4 ∷ 5 ∷ 0 ∷ 1 ∷ 2 ∷ 6 ∷ 9 ∷ 8 ∷ 7 ∷ []) $ by ! (exits r bs′ cs′ ks′ e len-bs len-cs len-ks is)
 
     -- the code, from the first statement on
     start : (l0 l1 l2 l3 l4 l5 l6 l7 l8 l9 l10 l11 l12 l13 l14 l15 l16 l17 l18 : ℕ) (σbs σcs σks σyd σyf τ1 τ2 τ3 τ9 : Ty)

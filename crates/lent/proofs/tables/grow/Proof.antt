@@ -1,5 +1,5 @@
 -- `lent::tables::grow` meets its contract, by a walk of its code: a list with too few places is refused. Assumes nothing.
-use Rattle.lent.proofs.Walk.{_≡_, refl, sym, [], _∷_, List, ℕ, _≤_, _<_, _^_, ltb→lt, nltb→le, lit<, length, URA, named, w64, Val, vint, Lft, Share, ftrue, flft, fres, SProp, ent, emp, via, fst∗, id⊢, Routine, Heap, Calls, Loops, WpFn, Atoms, Fun, fact, givenOf, tables, FmC, Given, Item, atRet, ‵, raw, _⊛_, some, later, ⋆, _$_, _∵_, !, qed, by, move, keep, drop, use1, group, split, join, pick, fsplit, fsplit3, fjoin, feqL, suffices, frame, await, done, look, init, forget, stop, hop, fld, from, load, lit, addr, of-opd, bin, and-then, no-more, assigns, land, first, branches, skips, exec, returns-within, returns, enter, alloc1, alloc0, params1, pass1, pass0, free1, free0, agg, whole, sub, look-in, name-done, owns, Is, shows, uint-makes, uint-vals, uint-tells, u64, usize, RefT, MutRef, ptr-vals, mut-tells, slice-vals, MutSlice, Room, finally, res-finally, mut-slice-tells, plain, owned, peeks, heard, nothing, yes, Contract, Triple, calls-at, ensured, lasts, onEntry, tripleOf, cited, says, Stays, stay-none, gave-ref, gave-slice, walkOf, AllGo, goes-none, goes-gave-ref, goes-gave-slice, Walks, ends-at, walked, Mem, list-of, record-of, closes-walk}
+use Rattle.lent.proofs.Walk.{_≡_, refl, sym, [], _∷_, List, ℕ, _≤_, _<_, _^_, ltb→lt, nltb→le, lit<, length, URA, named, w64, Val, vint, Lft, Share, ftrue, flft, fres, SProp, ent, emp, via, fst∗, id⊢, Routine, Heap, Calls, Loops, WpFn, Atoms, Fun, fact, givenOf, tables, FmC, Given, Item, atRet, ‵, raw, _⊛_, some, later, ⋆, _$_, _∵_, !, qed, by, move, keep, drop, use1, group, split, join, pick, fsplit, fsplit3, fjoin, feqL, suffices, frame, await, done, look, init, stop, hop, fld, from, load, lit, addr, of-opd, bin, and-then, no-more, assigns, land, first, branches, skips, exec, returns-within, returns, enter, alloc1, alloc0, params1, pass1, pass0, agg, whole, sub, look-in, name-done, owns, Is, shows, uint-makes, uint-vals, uint-tells, u64, usize, RefT, MutRef, ptr-vals, mut-tells, slice-vals, MutSlice, Room, finally, res-finally, mut-slice-tells, plain, owned, peeks, heard, nothing, yes, Contract, Triple, calls-at, ensured, lasts, onEntry, tripleOf, cited, says, Stays, stay-none, gave-ref, gave-slice, walkOf, AllGo, goes-none, goes-gave-ref, goes-gave-slice, Walks, ends-at, walked, Mem, list-of, record-of, closes-walk, free-all, held, bare}
 use denote.Struct.Laws as LL
 use denote.Enum.Laws as EL
 use Rattle.types.specs.Answer.{refusal, refuse}
@@ -124,11 +124,7 @@ module _ {M : Type 1} (𝓤 : URA M) (H : Heap 𝓤) (A : Atoms 𝓤) (W : Given
         name-done ! tt $ use1 W (‵ (finally B.the-row (xs .name) (xs .now))) (res-finally 𝓤 H A W (named 0) κ0 B.the-row (xs .name) (xs .now)) $ move ! (3 ∷ []) $ fsplit ! $ move ! (1 ∷ []) $ fsplit ! $
         move ! (1 ∷ []) $ drop ! $ move ! (1 ∷ []) $ drop ! $ name-done ! tt $ use1 W (‵ (finally u64 (cs .name) (cs .now))) (res-finally 𝓤 H A W (named 1) κ1 u64 (cs .name) (cs .now)) $ move ! (3 ∷ []) $
         fsplit3 ! $ drop ! $ move ! (1 ∷ []) $ drop ! $ name-done ! tt $ move ! (3 ∷ []) $ fsplit3 ! $ drop ! $ move ! (1 ∷ []) $ drop ! $ name-done ! tt $ returns-within ! Post refl (look ! 42 refl) $
-        forget ! 42 refl $ forget ! 40 refl $ forget ! 38 refl $ forget ! 36 refl $ forget ! 34 refl $ forget ! 32 refl $ forget ! 30 refl $ forget ! 28 refl $ forget ! 26 refl $ forget ! 24 refl $ forget ! 22 refl $ forget ! 20 refl $
-        move ! (42 ∷ 43 ∷ []) $ free1 ! $ move ! (40 ∷ 41 ∷ []) $ free1 ! $ move ! (38 ∷ 39 ∷ []) $ free1 ! $ move ! (36 ∷ 37 ∷ []) $ free1 ! $ move ! (34 ∷ 35 ∷ []) $ free1 ! $ move ! (32 ∷ 33 ∷ []) $
-        free1 ! $ move ! (30 ∷ 31 ∷ []) $ free1 ! $ move ! (28 ∷ 29 ∷ []) $ free1 ! $ move ! (26 ∷ 27 ∷ []) $ free1 ! $ move ! (24 ∷ 25 ∷ []) $ free1 ! $ move ! (22 ∷ 23 ∷ []) $ free1 ! $
-        move ! (20 ∷ 21 ∷ []) $ free1 ! $ move ! (18 ∷ 19 ∷ []) $ free1 ! $ move ! (16 ∷ 17 ∷ []) $ free1 ! $ move ! (14 ∷ 15 ∷ []) $ free1 ! $ move ! (12 ∷ 13 ∷ []) $ free1 ! $ move ! (10 ∷ 11 ∷ []) $
-        free1 ! $ move ! (8 ∷ 9 ∷ []) $ free1 ! $ free0 ! $ owned ! S.the-row (Is S.the-row) (EL.makes S.the-type S′.the-plain 𝓤 H A) (refuse 19 0) _ is19 $ keep ! (8 ∷ 7 ∷ 6 ∷ 5 ∷ 4 ∷ 3 ∷ 2 ∷ 1 ∷ 0 ∷ []) $
+        move ! (42 ∷ 43 ∷ 40 ∷ 41 ∷ 38 ∷ 39 ∷ 36 ∷ 37 ∷ 34 ∷ 35 ∷ 32 ∷ 33 ∷ 30 ∷ 31 ∷ 28 ∷ 29 ∷ 26 ∷ 27 ∷ 24 ∷ 25 ∷ 22 ∷ 23 ∷ 20 ∷ 21 ∷ 18 ∷ 19 ∷ 16 ∷ 17 ∷ 14 ∷ 15 ∷ 12 ∷ 13 ∷ 10 ∷ 11 ∷ 8 ∷ 9 ∷ []) $ free-all ! (held _ l0 _ ∷ held _ l1 _ ∷ held _ l2 _ ∷ held _ l3 _ ∷ held _ l4 _ ∷ held _ l5 _ ∷ held _ l6 _ ∷ held _ l7 _ ∷ held _ l8 _ ∷ held _ l9 _ ∷ held _ l10 _ ∷ held _ l11 _ ∷ bare _ l12 ∷ bare _ l13 ∷ bare _ l14 ∷ bare _ l15 ∷ bare _ l16 ∷ bare _ l17 ∷ []) $ owned ! S.the-row (Is S.the-row) (EL.makes S.the-type S′.the-plain 𝓤 H A) (refuse 19 0) _ is19 $ keep ! (8 ∷ 7 ∷ 6 ∷ 5 ∷ 4 ∷ 3 ∷ 2 ∷ 1 ∷ 0 ∷ []) $
         by ! (exits (refuse 19 0) (xs .now) (cs .now) (yf .now) (yl .now) (sym (table-answers rawBytes d v .short n i l (ltb→lt (length (xs .now)) 8 few))) refl refl _))
         -- the list has its places
         (λ many. skips ! $ exec ! C Λ _ t-4 (atRet _ Post) $ assigns ! (addr ! (from ! (fld ! refl (hop ! (look-in ! 40 (sub ! 0 refl (whole !))) (stop !))))) (from ! (stop !)) (init ! 18 refl (tt, tt)) $
@@ -147,11 +143,7 @@ module _ {M : Type 1} (𝓤 : URA M) (H : Heap 𝓤) (A : Atoms 𝓤) (W : Given
         move ! (1 ∷ []) $ fsplit ! $ move ! (1 ∷ []) $ drop ! $ move ! (4 ∷ []) $ split ! $ split ! $ move ! (1 ∷ []) $ split ! $ move ! (1 ∷ []) $ split ! $ move ! (1 ∷ []) $ split ! $ move ! (1 ∷ []) $
         drop ! $ move ! (4 ∷ []) $ peeks ! S.the-row (Is S.the-row) (shows 𝓤 H A S.the-row) r (v′ ∷ []) (λ is.
         land ! (from ! (stop !)) (init ! 43 refl (EL.lawful S.the-type S′.the-laws 𝓤 H A W tt .typed r _ is .0)) $ returns ! (look ! 43 refl) $
-        forget ! 43 refl $ forget ! 41 refl $ forget ! 39 refl $ forget ! 37 refl $ forget ! 35 refl $ forget ! 33 refl $ forget ! 31 refl $ forget ! 29 refl $ forget ! 27 refl $ forget ! 25 refl $ forget ! 23 refl $ forget ! 19 refl $ forget ! 17 refl $ forget ! 15 refl $ forget ! 13 refl $ forget ! 11 refl $ forget ! 9 refl $
-        move ! (43 ∷ 44 ∷ []) $ free1 ! $ move ! (41 ∷ 42 ∷ []) $ free1 ! $ move ! (39 ∷ 40 ∷ []) $ free1 ! $ move ! (37 ∷ 38 ∷ []) $ free1 ! $ move ! (35 ∷ 36 ∷ []) $ free1 ! $ move ! (33 ∷ 34 ∷ []) $
-        free1 ! $ move ! (31 ∷ 32 ∷ []) $ free1 ! $ move ! (29 ∷ 30 ∷ []) $ free1 ! $ move ! (27 ∷ 28 ∷ []) $ free1 ! $ move ! (25 ∷ 26 ∷ []) $ free1 ! $ move ! (23 ∷ 24 ∷ []) $ free1 ! $
-        move ! (21 ∷ 22 ∷ []) $ free1 ! $ move ! (19 ∷ 20 ∷ []) $ free1 ! $ move ! (17 ∷ 18 ∷ []) $ free1 ! $ move ! (15 ∷ 16 ∷ []) $ free1 ! $ move ! (13 ∷ 14 ∷ []) $ free1 ! $ move ! (11 ∷ 12 ∷ []) $
-        free1 ! $ move ! (9 ∷ 10 ∷ []) $ free1 ! $ free0 ! $ keep ! (4 ∷ 3 ∷ 2 ∷ 1 ∷ 8 ∷ 7 ∷ 6 ∷ 5 ∷ 0 ∷ []) $
+        move ! (43 ∷ 44 ∷ 41 ∷ 42 ∷ 39 ∷ 40 ∷ 37 ∷ 38 ∷ 35 ∷ 36 ∷ 33 ∷ 34 ∷ 31 ∷ 32 ∷ 29 ∷ 30 ∷ 27 ∷ 28 ∷ 25 ∷ 26 ∷ 23 ∷ 24 ∷ 21 ∷ 22 ∷ 19 ∷ 20 ∷ 17 ∷ 18 ∷ 15 ∷ 16 ∷ 13 ∷ 14 ∷ 11 ∷ 12 ∷ 9 ∷ 10 ∷ []) $ free-all ! (held _ l0 _ ∷ held _ l1 _ ∷ held _ l2 _ ∷ held _ l3 _ ∷ held _ l4 _ ∷ held _ l5 _ ∷ held _ l6 _ ∷ held _ l7 _ ∷ held _ l8 _ ∷ held _ l9 _ ∷ held _ l10 _ ∷ bare _ l11 ∷ held _ l12 _ ∷ held _ l13 _ ∷ held _ l14 _ ∷ held _ l15 _ ∷ held _ l16 _ ∷ held _ l17 _ ∷ []) $ keep ! (4 ∷ 3 ∷ 2 ∷ 1 ∷ 8 ∷ 7 ∷ 6 ∷ 5 ∷ 0 ∷ []) $
         by ! (exits r (ws .0) (ws .1 .1 .1 .0) (ws .1 .1 .1 .1 .1 .1 .0) (ws .1 .1 .1 .1 .1 .1 .1 .0) e same-xs same-cs v′)))))))))))))))))))))))))))
 
 module _ {M : Type 1} (𝓤 : URA M) (H : Heap 𝓤) (A : Atoms 𝓤) (W : Given 𝓤 H A) (at-mem : Mem → SProp 𝓤) (run : Routine → Fun 𝓤) where

@@ -1,5 +1,5 @@
 -- `lent::tables::grow_here` meets its contract, by a walk of its code: the first 8 records are read, one is grown, and its size, the fuel left and the script's place are written back. Assumes nothing.
-use Rattle.lent.proofs.Walk.{_≡_, refl, ap, subst, sym, [], _∷_, List, map, ℕ, _≤_, _<_, _^_, _*_, arith, ltb, ltb→lt, length, set, getD, length-set, fullShare, URA, named, w64, tyInt, tyPtr, Val, vint, vptr, WT, hasTy, Lft, Share, ftrue, fat, flft, fobs, fbor, SProp, ent, id⊢, Routine, Heap, Calls, Loops, WpFn, Atoms, Fun, fact, givenOf, tables, FmC, Given, Item, ‵, raw, _⊛_, some, later, ⋆, _$_, _∵_, !, qed, by, move, keep, drop, use1, group, split, join, pick, rewrite, fsplit, fsplit3, fjoin, fjoin3, feqL, feqI, suffices, frame, await, done, look, look-raw, init, forget, stop, hop, fld, from, load, lit, addr, of-opd, bin, and-then, no-more, assigns, land, returns, enter, alloc1, alloc0, params1, pass1, pass0, free1, free0, agg, whole, sub, look-in, Body, owns, Is, shows, mem, uint-makes, uint-vals, uint-tells, u64, usize, RefT, MutRef, ptr-vals, mut-tells, sliceVal, slice-vals, MutSlice, Room, heres, finally, codedHoleys, at-slice, mut-slice-tells, Held, pureI, place-is, elem-out, elem-back, elem-put, opens-slice, closes-slice, array-lawful, array-makes, plain, only, opens, closes, owned, peeks, heard, nothing, spelt, yes, Contract, Triple, calls-at, ensured, lasts, onEntry, tripleOf, cited, says, needs, Stays, stay-none, stay-ref, stay-slice, gave-slice, walkOf, AllGo, goes-none, goes-ref, goes-slice, goes-gave-slice, Walks, ends-at, walked, Holds, Mem, list-of, record-of, closes-walk}
+use Rattle.lent.proofs.Walk.{_≡_, refl, ap, subst, sym, [], _∷_, List, map, ℕ, _≤_, _<_, _^_, _*_, arith, ltb, ltb→lt, length, set, getD, length-set, fullShare, URA, named, w64, tyInt, tyPtr, Val, vint, vptr, WT, hasTy, Lft, Share, ftrue, fat, flft, fobs, fbor, SProp, ent, id⊢, Routine, Heap, Calls, Loops, WpFn, Atoms, Fun, fact, givenOf, tables, FmC, Given, Item, ‵, raw, _⊛_, some, later, ⋆, _$_, _∵_, !, qed, by, move, keep, drop, use1, group, split, join, pick, rewrite, fsplit, fsplit3, fjoin, fjoin3, feqL, feqI, suffices, frame, await, done, look, look-raw, init, forget, stop, hop, fld, from, load, lit, addr, of-opd, bin, and-then, no-more, assigns, land, returns, enter, alloc1, alloc0, params1, pass1, pass0, agg, whole, sub, look-in, Body, owns, Is, shows, mem, uint-makes, uint-vals, uint-tells, u64, usize, RefT, MutRef, ptr-vals, mut-tells, sliceVal, slice-vals, MutSlice, Room, heres, finally, codedHoleys, at-slice, mut-slice-tells, Held, pureI, place-is, elem-out, elem-back, elem-put, opens-slice, closes-slice, array-lawful, array-makes, plain, only, opens, closes, owned, peeks, heard, nothing, spelt, yes, Contract, Triple, calls-at, ensured, lasts, onEntry, tripleOf, cited, says, needs, Stays, stay-none, stay-ref, stay-slice, gave-slice, walkOf, AllGo, goes-none, goes-ref, goes-slice, goes-gave-slice, Walks, ends-at, walked, Holds, Mem, list-of, record-of, closes-walk, free-all, held, bare}
 use denote.Struct.Laws as LL
 use denote.Enum.Laws as EL
 use Rattle.types.specs.Raw.{rawBytes}
@@ -242,13 +242,7 @@ module _ {M : Type 1} (𝓤 : URA M) (H : Heap 𝓤) (A : Atoms 𝓤) (W : Given
         owned ! Lm.the-row (Is Lm.the-row) (LL.makes Lm.the-type Lm′.the-plain 𝓤 H A) (limiter′ g) _ (placed-is (yl .now) (g .at) (grown-fits g v′ is .3) was3) $ move ! (9 ∷ 0 ∷ 10 ∷ 11 ∷ 12 ∷ []) $
         closes ! tt Lm.the-row (limiter′ g) (Lm-vals (limiter′ g)) (yl .ptr .0) (yl .ptr .1) $
         owned ! S.the-row (Is S.the-row) (EL.makes S.the-type S′.the-plain 𝓤 H A) (g .answer) _ (grown-answer-is g v′ is) $ returns ! (look ! 76 refl) $
-        forget ! 12 refl $ forget ! 14 refl $ forget ! 56 refl $ forget ! 60 refl $ forget ! 62 refl $ forget ! 74 refl $ forget ! 76 refl $ move ! (76 ∷ 77 ∷ []) $ free1 ! $ move ! (74 ∷ 75 ∷ []) $ free1 ! $
-        move ! (72 ∷ 73 ∷ []) $ free1 ! $ move ! (70 ∷ 71 ∷ []) $ free1 ! $ move ! (68 ∷ 69 ∷ []) $ free1 ! $ move ! (66 ∷ 67 ∷ []) $ free1 ! $ move ! (64 ∷ 65 ∷ []) $ free1 ! $ move ! (62 ∷ 63 ∷ []) $
-        free1 ! $ move ! (60 ∷ 61 ∷ []) $ free1 ! $ move ! (58 ∷ 59 ∷ []) $ free1 ! $ move ! (56 ∷ 57 ∷ []) $ free1 ! $ move ! (54 ∷ 55 ∷ []) $ free1 ! $ move ! (52 ∷ 53 ∷ []) $ free1 ! $
-        move ! (50 ∷ 51 ∷ []) $ free1 ! $ move ! (48 ∷ 49 ∷ []) $ free1 ! $ move ! (46 ∷ 47 ∷ []) $ free1 ! $ move ! (44 ∷ 45 ∷ []) $ free1 ! $ move ! (42 ∷ 43 ∷ []) $ free1 ! $ move ! (40 ∷ 41 ∷ []) $
-        free1 ! $ move ! (38 ∷ 39 ∷ []) $ free1 ! $ move ! (36 ∷ 37 ∷ []) $ free1 ! $ move ! (34 ∷ 35 ∷ []) $ free1 ! $ move ! (32 ∷ 33 ∷ []) $ free1 ! $ move ! (30 ∷ 31 ∷ []) $ free1 ! $
-        move ! (28 ∷ 29 ∷ []) $ free1 ! $ move ! (26 ∷ 27 ∷ []) $ free1 ! $ move ! (24 ∷ 25 ∷ []) $ free1 ! $ move ! (22 ∷ 23 ∷ []) $ free1 ! $ move ! (20 ∷ 21 ∷ []) $ free1 ! $ move ! (18 ∷ 19 ∷ []) $
-        free1 ! $ move ! (16 ∷ 17 ∷ []) $ free1 ! $ move ! (14 ∷ 15 ∷ []) $ free1 ! $ move ! (12 ∷ 13 ∷ []) $ free1 ! $ free0 ! $ keep ! (9 ∷ 10 ∷ 6 ∷ 3 ∷ 7 ∷ 8 ∷ 11 ∷ 4 ∷ 5 ∷ 1 ∷ 2 ∷ 0 ∷ []) $
+        move ! (76 ∷ 77 ∷ 74 ∷ 75 ∷ 72 ∷ 73 ∷ 70 ∷ 71 ∷ 68 ∷ 69 ∷ 66 ∷ 67 ∷ 64 ∷ 65 ∷ 62 ∷ 63 ∷ 60 ∷ 61 ∷ 58 ∷ 59 ∷ 56 ∷ 57 ∷ 54 ∷ 55 ∷ 52 ∷ 53 ∷ 50 ∷ 51 ∷ 48 ∷ 49 ∷ 46 ∷ 47 ∷ 44 ∷ 45 ∷ 42 ∷ 43 ∷ 40 ∷ 41 ∷ 38 ∷ 39 ∷ 36 ∷ 37 ∷ 34 ∷ 35 ∷ 32 ∷ 33 ∷ 30 ∷ 31 ∷ 28 ∷ 29 ∷ 26 ∷ 27 ∷ 24 ∷ 25 ∷ 22 ∷ 23 ∷ 20 ∷ 21 ∷ 18 ∷ 19 ∷ 16 ∷ 17 ∷ 14 ∷ 15 ∷ 12 ∷ 13 ∷ []) $ free-all ! (held _ l0 _ ∷ held _ l1 _ ∷ bare _ l2 ∷ bare _ l3 ∷ bare _ l4 ∷ bare _ l5 ∷ bare _ l6 ∷ held _ l7 _ ∷ held _ l8 _ ∷ bare _ l9 ∷ held _ l10 _ ∷ bare _ l11 ∷ bare _ l12 ∷ bare _ l13 ∷ bare _ l14 ∷ bare _ l15 ∷ bare _ l16 ∷ bare _ l17 ∷ bare _ l18 ∷ bare _ l19 ∷ bare _ l20 ∷ bare _ l21 ∷ bare _ l22 ∷ bare _ l23 ∷ bare _ l24 ∷ bare _ l25 ∷ bare _ l26 ∷ bare _ l27 ∷ bare _ l28 ∷ bare _ l29 ∷ bare _ l30 ∷ held _ l31 _ ∷ held _ l32 _ ∷ []) $ keep ! (9 ∷ 10 ∷ 6 ∷ 3 ∷ 7 ∷ 8 ∷ 11 ∷ 4 ∷ 5 ∷ 1 ∷ 2 ∷ 0 ∷ []) $
         by ! (exits g (ws .1 .1 .1 .0) e same _)))))))))))))))))))))))))))))))))))))))))))))))))))))
 
 module _ {M : Type 1} (𝓤 : URA M) (H : Heap 𝓤) (A : Atoms 𝓤) (W : Given 𝓤 H A) (at-mem : Mem → SProp 𝓤) (run : Routine → Fun 𝓤) where
