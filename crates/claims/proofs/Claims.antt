@@ -6,6 +6,7 @@ use Rattle.machine.proofs.Kept.{step-sound, fresh-sound}
 use Rattle.machine.proofs.Apart.{others-stay, only-sizes}
 use Rattle.lines.proofs.Text.{read-write, read-unique}
 use Rattle.lines.proofs.Pieces.{fed-whole}
+use Rattle.lines.proofs.Hosts.{finished-whole}
 use Rattle.claims.specs.Claims.{Claims}
 use Rattle.claims.proofs.Sessions.{session-is-run, replies-run}
 use Rattle.claims.proofs.Exits.{answer-or-refusal, refusal-leaves, accepted-when, accepted-does}
@@ -52,6 +53,7 @@ claims =
       replies-run = replies-run;
       piece-is-session = λ κs a x s p. p;
       any-cut = fed-whole;
+      finished-whole = finished-whole;
       read-write = read-write;
       read-unique = read-unique;
       worked-cases = worked-cases;

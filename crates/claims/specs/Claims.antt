@@ -1,5 +1,5 @@
 -- What the project promises, over any machine, any buffers and any operations, down to the bytes of a session. `claims` in proofs/Claims.antt is its one value.
-use Rattle.types.specs.Prelude.{ℕ, _+_, _^_, _≤_, _<_, _≡_, Bool, true, false, List, [], length}
+use Rattle.types.specs.Prelude.{ℕ, suc, _+_, _^_, _≤_, _<_, _≡_, Bool, true, false, List, [], length}
 use contract.Lifetimes.{Lfts}
 use borrow.Fn.Kinds.{Dens, resT, endedOf}
 use denote.Triple.Clauses.{AtExit}
@@ -15,7 +15,7 @@ use Rattle.machine.proofs.row.operate.Kinds as row-kinds
 use Rattle.lines.proofs.session.piece.Reads as piece-reads
 use Rattle.lines.proofs.session.piece.Kinds as piece-kinds
 use Rattle.lines.specs.Progress.{progressed, pieceIn}
-use Rattle.lines.specs.{Code.readLine, Writing.writeLine, Sayable.Sayable, Pieces.Feed, Pieces.fedAll, Pieces.whole, declared.code.Read.Read}
+use Rattle.lines.specs.{Code.readLine, Writing.writeLine, Sayable.Sayable, Pieces.lfAt, Pieces.Feed, Pieces.fedAll, Pieces.whole, Input.finished, declared.code.Read.Read}
 use Rattle.lines.specs.Session.{Held, costsOf, linesOf, session}
 use Rattle.lines.proofs.Pieces.{started}
 use Rattle.lent.proofs.operate.operate_kept.Reads as lent-reads
@@ -116,6 +116,9 @@ pub record Claims : Type 0 where
   -- However the input is cut, the bytes sent are the session's.
   pub any-cut : (r : ℕ) (h : Held) (xs : List Feed) → fedAll r (started h) xs .skip ≡ false → fedAll r (started h) xs .tail ≡ []
       → fedAll r (started h) xs .sent ≡ session r h (whole xs)
+  -- At the end of the input a last line gets the LF that it may lack, and the bytes sent are then the session's of all that came in.
+  pub finished-whole : (r k : ℕ) (h : Held) (xs : List Feed) → lfAt (fedAll r (started h) xs .tail) ≡ length (fedAll r (started h) xs .tail)
+      → finished r (suc k) (fedAll r (started h) xs) .sent ≡ session r h (whole xs)
   -- An operation line is read as it is written, and in no other way.
   pub read-write : (op : Operation) → Sayable op → readLine (writeLine op) ≡ Read.Operation op
   pub read-unique : (l : List ℕ) (op : Operation) → readLine l ≡ Read.Operation op → l ≡ writeLine op

@@ -91,7 +91,7 @@ keep-tail input l used end s =
       same = over-span input 0 w (omega arith) ∙ ap (drop used) (s .same);
     }
 
--- A TURN: the bytes that came in, behind what was kept, are run, and what is kept then is what the model leaves
+-- a turn: the bytes that came in, behind what was kept, are run, and what is kept then is what the model leaves
 pub turn-tail : (r : ℕ) (h : Host) (x : Feed) (input : List ℕ) (end : ℕ) → Starts input end (h .tail ++ x .bytes) →
     Starts (keptOf input (ranOf r h x .used) end .cells) (keptOf input (ranOf r h x .used) end .out) (fed r h x .tail)
 unfolding fed
@@ -218,7 +218,7 @@ module _ (r : ℕ) (l : List ℕ) (e : lfAt l ≡ length l) where
       let d : drop (x .used) z ≡ [] = ended-used k (textOf y) (y .held) in
       rw (pick-true _ _ _ (lt-ltb _ _ ended-in)) (rw (close-all z x d) (d, no-skip k r (y .held) (drop (lfAt z + 1) z)))
 
--- THE LAST LINE: it is answered as without the LF that it gets
+-- the last line: it is answered as without the LF that it gets
 pub last-line : (r k : ℕ) (h : Host) → unended (h .skip) (length (h .tail)) ≡ true → lfAt (h .tail) ≡ length (h .tail) →
     fed r h (record { room = suc k; bytes = lf ∷ [] }) .sent ≡ h .sent ++ sessionFrom (h .skip) r (h .held) (h .tail)
 unfolding fed fedAll whole
@@ -228,7 +228,7 @@ last-line r k h t e =
     none-left r (fed r h x) (u .1) (u .0) ∙ fed-all r h (x ∷ [])
     ∙ ap (λ (y : List ℕ). h .sent ++ y) (end-line-same (h .skip) r (h .held) (h .tail) t e)
 
--- THE WHOLE INPUT: a host that has no whole line left has sent, at the end of the input, the session of all bytes that came in
+-- the whole input: a host that has no whole line left has sent, at the end of the input, the session of all bytes that came in
 pub finished-whole : (r k : ℕ) (h : Held) (xs : List Feed) → lfAt (fedAll r (started h) xs .tail) ≡ length (fedAll r (started h) xs .tail) →
     finished r (suc k) (fedAll r (started h) xs) .sent ≡ session r h (whole xs)
 unfolding finished
