@@ -6,6 +6,8 @@ use lent::operate::operate_kept;
 use lines::answer_line::write_answer_line;
 use lines::code::Read;
 use lines::code::read_line;
+use lines::input::end_line;
+use lines::session::Session;
 use machine::operate::Operated;
 use machine::records::Machine;
 use types::answer::Answer;
@@ -143,7 +145,7 @@ fn answer_all(
 }
 
 // A last line that lacks its LF gets it; answers how many bytes there are then.
-fn end_line(input: &mut [u8], n: usize) -> usize {
+fn ended(input: &mut [u8], n: usize) -> usize {
     if n == 0 {
         return 0;
     }
@@ -153,8 +155,7 @@ fn end_line(input: &mut [u8], n: usize) -> usize {
     if input[n - 1] == 10 {
         return n;
     }
-    input[n] = 10;
-    n + 1
+    end_line(Session::new(), input, n)
 }
 
 // The answers to the first bytes of the input, then the cells.
@@ -192,7 +193,7 @@ fn run(bytes: &mut [u8], cells: &mut [u64], items: &mut [u64], input: &mut [u8],
     if !at_end() {
         return;
     }
-    let end = end_line(input, got);
+    let end = ended(input, got);
     replay(bytes, cells, items, input, end, out);
 }
 
