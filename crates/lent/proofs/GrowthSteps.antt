@@ -5,33 +5,42 @@ use mathlib.Core.Bool.{Bool, true, false}
 use mathlib.Core.List.{List, [], _∷_}
 use native.Mathlib.Omega.{arith}
 use lib.Dec.{leb, ltb}
-use lib.ListN.{length, take, drop, set, take-append-drop}
-use borrow.Author.Tests.{ltb-true, leb-true, leb-false, le-leb, lt-ltb}
+use lib.ListN.{length, take, take-append-drop}
+use borrow.Author.Tests.{leb-true, leb-false, le-leb, lt-ltb}
+use Rattle.types.specs.Numbers.{word32}
 use Rattle.types.specs.Pick.{pick, both}
 use Rattle.types.specs.Answer.{refuse}
 use Rattle.types.specs.Done.{Done}
 use Rattle.types.specs.declared.answer.Answer.{Answer}
-use Rattle.types.proofs.Picks.{pick-true, pick-false, both-true, both-1, both-2, both-left, both-then, either}
+use Rattle.types.specs.declared.raw.TypedRawRef.{TypedRawRef}
+use Rattle.types.proofs.Picks.{pick-true, pick-false, both-true, both-1, both-2, both-left, both-right, both-then, either}
 use Rattle.memory.specs.Memory.{soundMemory}
 use Rattle.memory.specs.Grow.{growMemory}
 use Rattle.memory.specs.declared.memory.Memory.{Memory}
 use Rattle.memory.specs.declared.grow.GrownMemory.{GrownMemory}
-use Rattle.machine.specs.Machine.{Buffers, buffers, noMemory, memoryAt, memoryEnd}
+use Rattle.table.specs.Table.{soundTable}
+use Rattle.table.specs.Grow.{growTable}
+use Rattle.table.specs.declared.table.Table.{Table}
+use Rattle.table.specs.declared.grow.GrownTable.{GrownTable}
+use Rattle.machine.specs.Machine.{Buffers, buffers, noMemory, noTable, memoryAt, tableAt, memoryEnd, tableEnd}
 use Rattle.machine.specs.Sound.{soundList, soundMemories, soundTables, soundSegments, soundReferences, soundMachine, soundOver}
 use Rattle.machine.specs.Operation.{memoryWellFormed, wellFormed}
-use Rattle.machine.specs.Outcome.{keeps, refused, changed, settled}
-use Rattle.machine.specs.Memories.{memoryOut, memoryDone, performMemory, onMemory}
-use Rattle.machine.specs.Step.{Performed, onNone, onBytes, perform, decide, after, step}
+use Rattle.machine.specs.Outcome.{keeps, refused, changed, standing, settled}
+use Rattle.machine.specs.Memories.{memoryDone, performMemory, onMemory}
+use Rattle.machine.specs.Tables.{tableDone, performTable, onTable}
+use Rattle.machine.specs.Step.{Performed, onNone, onBytes, onCells, perform, decide, after, step}
 use Rattle.machine.specs.declared.records.Machine.{Machine}
 use Rattle.machine.specs.declared.operation.Operation.{Operation}
 use Rattle.machine.specs.declared.operation.Operation.the-variants as operation
 use Rattle.machine.specs.declared.operation.MemoryOp.the-variants as memory-op
-use Rattle.lent.specs.Growth.{Lending, lending, Grew, grew, growAt}
+use Rattle.machine.specs.declared.operation.TableOp.the-variants as on-table
+use Rattle.lent.specs.Growth.{Lending, lending, Grew, growAt}
 use Rattle.lent.specs.Memories.{soundMemoryList, recordOf as memoryOf, memoryGrown, growMemoryAt}
+use Rattle.lent.specs.Tables.{soundTableList, recordOf as tableOf, tableGrown, growTableAt}
 use Rattle.lent.specs.Records.{Lent, lent, machineOf, longEnough, placed, lentBack, LentStepped, lentStepped, unfit, stepPlaced, lentStep}
 use Rattle.lent.proofs.Lists.{eight-take, set-front, get-front, eight-sound}
 use Rattle.lent.proofs.GrowthLaws.{few, both-last}
-use Rattle.lent.proofs.GrowthAnswers.{memory-answers}
+use Rattle.lent.proofs.GrowthAnswers.{memory-answers, table-answers}
 
 -- what an operation leaves, as what is lent has it
 abbrev pub backOf : Lent → Performed → LentStepped
@@ -81,10 +90,10 @@ module _ (r : ℕ) (x : Lent) (b : Buffers) where
     abbrev grown : Memory → Done GrownMemory
     grown y = growMemory y (b .bytes) pages (x .fuel) (x .standing .limiter)
 
-    memory-stored : (g : Done GrownMemory) → i < 8 → backOf x (onBytes (record { out = memoryOut m i (g .out); cells = g .cells }) b) ≡ withMemories (memoryGrown i memoriesOf g)
+    memory-stored : (g : Done GrownMemory) → i < 8 → backOf x (onBytes (memoryDone m i g) b) ≡ withMemories (memoryGrown i memoriesOf g)
     unfolding settled changed
     memory-stored g h =
-        ap (λ (n : Machine). lentStepped (g .out .answer) (lentBack (record { memories = n .memories; tables = n .tables; segments = n .segments; counts = m .counts; fuel = g .out .fuel; limiter = g .out .limiter }) x) (buffers (g .cells) (b .cells) (b .items)))
+        ap (λ (n : Machine). lentStepped (g .out .answer) (lentBack (standing n (m .counts) (g .out .fuel) (g .out .limiter)) x) (buffers (g .cells) (b .cells) (b .items)))
         (pick-true (ltb i 8) _ _ (lt-ltb i 8 h))
         ∙ (λ j. lentStepped (g .out .answer) (lent (sym (set-front 8 i (x .memories) (g .out .memory) h) j) (take-append-drop 8 (x .tables) j) (take-append-drop 8 (x .segments) j) (record { counts = x .standing .counts; limiter = g .out .limiter }) (g .out .fuel)) (buffers (g .cells) (b .cells) (b .items)))
 
@@ -116,3 +125,62 @@ module _ (r : ℕ) (x : Lent) (b : Buffers) where
         (λ t.
         pick-false (placed x) _ _ (both-left _ _ t)
         ∙ ap withMemories (sym (memory-answers pages .short (x .standing .counts .memories) i memoriesOf (leb-false _ _ t))))
+
+  -- cells of tables, fuel and limiter, as lent to a growth of a table
+  abbrev pub tablesOf : Lending Table
+  tablesOf = lending (x .tables) (b .cells) (x .fuel) (x .standing .limiter)
+
+  -- a growth of a table, with all else that is lent as it was
+  abbrev pub withTables : Grew Table → LentStepped
+  withTables g =
+      lentStepped (g .answer) (lent (x .memories) (g .lent .records) (x .segments) (record { counts = x .standing .counts; limiter = g .lent .limiter }) (g .lent .fuel))
+      (buffers (b .bytes) (g .lent .cells) (b .items))
+
+  -- all but the tables and their cells is sound
+  pub record TablesBeside : Type 0 where
+    pub items : leb (length (b .items)) word32 ≡ true
+    pub memories : soundMemories m (length (b .bytes)) ≡ true
+    pub segments : soundSegments m (length (b .items)) ≡ true
+
+  module _ (beside : TablesBeside) (i delta : ℕ) (v : TypedRawRef) where
+    abbrev table-op : Operation
+    table-op = operation.Table i (on-table.Grow delta v)
+
+    abbrev table-grown : Table → Done GrownTable
+    table-grown y = growTable r y (b .cells) delta v (x .fuel) (x .standing .limiter)
+
+    table-stored : (g : Done GrownTable) → i < 8 → backOf x (onCells (tableDone m i g) b) ≡ withTables (tableGrown i tablesOf g)
+    unfolding settled changed
+    table-stored g h =
+        ap (λ (n : Machine). lentStepped (g .out .answer) (lentBack (standing n (m .counts) (g .out .fuel) (g .out .limiter)) x) (buffers (b .bytes) (g .cells) (b .items)))
+        (pick-true (ltb i 8) _ _ (lt-ltb i 8 h))
+        ∙ (λ j. lentStepped (g .out .answer) (lent (take-append-drop 8 (x .memories) j) (sym (set-front 8 i (x .tables) (g .out .table) h) j) (take-append-drop 8 (x .segments) j) (record { counts = x .standing .counts; limiter = g .out .limiter }) (g .out .fuel)) (buffers (b .bytes) (g .cells) (b .items)))
+
+    table-tests : (s k : Bool) → (s ≡ true → k ≡ true → i < 8)
+        → backOf x (pick s (onCells (pick k (tableDone m i (table-grown (tableAt m i))) (refused m 16 (b .cells))) b) (onNone (keeps m (refuse 19 0)) b))
+        ≡ withTables (growAt s k tablesOf (tableGrown i tablesOf (table-grown (tableOf tablesOf i))))
+    unfolding pick growAt
+    table-tests false k h = kept-all (refuse 19 0)
+    table-tests true false h = kept-all (refuse 16 0)
+    table-tests true true h =
+        table-stored (table-grown (tableAt m i)) (h refl refl)
+        ∙ ap (λ (y : Table). withTables (tableGrown i tablesOf (table-grown y))) (get-front 8 i (x .tables) noTable (h refl refl))
+
+    tables-over : 8 ≤ length (x .tables) → soundOver m b ≡ soundTableList (x .standing .counts .tables) tablesOf
+    unfolding soundMachine soundReferences soundTables soundTableList
+    tables-over h =
+        (λ j. both (both-first (leb (length (b .cells)) word32) _ (beside .items) j) ((both-then _ _ (beside .memories) ∙ both-first (soundTables m (length (b .cells))) _ (beside .segments)) j))
+        ∙ ap (λ (ts : List Table). both (leb (length (b .cells)) word32) (soundList (λ (y : Table). soundTable y (length (b .cells))) (λ (y : Table). y .start) tableEnd (x .standing .counts .tables) ts)) (sym (eight-take noTable (x .tables) h))
+        ∙ ap (both (leb (length (b .cells)) word32)) (eight-sound (λ (y : Table). soundTable y (length (b .cells))) (λ (y : Table). y .start) tableEnd noTable (x .tables) (x .standing .counts .tables) h)
+
+    pub table-grow-steps : lentStep r x b table-op ≡ withTables (growTableAt r (x .standing .counts .tables) i delta v tablesOf)
+    unfolding lentStep stepPlaced step decide perform onTable performTable wellFormed unfit growTableAt longEnough pick soundTableList soundMemories soundSegments
+    table-grow-steps =
+        either (leb 8 (length (x .tables)))
+        (λ t.
+        pick-true (placed x) _ _ (both-true _ _ (list-long _ _ _ _ (x .memories) (beside .memories)) (both-true _ _ t (list-long _ _ _ _ (x .segments) (beside .segments))))
+        ∙ ap (λ (s : Bool). backOf x (pick s (perform r m b table-op) (onNone (keeps m (refuse 19 0)) b))) (tables-over (leb-true _ _ t))
+        ∙ table-tests (soundTableList (x .standing .counts .tables) tablesOf) (ltb i (x .standing .counts .tables)) (λ s k. few _ _ _ _ i (x .tables) (both-2 _ _ s) k))
+        (λ t.
+        pick-false (placed x) _ _ (both-right _ _ (both-left _ _ t))
+        ∙ ap withTables (sym (table-answers r delta v .short (x .standing .counts .tables) i tablesOf (leb-false _ _ t))))

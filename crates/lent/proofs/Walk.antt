@@ -54,8 +54,9 @@ use mir.Syntax.{Fn}
 use prog.Memory.{Memory}
 use prog.Model.{Model}
 use prog.Routine.{Name, Env}
-use prog.Wp.{Closed, Env as LocalEnv}
-use types.Kit.{Goal, Step, step, frees}
+use prog.Wp.{Closed}
+pub use types.Kit.{Goal, Seq}
+use types.Kit.{Step, step, frees}
 use contract.Running.{GhostRules, Running, tablesOf}
 use sound.WpLaws.{WpFn-mono}
 use denote.Triple.Clauses.{Ended, Clauses, closing}

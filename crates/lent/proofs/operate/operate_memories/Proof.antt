@@ -1,5 +1,6 @@
 -- `lent::operate::operate_memories` meets its contract, by a walk of its code. Assumes nothing.
-use Rattle.lent.proofs.Walk.{_≡_, refl, ap, subst, sym, [], _∷_, List, map, ℕ, _≤_, _<_, _^_, _*_, arith, ltb, ltb→lt, length, set, getD, length-set, fullShare, URA, named, w64, Ty, tyInt, tyRef, mut, erased, tyPtr, tyArray, Val, vint, vptr, WT, hasTy, Lft, Share, ftrue, fat, froom, fdies, flft, fres, fobs, fauth, fbor, fobor, SProp, ent, id⊢, Routine, Heap, Calls, Loops, WpFn, Atoms, Fun, fact, givenOf, tables, FmC, Given, Item, Go, nth, Sq, runs, atRet, ‵, raw, _⊛_, some, later, ⋆, _$_, _∵_, !, qed, by, move, keep, drop, use1, group, split, join, pick, rewrite, fsplit, fjoin, feqL, suffices, frame, await, done, Reads, look, look-raw, init, store-raw, stop, hop, fld, from, load, lit, addr, of-opd, bin, and-then, no-more, assigns, land, returns, enter, alloc1, alloc0, params1, pass1, pass0, agg, whole, sub, look-in, owns, Is, shows, Typed, u8, u64, RefT, MutRef, ptr-vals, mut-tells, sliceTy, sliceVal, slice-vals, MutSlice, Room, heres, finally, codedHoleys, at-slice, mut-slice-tells, Held, pureI, row, place-is, elem-out, elem-back, elem-put, opens-slice, closes-slice, array-lawful, array-makes, plain, only, owned, peeks, heard, nothing, yes, Contract, Triple, calls-at, ensured, lasts, onEntry, tripleOf, cited, says, needs, Stays, stay-none, gave-ref, stay-slice, gave-slice, walkOf, AllGo, goes-none, goes-gave-ref, goes-slice, goes-gave-slice, Walks, ends-at, walked, Holds, Mem, list-of, record-of, closes-walk, free-all, held}
+use Rattle.lent.proofs.Walk.{_≡_, refl, ap, subst, sym, [], _∷_, List, map, ℕ, _≤_, _<_, _^_, _*_, arith, ltb, ltb→lt, length, set, getD, length-set, fullShare, URA, named, w64, Ty, tyInt, tyRef, mut, erased, tyPtr, tyArray, Val, vint, vptr, WT, hasTy, Lft, Share, ftrue, fat, froom, fdies, flft, fres, fobs, fauth, fbor, fobor, SProp, ent, id⊢, Routine, Heap, Calls, Loops, WpFn, Atoms, Fun, fact, givenOf, tables, FmC, Given, Item, Go, nth, Sq, runs, atRet, ‵, raw, _⊛_, some, later, ⋆, _$_, _∵_, !, qed, by, move, keep, drop, use1, group, split, join, pick, rewrite, fsplit, fjoin, feqL, suffices, frame, await, done, Reads, look, init, store-raw, stop, hop, fld, from, load, lit, addr, of-opd, bin, and-then, no-more, assigns, land, returns, enter, alloc1, alloc0, params1, pass1, pass0, agg, whole, sub, look-in, owns, Is, shows, Typed, u8, u64, RefT, MutRef, ptr-vals, mut-tells, sliceTy, sliceVal, slice-vals, MutSlice, Room, heres, finally, codedHoleys, at-slice, mut-slice-tells, Held, pureI, row, place-is, elem-out, elem-put, opens-slice, closes-slice, array-lawful, array-makes, plain, only, owned, peeks, heard, nothing, yes, Contract, Triple, calls-at, ensured, lasts, onEntry, tripleOf, cited, says, needs, Stays, stay-none, gave-ref, stay-slice, gave-slice, walkOf, AllGo, goes-none, goes-gave-ref, goes-slice, goes-gave-slice, Walks, ends-at, walked, Holds, Mem, list-of, record-of, closes-walk, free-all, held}
+use Rattle.lent.proofs.RowReads.{MemoriesKnown, read-memory, know-memories}
 use denote.Struct.Laws as LL
 use denote.Enum.Laws as EL
 use Rattle.types.specs.Raw.{rawBytes}
@@ -96,11 +97,8 @@ module _ {M : Type 1} (𝓤 : URA M) (H : Heap 𝓤) (A : Atoms 𝓤) (W : Given
   fits-at : (i : ℕ) → i < length (xm .now) → i * 56 < 2 ^ 64
   fits-at i l = omega (arith, room-xm .1, l)
 
-  abbrev nth-is : ℕ → Type 0
-  nth-is k = Is Y.the-row (getD (xm .now) k noMemory) (Y-vals (getD (xm .now) k noMemory))
-
-  is-first : nth-is 0 → nth-is 1 → nth-is 2 → nth-is 3 → nth-is 4 → nth-is 5 → nth-is 6 → nth-is 7 → Is AR-Y first (Ys-vals first)
-  is-first a0 a1 a2 a3 a4 a5 a6 a7 = (map (λ (d : Memory). Y′.lowered d) first, ((refl, refl), (a0, (a1, (a2, (a3, (a4, (a5, (a6, (a7, tt))))))))))
+  is-first : MemoriesKnown (xm .now) → Is AR-Y first (Ys-vals first)
+  is-first is = (map (λ (d : Memory). Y′.lowered d) first, ((refl, refl), is))
 
   -- a field of what came back, as it lies in its local
   get-0 : (l : ℕ) (r : Placed) (Γ : List (Item 𝓤)) (n : ℕ) → nth 𝓤 H A n Γ ≡ ‵ (fat fullShare O′.mir l 0 (O′.lowered r)) → Reads (Go {0}) W Γ (tyInt w64) l 0 (vint w64 (r .«memory_at»))
@@ -186,48 +184,25 @@ module _ {M : Type 1} (𝓤 : URA M) (H : Heap 𝓤) (A : Atoms 𝓤) (W : Given
         Sq W (‵ (fobs (xm .name) (codedHoleys Y.the-row .code (heres Y.the-row (xm .now)))) ∷ ‵ (fbor κ0 (Held Y.the-row (length (xm .now)) (xm .ptr .0) (xm .ptr .1) (xm .name))) ∷ ‵ (MutSlice (named 7) κ7 u64 .own ks ((list-of ks) ∷ [])) ∷ ‵ (MutSlice (named 6) κ6 u64 .own cs ((list-of cs) ∷ [])) ∷ ‵ (MutSlice (named 5) κ5 u8 .own bs ((list-of bs) ∷ [])) ∷ ‵ (MutRef (named 4) κ4 F.the-row .own yf ((record-of yf) ∷ [])) ∷ ‵ (MutRef (named 3) κ3 D.the-row .own yd ((record-of yd) ∷ [])) ∷ ‵ (MutSlice (named 2) κ2 G.the-row .own xg ((list-of xg) ∷ [])) ∷ ‵ (MutSlice (named 1) κ1 B.the-row .own xt ((list-of xt) ∷ [])) ∷ ‵ (flft κ0 q0) ∷ (‵ (flft κ1 q1) ⊛ ‵ (flft κ2 q2) ⊛ ‵ (flft κ3 q3) ⊛ ‵ (flft κ4 q4) ⊛ ‵ (flft κ5 q5) ⊛ ‵ (flft κ6 q6) ⊛ ‵ (flft κ7 q7) ⊛ ‵ ftrue) ∷ ‵ (froom tyPtr l42 0) ∷ ‵ (fdies tyPtr l42) ∷ ‵ (froom (tyInt w64) l41 0) ∷ ‵ (fdies (tyInt w64) l41) ∷ ‵ (froom (sliceTy (tyRef erased mut σks)) l40 0) ∷ ‵ (fdies (sliceTy (tyRef erased mut σks)) l40) ∷ ‵ (froom (tyRef erased mut σks) l39 0) ∷ ‵ (fdies (tyRef erased mut σks) l39) ∷ ‵ (froom (sliceTy (tyRef erased mut σcs)) l38 0) ∷ ‵ (fdies (sliceTy (tyRef erased mut σcs)) l38) ∷ ‵ (froom (tyRef erased mut σcs) l37 0) ∷ ‵ (fdies (tyRef erased mut σcs) l37) ∷ ‵ (froom (sliceTy (tyRef erased mut σbs)) l36 0) ∷ ‵ (fdies (sliceTy (tyRef erased mut σbs)) l36) ∷ ‵ (froom (tyRef erased mut σbs) l35 0) ∷ ‵ (fdies (tyRef erased mut σbs) l35) ∷ ‵ (froom (tyRef erased mut σyf) l34 0) ∷ ‵ (fdies (tyRef erased mut σyf) l34) ∷ ‵ (froom (tyRef erased mut σyd) l33 0) ∷ ‵ (fdies (tyRef erased mut σyd) l33) ∷ ‵ (froom (sliceTy (tyRef erased mut σxg)) l32 0) ∷ ‵ (fdies (sliceTy (tyRef erased mut σxg)) l32) ∷ ‵ (froom (tyRef erased mut σxg) l31 0) ∷ ‵ (fdies (tyRef erased mut σxg) l31) ∷ ‵ (froom (sliceTy (tyRef erased mut σxt)) l30 0) ∷ ‵ (fdies (sliceTy (tyRef erased mut σxt)) l30) ∷ ‵ (froom (tyRef erased mut σxt) l29 0) ∷ ‵ (fdies (tyRef erased mut σxt) l29) ∷ ‵ (froom Y′.mir l28 0) ∷ ‵ (fdies Y′.mir l28) ∷ ‵ (froom tyPtr l27 0) ∷ ‵ (fdies tyPtr l27) ∷ ‵ (froom Y′.mir l26 0) ∷ ‵ (fdies Y′.mir l26) ∷ ‵ (froom tyPtr l25 0) ∷ ‵ (fdies tyPtr l25) ∷ ‵ (froom Y′.mir l24 0) ∷ ‵ (fdies Y′.mir l24) ∷ ‵ (froom tyPtr l23 0) ∷ ‵ (fdies tyPtr l23) ∷ ‵ (froom Y′.mir l22 0) ∷ ‵ (fdies Y′.mir l22) ∷ ‵ (froom tyPtr l21 0) ∷ ‵ (fdies tyPtr l21) ∷ ‵ (froom Y′.mir l20 0) ∷ ‵ (fdies Y′.mir l20) ∷ ‵ (froom tyPtr l19 0) ∷ ‵ (fdies tyPtr l19) ∷ ‵ (froom Y′.mir l18 0) ∷ ‵ (fdies Y′.mir l18) ∷ ‵ (froom tyPtr l17 0) ∷ ‵ (fdies tyPtr l17) ∷ ‵ (froom Y′.mir l16 0) ∷ ‵ (fdies Y′.mir l16) ∷ ‵ (froom tyPtr l15 0) ∷ ‵ (fdies tyPtr l15) ∷ ‵ (froom Y′.mir l14 0) ∷ ‵ (fdies Y′.mir l14) ∷ ‵ (froom tyPtr l13 0) ∷ ‵ (fdies tyPtr l13) ∷ ‵ (froom (tyInt w64) l12 0) ∷ ‵ (fdies (tyInt w64) l12) ∷ ‵ (froom O′.mir l11 0) ∷ ‵ (fdies O′.mir l11) ∷ ‵ (froom (tyArray Y′.mir 8) l10 0) ∷ ‵ (fdies (tyArray Y′.mir 8) l10) ∷ ‵ (fat fullShare τ9 l9 0 (P′.lowered op)) ∷ ‵ (fdies τ9 l9) ∷ ‵ (fat fullShare (sliceTy (tyRef (named 7) mut σks)) l8 0 (list-of ks)) ∷ ‵ (fdies (sliceTy (tyRef (named 7) mut σks)) l8) ∷ ‵ (fat fullShare (sliceTy (tyRef (named 6) mut σcs)) l7 0 (list-of cs)) ∷ ‵ (fdies (sliceTy (tyRef (named 6) mut σcs)) l7) ∷ ‵ (fat fullShare (sliceTy (tyRef (named 5) mut σbs)) l6 0 (list-of bs)) ∷ ‵ (fdies (sliceTy (tyRef (named 5) mut σbs)) l6) ∷ ‵ (fat fullShare (tyRef (named 4) mut σyf) l5 0 (record-of yf)) ∷ ‵ (fdies (tyRef (named 4) mut σyf) l5) ∷ ‵ (fat fullShare (tyRef (named 3) mut σyd) l4 0 (record-of yd)) ∷ ‵ (fdies (tyRef (named 3) mut σyd) l4) ∷ ‵ (fat fullShare (sliceTy (tyRef (named 2) mut σxg)) l3 0 (list-of xg)) ∷ ‵ (fdies (sliceTy (tyRef (named 2) mut σxg)) l3) ∷ ‵ (fat fullShare (sliceTy (tyRef (named 1) mut σxt)) l2 0 (list-of xt)) ∷ ‵ (fdies (sliceTy (tyRef (named 1) mut σxt)) l2) ∷ ‵ (fat fullShare (sliceTy (tyRef (named 0) mut σxm)) l1 0 (list-of xm)) ∷ ‵ (fdies (sliceTy (tyRef (named 0) mut σxm)) l1) ∷ ‵ (froom O′.mir l0 0) ∷ ‵ (fdies O′.mir l0) ∷ []) (runs C Λ ((O′.mir, l0) ∷ (sliceTy (tyRef (named 0) mut σxm), l1) ∷ (sliceTy (tyRef (named 1) mut σxt), l2) ∷ (sliceTy (tyRef (named 2) mut σxg), l3) ∷ (tyRef (named 3) mut σyd, l4) ∷ (tyRef (named 4) mut σyf, l5) ∷ (sliceTy (tyRef (named 5) mut σbs), l6) ∷ (sliceTy (tyRef (named 6) mut σcs), l7) ∷ (sliceTy (tyRef (named 7) mut σks), l8) ∷ (τ9, l9) ∷ (tyArray Y′.mir 8, l10) ∷ (O′.mir, l11) ∷ (tyInt w64, l12) ∷ (tyPtr, l13) ∷ (Y′.mir, l14) ∷ (tyPtr, l15) ∷ (Y′.mir, l16) ∷ (tyPtr, l17) ∷ (Y′.mir, l18) ∷ (tyPtr, l19) ∷ (Y′.mir, l20) ∷ (tyPtr, l21) ∷ (Y′.mir, l22) ∷ (tyPtr, l23) ∷ (Y′.mir, l24) ∷ (tyPtr, l25) ∷ (Y′.mir, l26) ∷ (tyPtr, l27) ∷ (Y′.mir, l28) ∷ (tyRef erased mut σxt, l29) ∷ (sliceTy (tyRef erased mut σxt), l30) ∷ (tyRef erased mut σxg, l31) ∷ (sliceTy (tyRef erased mut σxg), l32) ∷ (tyRef erased mut σyd, l33) ∷ (tyRef erased mut σyf, l34) ∷ (tyRef erased mut σbs, l35) ∷ (sliceTy (tyRef erased mut σbs), l36) ∷ (tyRef erased mut σcs, l37) ∷ (sliceTy (tyRef erased mut σcs), l38) ∷ (tyRef erased mut σks, l39) ∷ (sliceTy (tyRef erased mut σks), l40) ∷ (tyInt w64, l41) ∷ (tyPtr, l42) ∷ []) t-1 (atRet ((O′.mir, l0) ∷ (sliceTy (tyRef (named 0) mut σxm), l1) ∷ (sliceTy (tyRef (named 1) mut σxt), l2) ∷ (sliceTy (tyRef (named 2) mut σxg), l3) ∷ (tyRef (named 3) mut σyd, l4) ∷ (tyRef (named 4) mut σyf, l5) ∷ (sliceTy (tyRef (named 5) mut σbs), l6) ∷ (sliceTy (tyRef (named 6) mut σcs), l7) ∷ (sliceTy (tyRef (named 7) mut σks), l8) ∷ (τ9, l9) ∷ (tyArray Y′.mir 8, l10) ∷ (O′.mir, l11) ∷ (tyInt w64, l12) ∷ (tyPtr, l13) ∷ (Y′.mir, l14) ∷ (tyPtr, l15) ∷ (Y′.mir, l16) ∷ (tyPtr, l17) ∷ (Y′.mir, l18) ∷ (tyPtr, l19) ∷ (Y′.mir, l20) ∷ (tyPtr, l21) ∷ (Y′.mir, l22) ∷ (tyPtr, l23) ∷ (Y′.mir, l24) ∷ (tyPtr, l25) ∷ (Y′.mir, l26) ∷ (tyPtr, l27) ∷ (Y′.mir, l28) ∷ (tyRef erased mut σxt, l29) ∷ (sliceTy (tyRef erased mut σxt), l30) ∷ (tyRef erased mut σxg, l31) ∷ (sliceTy (tyRef erased mut σxg), l32) ∷ (tyRef erased mut σyd, l33) ∷ (tyRef erased mut σyf, l34) ∷ (tyRef erased mut σbs, l35) ∷ (sliceTy (tyRef erased mut σbs), l36) ∷ (tyRef erased mut σcs, l37) ∷ (sliceTy (tyRef erased mut σcs), l38) ∷ (tyRef erased mut σks, l39) ∷ (sliceTy (tyRef erased mut σks), l40) ∷ (tyInt w64, l41) ∷ (tyPtr, l42) ∷ []) Post))
     start l0 l1 l2 l3 l4 l5 l6 l7 l8 l9 l10 l11 l12 l13 l14 l15 l16 l17 l18 l19 l20 l21 l22 l23 l24 l25 l26 l27 l28 l29 l30 l31 l32 l33 l34 l35 l36 l37 l38 l39 l40 l41 l42 σbs σcs σks σxg σxm σxt σyd σyf τ9 big bigs =
         move ! (0 ∷ 1 ∷ 9 ∷ []) $ opens-slice ! tt Y.the-row (xm .now) (xm .ptr .0) (xm .ptr .1) $
+        know-memories W (xm .now) (xm .ptr .0) (xm .ptr .1) _ big (λ is.
         assigns ! (bin ! (load ! (from ! (fld ! refl (stop !))) (look-in ! 94 (sub ! 0 refl (whole !)))) (lit ! tt) tt) (from ! (stop !)) (init ! 70 refl (tt, tt)) $
-        rewrite ! 70 (λ (z : ℕ). ‵ (fat fullShare tyPtr l13 0 (vptr (xm .ptr .0) z))) (sym (place-is 56 (xm .ptr .1) 0)) refl $
-        elem-out ! Y.the-row (Is Y.the-row) (shows 𝓤 H A Y.the-row) Y-vals (Y′.lowers .val-is) fullShare (xm .now) 0 noMemory (xm .ptr .0) (xm .ptr .1) (within 0 big tt) (λ is0.
-        assigns ! (of-opd ! (load ! (from ! (hop ! (look ! 72 refl) (stop !))) (look-raw ! 0 refl))) (from ! (stop !)) (init ! 70 refl (typed-one (getD (xm .now) 0 noMemory) is0)) $
-        elem-back ! Y.the-row fullShare (xm .now) 0 noMemory (Y-vals (getD (xm .now) 0 noMemory)) (xm .ptr .0) (xm .ptr .1) (within 0 big tt) $
+        assigns ! (of-opd ! (load ! (from ! (hop ! (look ! 70 refl) (stop !))) (read-memory W (xm .now) (xm .ptr .0) (xm .ptr .1) _ 0 (within 0 big tt)))) (from ! (stop !)) (init ! 68 refl (typed-one (getD (xm .now) 0 noMemory) (is .0))) $
         assigns ! (bin ! (load ! (from ! (fld ! refl (stop !))) (look-in ! 94 (sub ! 0 refl (whole !)))) (lit ! tt) tt) (from ! (stop !)) (init ! 66 refl (tt, tt)) $
-        rewrite ! 66 (λ (z : ℕ). ‵ (fat fullShare tyPtr l15 0 (vptr (xm .ptr .0) z))) (sym (place-is 56 (xm .ptr .1) 1)) refl $
-        elem-out ! Y.the-row (Is Y.the-row) (shows 𝓤 H A Y.the-row) Y-vals (Y′.lowers .val-is) fullShare (xm .now) 1 noMemory (xm .ptr .0) (xm .ptr .1) (within 1 big tt) (λ is1.
-        assigns ! (of-opd ! (load ! (from ! (hop ! (look ! 68 refl) (stop !))) (look-raw ! 0 refl))) (from ! (stop !)) (init ! 66 refl (typed-one (getD (xm .now) 1 noMemory) is1)) $
-        elem-back ! Y.the-row fullShare (xm .now) 1 noMemory (Y-vals (getD (xm .now) 1 noMemory)) (xm .ptr .0) (xm .ptr .1) (within 1 big tt) $
+        assigns ! (of-opd ! (load ! (from ! (hop ! (look ! 66 refl) (stop !))) (read-memory W (xm .now) (xm .ptr .0) (xm .ptr .1) _ 1 (within 1 big tt)))) (from ! (stop !)) (init ! 64 refl (typed-one (getD (xm .now) 1 noMemory) (is .1 .0))) $
         assigns ! (bin ! (load ! (from ! (fld ! refl (stop !))) (look-in ! 94 (sub ! 0 refl (whole !)))) (lit ! tt) tt) (from ! (stop !)) (init ! 62 refl (tt, tt)) $
-        rewrite ! 62 (λ (z : ℕ). ‵ (fat fullShare tyPtr l17 0 (vptr (xm .ptr .0) z))) (sym (place-is 56 (xm .ptr .1) 2)) refl $
-        elem-out ! Y.the-row (Is Y.the-row) (shows 𝓤 H A Y.the-row) Y-vals (Y′.lowers .val-is) fullShare (xm .now) 2 noMemory (xm .ptr .0) (xm .ptr .1) (within 2 big tt) (λ is2.
-        assigns ! (of-opd ! (load ! (from ! (hop ! (look ! 64 refl) (stop !))) (look-raw ! 0 refl))) (from ! (stop !)) (init ! 62 refl (typed-one (getD (xm .now) 2 noMemory) is2)) $
-        elem-back ! Y.the-row fullShare (xm .now) 2 noMemory (Y-vals (getD (xm .now) 2 noMemory)) (xm .ptr .0) (xm .ptr .1) (within 2 big tt) $
+        assigns ! (of-opd ! (load ! (from ! (hop ! (look ! 62 refl) (stop !))) (read-memory W (xm .now) (xm .ptr .0) (xm .ptr .1) _ 2 (within 2 big tt)))) (from ! (stop !)) (init ! 60 refl (typed-one (getD (xm .now) 2 noMemory) (is .1 .1 .0))) $
         assigns ! (bin ! (load ! (from ! (fld ! refl (stop !))) (look-in ! 94 (sub ! 0 refl (whole !)))) (lit ! tt) tt) (from ! (stop !)) (init ! 58 refl (tt, tt)) $
-        rewrite ! 58 (λ (z : ℕ). ‵ (fat fullShare tyPtr l19 0 (vptr (xm .ptr .0) z))) (sym (place-is 56 (xm .ptr .1) 3)) refl $
-        elem-out ! Y.the-row (Is Y.the-row) (shows 𝓤 H A Y.the-row) Y-vals (Y′.lowers .val-is) fullShare (xm .now) 3 noMemory (xm .ptr .0) (xm .ptr .1) (within 3 big tt) (λ is3.
-        assigns ! (of-opd ! (load ! (from ! (hop ! (look ! 60 refl) (stop !))) (look-raw ! 0 refl))) (from ! (stop !)) (init ! 58 refl (typed-one (getD (xm .now) 3 noMemory) is3)) $
-        elem-back ! Y.the-row fullShare (xm .now) 3 noMemory (Y-vals (getD (xm .now) 3 noMemory)) (xm .ptr .0) (xm .ptr .1) (within 3 big tt) $
+        assigns ! (of-opd ! (load ! (from ! (hop ! (look ! 58 refl) (stop !))) (read-memory W (xm .now) (xm .ptr .0) (xm .ptr .1) _ 3 (within 3 big tt)))) (from ! (stop !)) (init ! 56 refl (typed-one (getD (xm .now) 3 noMemory) (is .1 .1 .1 .0))) $
         assigns ! (bin ! (load ! (from ! (fld ! refl (stop !))) (look-in ! 94 (sub ! 0 refl (whole !)))) (lit ! tt) tt) (from ! (stop !)) (init ! 54 refl (tt, tt)) $
-        rewrite ! 54 (λ (z : ℕ). ‵ (fat fullShare tyPtr l21 0 (vptr (xm .ptr .0) z))) (sym (place-is 56 (xm .ptr .1) 4)) refl $
-        elem-out ! Y.the-row (Is Y.the-row) (shows 𝓤 H A Y.the-row) Y-vals (Y′.lowers .val-is) fullShare (xm .now) 4 noMemory (xm .ptr .0) (xm .ptr .1) (within 4 big tt) (λ is4.
-        assigns ! (of-opd ! (load ! (from ! (hop ! (look ! 56 refl) (stop !))) (look-raw ! 0 refl))) (from ! (stop !)) (init ! 54 refl (typed-one (getD (xm .now) 4 noMemory) is4)) $
-        elem-back ! Y.the-row fullShare (xm .now) 4 noMemory (Y-vals (getD (xm .now) 4 noMemory)) (xm .ptr .0) (xm .ptr .1) (within 4 big tt) $
+        assigns ! (of-opd ! (load ! (from ! (hop ! (look ! 54 refl) (stop !))) (read-memory W (xm .now) (xm .ptr .0) (xm .ptr .1) _ 4 (within 4 big tt)))) (from ! (stop !)) (init ! 52 refl (typed-one (getD (xm .now) 4 noMemory) (is .1 .1 .1 .1 .0))) $
         assigns ! (bin ! (load ! (from ! (fld ! refl (stop !))) (look-in ! 94 (sub ! 0 refl (whole !)))) (lit ! tt) tt) (from ! (stop !)) (init ! 50 refl (tt, tt)) $
-        rewrite ! 50 (λ (z : ℕ). ‵ (fat fullShare tyPtr l23 0 (vptr (xm .ptr .0) z))) (sym (place-is 56 (xm .ptr .1) 5)) refl $
-        elem-out ! Y.the-row (Is Y.the-row) (shows 𝓤 H A Y.the-row) Y-vals (Y′.lowers .val-is) fullShare (xm .now) 5 noMemory (xm .ptr .0) (xm .ptr .1) (within 5 big tt) (λ is5.
-        assigns ! (of-opd ! (load ! (from ! (hop ! (look ! 52 refl) (stop !))) (look-raw ! 0 refl))) (from ! (stop !)) (init ! 50 refl (typed-one (getD (xm .now) 5 noMemory) is5)) $
-        elem-back ! Y.the-row fullShare (xm .now) 5 noMemory (Y-vals (getD (xm .now) 5 noMemory)) (xm .ptr .0) (xm .ptr .1) (within 5 big tt) $
+        assigns ! (of-opd ! (load ! (from ! (hop ! (look ! 50 refl) (stop !))) (read-memory W (xm .now) (xm .ptr .0) (xm .ptr .1) _ 5 (within 5 big tt)))) (from ! (stop !)) (init ! 48 refl (typed-one (getD (xm .now) 5 noMemory) (is .1 .1 .1 .1 .1 .0))) $
         assigns ! (bin ! (load ! (from ! (fld ! refl (stop !))) (look-in ! 94 (sub ! 0 refl (whole !)))) (lit ! tt) tt) (from ! (stop !)) (init ! 46 refl (tt, tt)) $
-        rewrite ! 46 (λ (z : ℕ). ‵ (fat fullShare tyPtr l25 0 (vptr (xm .ptr .0) z))) (sym (place-is 56 (xm .ptr .1) 6)) refl $
-        elem-out ! Y.the-row (Is Y.the-row) (shows 𝓤 H A Y.the-row) Y-vals (Y′.lowers .val-is) fullShare (xm .now) 6 noMemory (xm .ptr .0) (xm .ptr .1) (within 6 big tt) (λ is6.
-        assigns ! (of-opd ! (load ! (from ! (hop ! (look ! 48 refl) (stop !))) (look-raw ! 0 refl))) (from ! (stop !)) (init ! 46 refl (typed-one (getD (xm .now) 6 noMemory) is6)) $
-        elem-back ! Y.the-row fullShare (xm .now) 6 noMemory (Y-vals (getD (xm .now) 6 noMemory)) (xm .ptr .0) (xm .ptr .1) (within 6 big tt) $
+        assigns ! (of-opd ! (load ! (from ! (hop ! (look ! 46 refl) (stop !))) (read-memory W (xm .now) (xm .ptr .0) (xm .ptr .1) _ 6 (within 6 big tt)))) (from ! (stop !)) (init ! 44 refl (typed-one (getD (xm .now) 6 noMemory) (is .1 .1 .1 .1 .1 .1 .0))) $
         assigns ! (bin ! (load ! (from ! (fld ! refl (stop !))) (look-in ! 94 (sub ! 0 refl (whole !)))) (lit ! tt) tt) (from ! (stop !)) (init ! 42 refl (tt, tt)) $
-        rewrite ! 42 (λ (z : ℕ). ‵ (fat fullShare tyPtr l27 0 (vptr (xm .ptr .0) z))) (sym (place-is 56 (xm .ptr .1) 7)) refl $
-        elem-out ! Y.the-row (Is Y.the-row) (shows 𝓤 H A Y.the-row) Y-vals (Y′.lowers .val-is) fullShare (xm .now) 7 noMemory (xm .ptr .0) (xm .ptr .1) (within 7 big tt) (λ is7.
-        assigns ! (of-opd ! (load ! (from ! (hop ! (look ! 44 refl) (stop !))) (look-raw ! 0 refl))) (from ! (stop !)) (init ! 42 refl (typed-one (getD (xm .now) 7 noMemory) is7)) $
-        elem-back ! Y.the-row fullShare (xm .now) 7 noMemory (Y-vals (getD (xm .now) 7 noMemory)) (xm .ptr .0) (xm .ptr .1) (within 7 big tt) $
-        assigns ! (agg ! (and-then ! (load ! (from ! (stop !)) (look ! 68 refl)) (and-then ! (load ! (from ! (stop !)) (look ! 64 refl)) (and-then ! (load ! (from ! (stop !)) (look ! 60 refl)) (and-then ! (load ! (from ! (stop !)) (look ! 56 refl)) (and-then ! (load ! (from ! (stop !)) (look ! 52 refl)) (and-then ! (load ! (from ! (stop !)) (look ! 48 refl)) (and-then ! (load ! (from ! (stop !)) (look ! 44 refl)) (and-then ! (load ! (from ! (stop !)) (look ! 40 refl)) (no-more !)))))))))) (from ! (stop !)) (init ! 76 refl (typed-Y first (is-first is0 is1 is2 is3 is4 is5 is6 is7) .0)) $
-        middle l0 l1 l2 l3 l4 l5 l6 l7 l8 l9 l10 l11 l12 l13 l14 l15 l16 l17 l18 l19 l20 l21 l22 l23 l24 l25 l26 l27 l28 l29 l30 l31 l32 l33 l34 l35 l36 l37 l38 l39 l40 l41 l42 _ _ _ _ _ _ _ _ _ _ _ _ _ _ _ _ _ _ _ _ _ _ _ _ _ _ _ _ _ _ _ _ _ _ _ _ _ _ _ _ _ _ big bigs (is-first is0 is1 is2 is3 is4 is5 is6 is7)))))))))
+        assigns ! (of-opd ! (load ! (from ! (hop ! (look ! 42 refl) (stop !))) (read-memory W (xm .now) (xm .ptr .0) (xm .ptr .1) _ 7 (within 7 big tt)))) (from ! (stop !)) (init ! 40 refl (typed-one (getD (xm .now) 7 noMemory) (is .1 .1 .1 .1 .1 .1 .1 .0))) $
+        assigns ! (agg ! (and-then ! (load ! (from ! (stop !)) (look ! 68 refl)) (and-then ! (load ! (from ! (stop !)) (look ! 64 refl)) (and-then ! (load ! (from ! (stop !)) (look ! 60 refl)) (and-then ! (load ! (from ! (stop !)) (look ! 56 refl)) (and-then ! (load ! (from ! (stop !)) (look ! 52 refl)) (and-then ! (load ! (from ! (stop !)) (look ! 48 refl)) (and-then ! (load ! (from ! (stop !)) (look ! 44 refl)) (and-then ! (load ! (from ! (stop !)) (look ! 40 refl)) (no-more !)))))))))) (from ! (stop !)) (init ! 76 refl (typed-Y first (is-first is) .0)) $
+        middle l0 l1 l2 l3 l4 l5 l6 l7 l8 l9 l10 l11 l12 l13 l14 l15 l16 l17 l18 l19 l20 l21 l22 l23 l24 l25 l26 l27 l28 l29 l30 l31 l32 l33 l34 l35 l36 l37 l38 l39 l40 l41 l42 _ _ _ _ _ _ _ _ _ _ _ _ _ _ _ _ _ _ _ _ _ _ _ _ _ _ _ _ _ _ _ _ _ _ _ _ _ _ _ _ _ _ big bigs (is-first is))
 
     -- the whole function
     walk : 8 ≤ length (xm .now) → ((8 ≤ length (xt .now)) × (8 ≤ length (xg .now))) → ent 𝓤 (onEntry 𝓤 H A f.signature (κ0, (κ1, (κ2, (κ3, (κ4, (κ5, (κ6, (κ7, tt)))))))) (q0, (q1, (q2, (q3, (q4, (q5, (q6, (q7, tt)))))))) a at) (WpFn 𝓤 H C Λ code.function ((list-of xm) ∷ (list-of xt) ∷ (list-of xg) ∷ (record-of yd) ∷ (record-of yf) ∷ (list-of bs) ∷ (list-of cs) ∷ (list-of ks) ∷ P′.lowered op ∷ []) Post)

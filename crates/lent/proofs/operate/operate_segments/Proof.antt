@@ -1,5 +1,6 @@
 -- `lent::operate::operate_segments` meets its contract, by a walk of its code. Assumes nothing.
-use Rattle.lent.proofs.Walk.{_≡_, refl, ap, subst, sym, [], _∷_, List, map, ℕ, _≤_, _<_, _^_, _*_, arith, ltb, ltb→lt, length, set, getD, length-set, fullShare, URA, named, w64, Ty, tyInt, tyRef, mut, erased, tyPtr, tyArray, Val, vint, vptr, WT, hasTy, Lft, Share, ftrue, fat, froom, fdies, flft, fres, fobs, fauth, fbor, fobor, SProp, ent, id⊢, Routine, Heap, Calls, Loops, WpFn, Atoms, Fun, fact, givenOf, tables, FmC, Given, Item, Go, nth, Sq, runs, atRet, ‵, raw, _⊛_, some, later, ⋆, _$_, _∵_, !, qed, by, move, keep, drop, use1, group, split, join, pick, rewrite, fsplit, fjoin, feqL, suffices, frame, await, done, Reads, look, look-raw, init, store-raw, stop, hop, fld, from, load, lit, addr, of-opd, bin, and-then, no-more, assigns, land, returns, enter, alloc1, alloc0, params1, pass1, pass0, agg, whole, sub, look-in, owns, Is, shows, Typed, u8, u64, RefT, MutRef, ptr-vals, mut-tells, sliceTy, sliceVal, slice-vals, MutSlice, Room, heres, finally, codedHoleys, at-slice, mut-slice-tells, Held, pureI, row, place-is, elem-out, elem-back, elem-put, opens-slice, closes-slice, array-tells, array-lawful, array-makes, plain, only, owned, peeks, heard, nothing, yes, Contract, Triple, calls-at, ensured, lasts, onEntry, tripleOf, cited, says, needs, Stays, stay-none, gave-ref, stay-slice, gave-slice, walkOf, AllGo, goes-none, goes-gave-ref, goes-slice, goes-gave-slice, Walks, ends-at, walked, Holds, Mem, list-of, record-of, closes-walk, free-all, held}
+use Rattle.lent.proofs.Walk.{_≡_, refl, ap, subst, sym, [], _∷_, List, map, ℕ, _≤_, _<_, _^_, _*_, arith, ltb, ltb→lt, length, set, getD, length-set, fullShare, URA, named, w64, Ty, tyInt, tyRef, mut, erased, tyPtr, tyArray, Val, vint, vptr, WT, hasTy, Lft, Share, ftrue, fat, froom, fdies, flft, fres, fobs, fauth, fbor, fobor, SProp, ent, id⊢, Routine, Heap, Calls, Loops, WpFn, Atoms, Fun, fact, givenOf, tables, FmC, Given, Item, Go, nth, Sq, runs, atRet, ‵, raw, _⊛_, some, later, ⋆, _$_, _∵_, !, qed, by, move, keep, drop, use1, group, split, join, pick, rewrite, fsplit, fjoin, feqL, suffices, frame, await, done, Reads, look, init, store-raw, stop, hop, fld, from, load, lit, addr, of-opd, bin, and-then, no-more, assigns, land, returns, enter, alloc1, alloc0, params1, pass1, pass0, agg, whole, sub, look-in, owns, Is, shows, Typed, u8, u64, RefT, MutRef, ptr-vals, mut-tells, sliceTy, sliceVal, slice-vals, MutSlice, Room, heres, finally, codedHoleys, at-slice, mut-slice-tells, Held, pureI, row, place-is, elem-out, elem-put, opens-slice, closes-slice, array-tells, array-lawful, array-makes, plain, only, owned, peeks, heard, nothing, yes, Contract, Triple, calls-at, ensured, lasts, onEntry, tripleOf, cited, says, needs, Stays, stay-none, gave-ref, stay-slice, gave-slice, walkOf, AllGo, goes-none, goes-gave-ref, goes-slice, goes-gave-slice, Walks, ends-at, walked, Holds, Mem, list-of, record-of, closes-walk, free-all, held}
+use Rattle.lent.proofs.RowReads.{SegmentsKnown, read-segment, know-segments}
 use denote.Struct.Laws as LL
 use denote.Enum.Laws as EL
 use Rattle.types.specs.Raw.{rawBytes}
@@ -104,11 +105,8 @@ module _ {M : Type 1} (𝓤 : URA M) (H : Heap 𝓤) (A : Atoms 𝓤) (W : Given
   fits-at : (i : ℕ) → i < length (xg .now) → i * 32 < 2 ^ 64
   fits-at i l = omega (arith, room-xg .1, l)
 
-  abbrev nth-is : ℕ → Type 0
-  nth-is k = Is G.the-row (getD (xg .now) k noSegment) (G-vals (getD (xg .now) k noSegment))
-
-  is-first : nth-is 0 → nth-is 1 → nth-is 2 → nth-is 3 → nth-is 4 → nth-is 5 → nth-is 6 → nth-is 7 → Is AR-G first (Gs-vals first)
-  is-first a0 a1 a2 a3 a4 a5 a6 a7 = (map (λ (d : ElementSegment). G′.lowered d) first, ((refl, refl), (a0, (a1, (a2, (a3, (a4, (a5, (a6, (a7, tt))))))))))
+  is-first : SegmentsKnown (xg .now) → Is AR-G first (Gs-vals first)
+  is-first is = (map (λ (d : ElementSegment). G′.lowered d) first, ((refl, refl), is))
 
   -- a field of what came back, as it lies in its local
   get-4 : (l : ℕ) (r : Placed) (Γ : List (Item 𝓤)) (n : ℕ) → nth 𝓤 H A n Γ ≡ ‵ (fat fullShare O′.mir l 0 (O′.lowered r)) → Reads (Go {0}) W Γ (tyInt w64) l 128 (vint w64 (r .«segment_at»))
@@ -191,48 +189,25 @@ module _ {M : Type 1} (𝓤 : URA M) (H : Heap 𝓤) (A : Atoms 𝓤) (W : Given
         Sq W (‵ (fobs (xg .name) (codedHoleys G.the-row .code (heres G.the-row (xg .now)))) ∷ ‵ (fbor κ0 (Held G.the-row (length (xg .now)) (xg .ptr .0) (xg .ptr .1) (xg .name))) ∷ ‵ (MutSlice (named 5) κ5 u64 .own ks ((list-of ks) ∷ [])) ∷ ‵ (MutSlice (named 4) κ4 u64 .own cs ((list-of cs) ∷ [])) ∷ ‵ (MutSlice (named 3) κ3 u8 .own bs ((list-of bs) ∷ [])) ∷ ‵ (MutRef (named 2) κ2 F.the-row .own yf ((record-of yf) ∷ [])) ∷ ‵ (MutRef (named 1) κ1 D.the-row .own yd ((record-of yd) ∷ [])) ∷ ‵ (flft κ0 q0) ∷ (‵ (flft κ1 q1) ⊛ ‵ (flft κ2 q2) ⊛ ‵ (flft κ3 q3) ⊛ ‵ (flft κ4 q4) ⊛ ‵ (flft κ5 q5) ⊛ ‵ ftrue) ∷ ‵ (froom tyPtr l38 0) ∷ ‵ (fdies tyPtr l38) ∷ ‵ (froom (tyInt w64) l37 0) ∷ ‵ (fdies (tyInt w64) l37) ∷ ‵ (froom (sliceTy (tyRef erased mut σks)) l36 0) ∷ ‵ (fdies (sliceTy (tyRef erased mut σks)) l36) ∷ ‵ (froom (tyRef erased mut σks) l35 0) ∷ ‵ (fdies (tyRef erased mut σks) l35) ∷ ‵ (froom (sliceTy (tyRef erased mut σcs)) l34 0) ∷ ‵ (fdies (sliceTy (tyRef erased mut σcs)) l34) ∷ ‵ (froom (tyRef erased mut σcs) l33 0) ∷ ‵ (fdies (tyRef erased mut σcs) l33) ∷ ‵ (froom (sliceTy (tyRef erased mut σbs)) l32 0) ∷ ‵ (fdies (sliceTy (tyRef erased mut σbs)) l32) ∷ ‵ (froom (tyRef erased mut σbs) l31 0) ∷ ‵ (fdies (tyRef erased mut σbs) l31) ∷ ‵ (froom (tyRef erased mut σyf) l30 0) ∷ ‵ (fdies (tyRef erased mut σyf) l30) ∷ ‵ (froom (tyRef erased mut σyd) l29 0) ∷ ‵ (fdies (tyRef erased mut σyd) l29) ∷ ‵ (froom G′.mir l28 0) ∷ ‵ (fdies G′.mir l28) ∷ ‵ (froom tyPtr l27 0) ∷ ‵ (fdies tyPtr l27) ∷ ‵ (froom G′.mir l26 0) ∷ ‵ (fdies G′.mir l26) ∷ ‵ (froom tyPtr l25 0) ∷ ‵ (fdies tyPtr l25) ∷ ‵ (froom G′.mir l24 0) ∷ ‵ (fdies G′.mir l24) ∷ ‵ (froom tyPtr l23 0) ∷ ‵ (fdies tyPtr l23) ∷ ‵ (froom G′.mir l22 0) ∷ ‵ (fdies G′.mir l22) ∷ ‵ (froom tyPtr l21 0) ∷ ‵ (fdies tyPtr l21) ∷ ‵ (froom G′.mir l20 0) ∷ ‵ (fdies G′.mir l20) ∷ ‵ (froom tyPtr l19 0) ∷ ‵ (fdies tyPtr l19) ∷ ‵ (froom G′.mir l18 0) ∷ ‵ (fdies G′.mir l18) ∷ ‵ (froom tyPtr l17 0) ∷ ‵ (fdies tyPtr l17) ∷ ‵ (froom G′.mir l16 0) ∷ ‵ (fdies G′.mir l16) ∷ ‵ (froom tyPtr l15 0) ∷ ‵ (fdies tyPtr l15) ∷ ‵ (froom G′.mir l14 0) ∷ ‵ (fdies G′.mir l14) ∷ ‵ (froom tyPtr l13 0) ∷ ‵ (fdies tyPtr l13) ∷ ‵ (froom (tyInt w64) l12 0) ∷ ‵ (fdies (tyInt w64) l12) ∷ ‵ (froom O′.mir l11 0) ∷ ‵ (fdies O′.mir l11) ∷ ‵ (froom (tyArray G′.mir 8) l10 0) ∷ ‵ (fdies (tyArray G′.mir 8) l10) ∷ ‵ (fat fullShare τ9 l9 0 (P′.lowered op)) ∷ ‵ (fdies τ9 l9) ∷ ‵ (fat fullShare (sliceTy (tyRef (named 5) mut σks)) l8 0 (list-of ks)) ∷ ‵ (fdies (sliceTy (tyRef (named 5) mut σks)) l8) ∷ ‵ (fat fullShare (sliceTy (tyRef (named 4) mut σcs)) l7 0 (list-of cs)) ∷ ‵ (fdies (sliceTy (tyRef (named 4) mut σcs)) l7) ∷ ‵ (fat fullShare (sliceTy (tyRef (named 3) mut σbs)) l6 0 (list-of bs)) ∷ ‵ (fdies (sliceTy (tyRef (named 3) mut σbs)) l6) ∷ ‵ (fat fullShare (tyRef (named 2) mut σyf) l5 0 (record-of yf)) ∷ ‵ (fdies (tyRef (named 2) mut σyf) l5) ∷ ‵ (fat fullShare (tyRef (named 1) mut σyd) l4 0 (record-of yd)) ∷ ‵ (fdies (tyRef (named 1) mut σyd) l4) ∷ ‵ (fat fullShare (sliceTy (tyRef (named 0) mut σxg)) l3 0 (list-of xg)) ∷ ‵ (fdies (sliceTy (tyRef (named 0) mut σxg)) l3) ∷ ‵ (fat fullShare τ2 l2 0 (only (Bs-vals ts))) ∷ ‵ (fdies τ2 l2) ∷ ‵ (fat fullShare τ1 l1 0 (only (Ys-vals ms))) ∷ ‵ (fdies τ1 l1) ∷ ‵ (froom O′.mir l0 0) ∷ ‵ (fdies O′.mir l0) ∷ []) (runs C Λ ((O′.mir, l0) ∷ (τ1, l1) ∷ (τ2, l2) ∷ (sliceTy (tyRef (named 0) mut σxg), l3) ∷ (tyRef (named 1) mut σyd, l4) ∷ (tyRef (named 2) mut σyf, l5) ∷ (sliceTy (tyRef (named 3) mut σbs), l6) ∷ (sliceTy (tyRef (named 4) mut σcs), l7) ∷ (sliceTy (tyRef (named 5) mut σks), l8) ∷ (τ9, l9) ∷ (tyArray G′.mir 8, l10) ∷ (O′.mir, l11) ∷ (tyInt w64, l12) ∷ (tyPtr, l13) ∷ (G′.mir, l14) ∷ (tyPtr, l15) ∷ (G′.mir, l16) ∷ (tyPtr, l17) ∷ (G′.mir, l18) ∷ (tyPtr, l19) ∷ (G′.mir, l20) ∷ (tyPtr, l21) ∷ (G′.mir, l22) ∷ (tyPtr, l23) ∷ (G′.mir, l24) ∷ (tyPtr, l25) ∷ (G′.mir, l26) ∷ (tyPtr, l27) ∷ (G′.mir, l28) ∷ (tyRef erased mut σyd, l29) ∷ (tyRef erased mut σyf, l30) ∷ (tyRef erased mut σbs, l31) ∷ (sliceTy (tyRef erased mut σbs), l32) ∷ (tyRef erased mut σcs, l33) ∷ (sliceTy (tyRef erased mut σcs), l34) ∷ (tyRef erased mut σks, l35) ∷ (sliceTy (tyRef erased mut σks), l36) ∷ (tyInt w64, l37) ∷ (tyPtr, l38) ∷ []) t-1 (atRet ((O′.mir, l0) ∷ (τ1, l1) ∷ (τ2, l2) ∷ (sliceTy (tyRef (named 0) mut σxg), l3) ∷ (tyRef (named 1) mut σyd, l4) ∷ (tyRef (named 2) mut σyf, l5) ∷ (sliceTy (tyRef (named 3) mut σbs), l6) ∷ (sliceTy (tyRef (named 4) mut σcs), l7) ∷ (sliceTy (tyRef (named 5) mut σks), l8) ∷ (τ9, l9) ∷ (tyArray G′.mir 8, l10) ∷ (O′.mir, l11) ∷ (tyInt w64, l12) ∷ (tyPtr, l13) ∷ (G′.mir, l14) ∷ (tyPtr, l15) ∷ (G′.mir, l16) ∷ (tyPtr, l17) ∷ (G′.mir, l18) ∷ (tyPtr, l19) ∷ (G′.mir, l20) ∷ (tyPtr, l21) ∷ (G′.mir, l22) ∷ (tyPtr, l23) ∷ (G′.mir, l24) ∷ (tyPtr, l25) ∷ (G′.mir, l26) ∷ (tyPtr, l27) ∷ (G′.mir, l28) ∷ (tyRef erased mut σyd, l29) ∷ (tyRef erased mut σyf, l30) ∷ (tyRef erased mut σbs, l31) ∷ (sliceTy (tyRef erased mut σbs), l32) ∷ (tyRef erased mut σcs, l33) ∷ (sliceTy (tyRef erased mut σcs), l34) ∷ (tyRef erased mut σks, l35) ∷ (sliceTy (tyRef erased mut σks), l36) ∷ (tyInt w64, l37) ∷ (tyPtr, l38) ∷ []) Post))
     start l0 l1 l2 l3 l4 l5 l6 l7 l8 l9 l10 l11 l12 l13 l14 l15 l16 l17 l18 l19 l20 l21 l22 l23 l24 l25 l26 l27 l28 l29 l30 l31 l32 l33 l34 l35 l36 l37 l38 σbs σcs σks σxg σyd σyf τ1 τ2 τ9 big =
         move ! (0 ∷ 1 ∷ 7 ∷ []) $ opens-slice ! tt G.the-row (xg .now) (xg .ptr .0) (xg .ptr .1) $
+        know-segments W (xg .now) (xg .ptr .0) (xg .ptr .1) _ big (λ is.
         assigns ! (bin ! (load ! (from ! (fld ! refl (stop !))) (look-in ! 80 (sub ! 0 refl (whole !)))) (lit ! tt) tt) (from ! (stop !)) (init ! 60 refl (tt, tt)) $
-        rewrite ! 60 (λ (z : ℕ). ‵ (fat fullShare tyPtr l13 0 (vptr (xg .ptr .0) z))) (sym (place-is 32 (xg .ptr .1) 0)) refl $
-        elem-out ! G.the-row (Is G.the-row) (shows 𝓤 H A G.the-row) G-vals (G′.lowers .val-is) fullShare (xg .now) 0 noSegment (xg .ptr .0) (xg .ptr .1) (within 0 big tt) (λ is0.
-        assigns ! (of-opd ! (load ! (from ! (hop ! (look ! 62 refl) (stop !))) (look-raw ! 0 refl))) (from ! (stop !)) (init ! 60 refl (typed-one (getD (xg .now) 0 noSegment) is0)) $
-        elem-back ! G.the-row fullShare (xg .now) 0 noSegment (G-vals (getD (xg .now) 0 noSegment)) (xg .ptr .0) (xg .ptr .1) (within 0 big tt) $
+        assigns ! (of-opd ! (load ! (from ! (hop ! (look ! 60 refl) (stop !))) (read-segment W (xg .now) (xg .ptr .0) (xg .ptr .1) _ 0 (within 0 big tt)))) (from ! (stop !)) (init ! 58 refl (typed-one (getD (xg .now) 0 noSegment) (is .0))) $
         assigns ! (bin ! (load ! (from ! (fld ! refl (stop !))) (look-in ! 80 (sub ! 0 refl (whole !)))) (lit ! tt) tt) (from ! (stop !)) (init ! 56 refl (tt, tt)) $
-        rewrite ! 56 (λ (z : ℕ). ‵ (fat fullShare tyPtr l15 0 (vptr (xg .ptr .0) z))) (sym (place-is 32 (xg .ptr .1) 1)) refl $
-        elem-out ! G.the-row (Is G.the-row) (shows 𝓤 H A G.the-row) G-vals (G′.lowers .val-is) fullShare (xg .now) 1 noSegment (xg .ptr .0) (xg .ptr .1) (within 1 big tt) (λ is1.
-        assigns ! (of-opd ! (load ! (from ! (hop ! (look ! 58 refl) (stop !))) (look-raw ! 0 refl))) (from ! (stop !)) (init ! 56 refl (typed-one (getD (xg .now) 1 noSegment) is1)) $
-        elem-back ! G.the-row fullShare (xg .now) 1 noSegment (G-vals (getD (xg .now) 1 noSegment)) (xg .ptr .0) (xg .ptr .1) (within 1 big tt) $
+        assigns ! (of-opd ! (load ! (from ! (hop ! (look ! 56 refl) (stop !))) (read-segment W (xg .now) (xg .ptr .0) (xg .ptr .1) _ 1 (within 1 big tt)))) (from ! (stop !)) (init ! 54 refl (typed-one (getD (xg .now) 1 noSegment) (is .1 .0))) $
         assigns ! (bin ! (load ! (from ! (fld ! refl (stop !))) (look-in ! 80 (sub ! 0 refl (whole !)))) (lit ! tt) tt) (from ! (stop !)) (init ! 52 refl (tt, tt)) $
-        rewrite ! 52 (λ (z : ℕ). ‵ (fat fullShare tyPtr l17 0 (vptr (xg .ptr .0) z))) (sym (place-is 32 (xg .ptr .1) 2)) refl $
-        elem-out ! G.the-row (Is G.the-row) (shows 𝓤 H A G.the-row) G-vals (G′.lowers .val-is) fullShare (xg .now) 2 noSegment (xg .ptr .0) (xg .ptr .1) (within 2 big tt) (λ is2.
-        assigns ! (of-opd ! (load ! (from ! (hop ! (look ! 54 refl) (stop !))) (look-raw ! 0 refl))) (from ! (stop !)) (init ! 52 refl (typed-one (getD (xg .now) 2 noSegment) is2)) $
-        elem-back ! G.the-row fullShare (xg .now) 2 noSegment (G-vals (getD (xg .now) 2 noSegment)) (xg .ptr .0) (xg .ptr .1) (within 2 big tt) $
+        assigns ! (of-opd ! (load ! (from ! (hop ! (look ! 52 refl) (stop !))) (read-segment W (xg .now) (xg .ptr .0) (xg .ptr .1) _ 2 (within 2 big tt)))) (from ! (stop !)) (init ! 50 refl (typed-one (getD (xg .now) 2 noSegment) (is .1 .1 .0))) $
         assigns ! (bin ! (load ! (from ! (fld ! refl (stop !))) (look-in ! 80 (sub ! 0 refl (whole !)))) (lit ! tt) tt) (from ! (stop !)) (init ! 48 refl (tt, tt)) $
-        rewrite ! 48 (λ (z : ℕ). ‵ (fat fullShare tyPtr l19 0 (vptr (xg .ptr .0) z))) (sym (place-is 32 (xg .ptr .1) 3)) refl $
-        elem-out ! G.the-row (Is G.the-row) (shows 𝓤 H A G.the-row) G-vals (G′.lowers .val-is) fullShare (xg .now) 3 noSegment (xg .ptr .0) (xg .ptr .1) (within 3 big tt) (λ is3.
-        assigns ! (of-opd ! (load ! (from ! (hop ! (look ! 50 refl) (stop !))) (look-raw ! 0 refl))) (from ! (stop !)) (init ! 48 refl (typed-one (getD (xg .now) 3 noSegment) is3)) $
-        elem-back ! G.the-row fullShare (xg .now) 3 noSegment (G-vals (getD (xg .now) 3 noSegment)) (xg .ptr .0) (xg .ptr .1) (within 3 big tt) $
+        assigns ! (of-opd ! (load ! (from ! (hop ! (look ! 48 refl) (stop !))) (read-segment W (xg .now) (xg .ptr .0) (xg .ptr .1) _ 3 (within 3 big tt)))) (from ! (stop !)) (init ! 46 refl (typed-one (getD (xg .now) 3 noSegment) (is .1 .1 .1 .0))) $
         assigns ! (bin ! (load ! (from ! (fld ! refl (stop !))) (look-in ! 80 (sub ! 0 refl (whole !)))) (lit ! tt) tt) (from ! (stop !)) (init ! 44 refl (tt, tt)) $
-        rewrite ! 44 (λ (z : ℕ). ‵ (fat fullShare tyPtr l21 0 (vptr (xg .ptr .0) z))) (sym (place-is 32 (xg .ptr .1) 4)) refl $
-        elem-out ! G.the-row (Is G.the-row) (shows 𝓤 H A G.the-row) G-vals (G′.lowers .val-is) fullShare (xg .now) 4 noSegment (xg .ptr .0) (xg .ptr .1) (within 4 big tt) (λ is4.
-        assigns ! (of-opd ! (load ! (from ! (hop ! (look ! 46 refl) (stop !))) (look-raw ! 0 refl))) (from ! (stop !)) (init ! 44 refl (typed-one (getD (xg .now) 4 noSegment) is4)) $
-        elem-back ! G.the-row fullShare (xg .now) 4 noSegment (G-vals (getD (xg .now) 4 noSegment)) (xg .ptr .0) (xg .ptr .1) (within 4 big tt) $
+        assigns ! (of-opd ! (load ! (from ! (hop ! (look ! 44 refl) (stop !))) (read-segment W (xg .now) (xg .ptr .0) (xg .ptr .1) _ 4 (within 4 big tt)))) (from ! (stop !)) (init ! 42 refl (typed-one (getD (xg .now) 4 noSegment) (is .1 .1 .1 .1 .0))) $
         assigns ! (bin ! (load ! (from ! (fld ! refl (stop !))) (look-in ! 80 (sub ! 0 refl (whole !)))) (lit ! tt) tt) (from ! (stop !)) (init ! 40 refl (tt, tt)) $
-        rewrite ! 40 (λ (z : ℕ). ‵ (fat fullShare tyPtr l23 0 (vptr (xg .ptr .0) z))) (sym (place-is 32 (xg .ptr .1) 5)) refl $
-        elem-out ! G.the-row (Is G.the-row) (shows 𝓤 H A G.the-row) G-vals (G′.lowers .val-is) fullShare (xg .now) 5 noSegment (xg .ptr .0) (xg .ptr .1) (within 5 big tt) (λ is5.
-        assigns ! (of-opd ! (load ! (from ! (hop ! (look ! 42 refl) (stop !))) (look-raw ! 0 refl))) (from ! (stop !)) (init ! 40 refl (typed-one (getD (xg .now) 5 noSegment) is5)) $
-        elem-back ! G.the-row fullShare (xg .now) 5 noSegment (G-vals (getD (xg .now) 5 noSegment)) (xg .ptr .0) (xg .ptr .1) (within 5 big tt) $
+        assigns ! (of-opd ! (load ! (from ! (hop ! (look ! 40 refl) (stop !))) (read-segment W (xg .now) (xg .ptr .0) (xg .ptr .1) _ 5 (within 5 big tt)))) (from ! (stop !)) (init ! 38 refl (typed-one (getD (xg .now) 5 noSegment) (is .1 .1 .1 .1 .1 .0))) $
         assigns ! (bin ! (load ! (from ! (fld ! refl (stop !))) (look-in ! 80 (sub ! 0 refl (whole !)))) (lit ! tt) tt) (from ! (stop !)) (init ! 36 refl (tt, tt)) $
-        rewrite ! 36 (λ (z : ℕ). ‵ (fat fullShare tyPtr l25 0 (vptr (xg .ptr .0) z))) (sym (place-is 32 (xg .ptr .1) 6)) refl $
-        elem-out ! G.the-row (Is G.the-row) (shows 𝓤 H A G.the-row) G-vals (G′.lowers .val-is) fullShare (xg .now) 6 noSegment (xg .ptr .0) (xg .ptr .1) (within 6 big tt) (λ is6.
-        assigns ! (of-opd ! (load ! (from ! (hop ! (look ! 38 refl) (stop !))) (look-raw ! 0 refl))) (from ! (stop !)) (init ! 36 refl (typed-one (getD (xg .now) 6 noSegment) is6)) $
-        elem-back ! G.the-row fullShare (xg .now) 6 noSegment (G-vals (getD (xg .now) 6 noSegment)) (xg .ptr .0) (xg .ptr .1) (within 6 big tt) $
+        assigns ! (of-opd ! (load ! (from ! (hop ! (look ! 36 refl) (stop !))) (read-segment W (xg .now) (xg .ptr .0) (xg .ptr .1) _ 6 (within 6 big tt)))) (from ! (stop !)) (init ! 34 refl (typed-one (getD (xg .now) 6 noSegment) (is .1 .1 .1 .1 .1 .1 .0))) $
         assigns ! (bin ! (load ! (from ! (fld ! refl (stop !))) (look-in ! 80 (sub ! 0 refl (whole !)))) (lit ! tt) tt) (from ! (stop !)) (init ! 32 refl (tt, tt)) $
-        rewrite ! 32 (λ (z : ℕ). ‵ (fat fullShare tyPtr l27 0 (vptr (xg .ptr .0) z))) (sym (place-is 32 (xg .ptr .1) 7)) refl $
-        elem-out ! G.the-row (Is G.the-row) (shows 𝓤 H A G.the-row) G-vals (G′.lowers .val-is) fullShare (xg .now) 7 noSegment (xg .ptr .0) (xg .ptr .1) (within 7 big tt) (λ is7.
-        assigns ! (of-opd ! (load ! (from ! (hop ! (look ! 34 refl) (stop !))) (look-raw ! 0 refl))) (from ! (stop !)) (init ! 32 refl (typed-one (getD (xg .now) 7 noSegment) is7)) $
-        elem-back ! G.the-row fullShare (xg .now) 7 noSegment (G-vals (getD (xg .now) 7 noSegment)) (xg .ptr .0) (xg .ptr .1) (within 7 big tt) $
-        assigns ! (agg ! (and-then ! (load ! (from ! (stop !)) (look ! 58 refl)) (and-then ! (load ! (from ! (stop !)) (look ! 54 refl)) (and-then ! (load ! (from ! (stop !)) (look ! 50 refl)) (and-then ! (load ! (from ! (stop !)) (look ! 46 refl)) (and-then ! (load ! (from ! (stop !)) (look ! 42 refl)) (and-then ! (load ! (from ! (stop !)) (look ! 38 refl)) (and-then ! (load ! (from ! (stop !)) (look ! 34 refl)) (and-then ! (load ! (from ! (stop !)) (look ! 30 refl)) (no-more !)))))))))) (from ! (stop !)) (init ! 66 refl (typed-G first (is-first is0 is1 is2 is3 is4 is5 is6 is7) .0)) $
-        middle l0 l1 l2 l3 l4 l5 l6 l7 l8 l9 l10 l11 l12 l13 l14 l15 l16 l17 l18 l19 l20 l21 l22 l23 l24 l25 l26 l27 l28 l29 l30 l31 l32 l33 l34 l35 l36 l37 l38 _ _ _ _ _ _ _ _ _ _ _ _ _ _ _ _ _ _ _ _ _ _ _ _ _ _ _ _ _ _ _ _ _ _ _ _ _ _ _ _ _ _ big (is-first is0 is1 is2 is3 is4 is5 is6 is7)))))))))
+        assigns ! (of-opd ! (load ! (from ! (hop ! (look ! 32 refl) (stop !))) (read-segment W (xg .now) (xg .ptr .0) (xg .ptr .1) _ 7 (within 7 big tt)))) (from ! (stop !)) (init ! 30 refl (typed-one (getD (xg .now) 7 noSegment) (is .1 .1 .1 .1 .1 .1 .1 .0))) $
+        assigns ! (agg ! (and-then ! (load ! (from ! (stop !)) (look ! 58 refl)) (and-then ! (load ! (from ! (stop !)) (look ! 54 refl)) (and-then ! (load ! (from ! (stop !)) (look ! 50 refl)) (and-then ! (load ! (from ! (stop !)) (look ! 46 refl)) (and-then ! (load ! (from ! (stop !)) (look ! 42 refl)) (and-then ! (load ! (from ! (stop !)) (look ! 38 refl)) (and-then ! (load ! (from ! (stop !)) (look ! 34 refl)) (and-then ! (load ! (from ! (stop !)) (look ! 30 refl)) (no-more !)))))))))) (from ! (stop !)) (init ! 66 refl (typed-G first (is-first is) .0)) $
+        middle l0 l1 l2 l3 l4 l5 l6 l7 l8 l9 l10 l11 l12 l13 l14 l15 l16 l17 l18 l19 l20 l21 l22 l23 l24 l25 l26 l27 l28 l29 l30 l31 l32 l33 l34 l35 l36 l37 l38 _ _ _ _ _ _ _ _ _ _ _ _ _ _ _ _ _ _ _ _ _ _ _ _ _ _ _ _ _ _ _ _ _ _ _ _ _ _ _ _ _ _ big (is-first is))
 
     -- the whole function
     walk : 8 ≤ length (xg .now) → ent 𝓤 (onEntry 𝓤 H A f.signature (κ0, (κ1, (κ2, (κ3, (κ4, (κ5, tt)))))) (q0, (q1, (q2, (q3, (q4, (q5, tt)))))) a at) (WpFn 𝓤 H C Λ code.function (only (Ys-vals ms) ∷ only (Bs-vals ts) ∷ (list-of xg) ∷ (record-of yd) ∷ (record-of yf) ∷ (list-of bs) ∷ (list-of cs) ∷ (list-of ks) ∷ P′.lowered op ∷ []) Post)

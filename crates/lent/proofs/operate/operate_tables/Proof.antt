@@ -1,5 +1,6 @@
 -- `lent::operate::operate_tables` meets its contract, by a walk of its code. Assumes nothing.
-use Rattle.lent.proofs.Walk.{_≡_, refl, ap, subst, sym, [], _∷_, List, map, ℕ, _≤_, _<_, _^_, _*_, arith, ltb, ltb→lt, length, set, getD, length-set, fullShare, URA, named, w64, Ty, tyInt, tyRef, mut, erased, tyPtr, tyArray, Val, vint, vptr, WT, hasTy, Lft, Share, ftrue, fat, froom, fdies, flft, fres, fobs, fauth, fbor, fobor, SProp, ent, id⊢, Routine, Heap, Calls, Loops, WpFn, Atoms, Fun, fact, givenOf, tables, FmC, Given, Item, Go, nth, Sq, runs, atRet, ‵, raw, _⊛_, some, later, ⋆, _$_, _∵_, !, qed, by, move, keep, drop, use1, group, split, join, pick, rewrite, fsplit, fjoin, feqL, suffices, frame, await, done, Reads, look, look-raw, init, store-raw, stop, hop, fld, from, load, lit, addr, of-opd, bin, and-then, no-more, assigns, land, returns, enter, alloc1, alloc0, params1, pass1, pass0, agg, whole, sub, look-in, owns, Is, shows, Typed, u8, u64, RefT, MutRef, ptr-vals, mut-tells, sliceTy, sliceVal, slice-vals, MutSlice, Room, heres, finally, codedHoleys, at-slice, mut-slice-tells, Held, pureI, row, place-is, elem-out, elem-back, elem-put, opens-slice, closes-slice, array-tells, array-lawful, array-makes, plain, only, owned, peeks, heard, nothing, yes, Contract, Triple, calls-at, ensured, lasts, onEntry, tripleOf, cited, says, needs, Stays, stay-none, gave-ref, stay-slice, gave-slice, walkOf, AllGo, goes-none, goes-gave-ref, goes-slice, goes-gave-slice, Walks, ends-at, walked, Holds, Mem, list-of, record-of, closes-walk, free-all, held}
+use Rattle.lent.proofs.Walk.{_≡_, refl, ap, subst, sym, [], _∷_, List, map, ℕ, _≤_, _<_, _^_, _*_, arith, ltb, ltb→lt, length, set, getD, length-set, fullShare, URA, named, w64, Ty, tyInt, tyRef, mut, erased, tyPtr, tyArray, Val, vint, vptr, WT, hasTy, Lft, Share, ftrue, fat, froom, fdies, flft, fres, fobs, fauth, fbor, fobor, SProp, ent, id⊢, Routine, Heap, Calls, Loops, WpFn, Atoms, Fun, fact, givenOf, tables, FmC, Given, Item, Go, nth, Sq, runs, atRet, ‵, raw, _⊛_, some, later, ⋆, _$_, _∵_, !, qed, by, move, keep, drop, use1, group, split, join, pick, rewrite, fsplit, fjoin, feqL, suffices, frame, await, done, Reads, look, init, store-raw, stop, hop, fld, from, load, lit, addr, of-opd, bin, and-then, no-more, assigns, land, returns, enter, alloc1, alloc0, params1, pass1, pass0, agg, whole, sub, look-in, owns, Is, shows, Typed, u8, u64, RefT, MutRef, ptr-vals, mut-tells, sliceTy, sliceVal, slice-vals, MutSlice, Room, heres, finally, codedHoleys, at-slice, mut-slice-tells, Held, pureI, row, place-is, elem-out, elem-put, opens-slice, closes-slice, array-tells, array-lawful, array-makes, plain, only, owned, peeks, heard, nothing, yes, Contract, Triple, calls-at, ensured, lasts, onEntry, tripleOf, cited, says, needs, Stays, stay-none, gave-ref, stay-slice, gave-slice, walkOf, AllGo, goes-none, goes-gave-ref, goes-slice, goes-gave-slice, Walks, ends-at, walked, Holds, Mem, list-of, record-of, closes-walk, free-all, held}
+use Rattle.lent.proofs.RowReads.{TablesKnown, read-table, know-tables}
 use denote.Struct.Laws as LL
 use denote.Enum.Laws as EL
 use Rattle.types.specs.Raw.{rawBytes}
@@ -100,11 +101,8 @@ module _ {M : Type 1} (𝓤 : URA M) (H : Heap 𝓤) (A : Atoms 𝓤) (W : Given
   fits-at : (i : ℕ) → i < length (xt .now) → i * 56 < 2 ^ 64
   fits-at i l = omega (arith, room-xt .1, l)
 
-  abbrev nth-is : ℕ → Type 0
-  nth-is k = Is B.the-row (getD (xt .now) k noTable) (B-vals (getD (xt .now) k noTable))
-
-  is-first : nth-is 0 → nth-is 1 → nth-is 2 → nth-is 3 → nth-is 4 → nth-is 5 → nth-is 6 → nth-is 7 → Is AR-B first (Bs-vals first)
-  is-first a0 a1 a2 a3 a4 a5 a6 a7 = (map (λ (d : Table). B′.lowered d) first, ((refl, refl), (a0, (a1, (a2, (a3, (a4, (a5, (a6, (a7, tt))))))))))
+  is-first : TablesKnown (xt .now) → Is AR-B first (Bs-vals first)
+  is-first is = (map (λ (d : Table). B′.lowered d) first, ((refl, refl), is))
 
   -- a field of what came back, as it lies in its local
   get-2 : (l : ℕ) (r : Placed) (Γ : List (Item 𝓤)) (n : ℕ) → nth 𝓤 H A n Γ ≡ ‵ (fat fullShare O′.mir l 0 (O′.lowered r)) → Reads (Go {0}) W Γ (tyInt w64) l 64 (vint w64 (r .«table_at»))
@@ -190,48 +188,25 @@ module _ {M : Type 1} (𝓤 : URA M) (H : Heap 𝓤) (A : Atoms 𝓤) (W : Given
         Sq W (‵ (fobs (xt .name) (codedHoleys B.the-row .code (heres B.the-row (xt .now)))) ∷ ‵ (fbor κ0 (Held B.the-row (length (xt .now)) (xt .ptr .0) (xt .ptr .1) (xt .name))) ∷ ‵ (MutSlice (named 6) κ6 u64 .own ks ((list-of ks) ∷ [])) ∷ ‵ (MutSlice (named 5) κ5 u64 .own cs ((list-of cs) ∷ [])) ∷ ‵ (MutSlice (named 4) κ4 u8 .own bs ((list-of bs) ∷ [])) ∷ ‵ (MutRef (named 3) κ3 F.the-row .own yf ((record-of yf) ∷ [])) ∷ ‵ (MutRef (named 2) κ2 D.the-row .own yd ((record-of yd) ∷ [])) ∷ ‵ (MutSlice (named 1) κ1 G.the-row .own xg ((list-of xg) ∷ [])) ∷ ‵ (flft κ0 q0) ∷ (‵ (flft κ1 q1) ⊛ ‵ (flft κ2 q2) ⊛ ‵ (flft κ3 q3) ⊛ ‵ (flft κ4 q4) ⊛ ‵ (flft κ5 q5) ⊛ ‵ (flft κ6 q6) ⊛ ‵ ftrue) ∷ ‵ (froom tyPtr l40 0) ∷ ‵ (fdies tyPtr l40) ∷ ‵ (froom (tyInt w64) l39 0) ∷ ‵ (fdies (tyInt w64) l39) ∷ ‵ (froom (sliceTy (tyRef erased mut σks)) l38 0) ∷ ‵ (fdies (sliceTy (tyRef erased mut σks)) l38) ∷ ‵ (froom (tyRef erased mut σks) l37 0) ∷ ‵ (fdies (tyRef erased mut σks) l37) ∷ ‵ (froom (sliceTy (tyRef erased mut σcs)) l36 0) ∷ ‵ (fdies (sliceTy (tyRef erased mut σcs)) l36) ∷ ‵ (froom (tyRef erased mut σcs) l35 0) ∷ ‵ (fdies (tyRef erased mut σcs) l35) ∷ ‵ (froom (sliceTy (tyRef erased mut σbs)) l34 0) ∷ ‵ (fdies (sliceTy (tyRef erased mut σbs)) l34) ∷ ‵ (froom (tyRef erased mut σbs) l33 0) ∷ ‵ (fdies (tyRef erased mut σbs) l33) ∷ ‵ (froom (tyRef erased mut σyf) l32 0) ∷ ‵ (fdies (tyRef erased mut σyf) l32) ∷ ‵ (froom (tyRef erased mut σyd) l31 0) ∷ ‵ (fdies (tyRef erased mut σyd) l31) ∷ ‵ (froom (sliceTy (tyRef erased mut σxg)) l30 0) ∷ ‵ (fdies (sliceTy (tyRef erased mut σxg)) l30) ∷ ‵ (froom (tyRef erased mut σxg) l29 0) ∷ ‵ (fdies (tyRef erased mut σxg) l29) ∷ ‵ (froom B′.mir l28 0) ∷ ‵ (fdies B′.mir l28) ∷ ‵ (froom tyPtr l27 0) ∷ ‵ (fdies tyPtr l27) ∷ ‵ (froom B′.mir l26 0) ∷ ‵ (fdies B′.mir l26) ∷ ‵ (froom tyPtr l25 0) ∷ ‵ (fdies tyPtr l25) ∷ ‵ (froom B′.mir l24 0) ∷ ‵ (fdies B′.mir l24) ∷ ‵ (froom tyPtr l23 0) ∷ ‵ (fdies tyPtr l23) ∷ ‵ (froom B′.mir l22 0) ∷ ‵ (fdies B′.mir l22) ∷ ‵ (froom tyPtr l21 0) ∷ ‵ (fdies tyPtr l21) ∷ ‵ (froom B′.mir l20 0) ∷ ‵ (fdies B′.mir l20) ∷ ‵ (froom tyPtr l19 0) ∷ ‵ (fdies tyPtr l19) ∷ ‵ (froom B′.mir l18 0) ∷ ‵ (fdies B′.mir l18) ∷ ‵ (froom tyPtr l17 0) ∷ ‵ (fdies tyPtr l17) ∷ ‵ (froom B′.mir l16 0) ∷ ‵ (fdies B′.mir l16) ∷ ‵ (froom tyPtr l15 0) ∷ ‵ (fdies tyPtr l15) ∷ ‵ (froom B′.mir l14 0) ∷ ‵ (fdies B′.mir l14) ∷ ‵ (froom tyPtr l13 0) ∷ ‵ (fdies tyPtr l13) ∷ ‵ (froom (tyInt w64) l12 0) ∷ ‵ (fdies (tyInt w64) l12) ∷ ‵ (froom O′.mir l11 0) ∷ ‵ (fdies O′.mir l11) ∷ ‵ (froom (tyArray B′.mir 8) l10 0) ∷ ‵ (fdies (tyArray B′.mir 8) l10) ∷ ‵ (fat fullShare τ9 l9 0 (P′.lowered op)) ∷ ‵ (fdies τ9 l9) ∷ ‵ (fat fullShare (sliceTy (tyRef (named 6) mut σks)) l8 0 (list-of ks)) ∷ ‵ (fdies (sliceTy (tyRef (named 6) mut σks)) l8) ∷ ‵ (fat fullShare (sliceTy (tyRef (named 5) mut σcs)) l7 0 (list-of cs)) ∷ ‵ (fdies (sliceTy (tyRef (named 5) mut σcs)) l7) ∷ ‵ (fat fullShare (sliceTy (tyRef (named 4) mut σbs)) l6 0 (list-of bs)) ∷ ‵ (fdies (sliceTy (tyRef (named 4) mut σbs)) l6) ∷ ‵ (fat fullShare (tyRef (named 3) mut σyf) l5 0 (record-of yf)) ∷ ‵ (fdies (tyRef (named 3) mut σyf) l5) ∷ ‵ (fat fullShare (tyRef (named 2) mut σyd) l4 0 (record-of yd)) ∷ ‵ (fdies (tyRef (named 2) mut σyd) l4) ∷ ‵ (fat fullShare (sliceTy (tyRef (named 1) mut σxg)) l3 0 (list-of xg)) ∷ ‵ (fdies (sliceTy (tyRef (named 1) mut σxg)) l3) ∷ ‵ (fat fullShare (sliceTy (tyRef (named 0) mut σxt)) l2 0 (list-of xt)) ∷ ‵ (fdies (sliceTy (tyRef (named 0) mut σxt)) l2) ∷ ‵ (fat fullShare τ1 l1 0 (only (Ys-vals ms))) ∷ ‵ (fdies τ1 l1) ∷ ‵ (froom O′.mir l0 0) ∷ ‵ (fdies O′.mir l0) ∷ []) (runs C Λ ((O′.mir, l0) ∷ (τ1, l1) ∷ (sliceTy (tyRef (named 0) mut σxt), l2) ∷ (sliceTy (tyRef (named 1) mut σxg), l3) ∷ (tyRef (named 2) mut σyd, l4) ∷ (tyRef (named 3) mut σyf, l5) ∷ (sliceTy (tyRef (named 4) mut σbs), l6) ∷ (sliceTy (tyRef (named 5) mut σcs), l7) ∷ (sliceTy (tyRef (named 6) mut σks), l8) ∷ (τ9, l9) ∷ (tyArray B′.mir 8, l10) ∷ (O′.mir, l11) ∷ (tyInt w64, l12) ∷ (tyPtr, l13) ∷ (B′.mir, l14) ∷ (tyPtr, l15) ∷ (B′.mir, l16) ∷ (tyPtr, l17) ∷ (B′.mir, l18) ∷ (tyPtr, l19) ∷ (B′.mir, l20) ∷ (tyPtr, l21) ∷ (B′.mir, l22) ∷ (tyPtr, l23) ∷ (B′.mir, l24) ∷ (tyPtr, l25) ∷ (B′.mir, l26) ∷ (tyPtr, l27) ∷ (B′.mir, l28) ∷ (tyRef erased mut σxg, l29) ∷ (sliceTy (tyRef erased mut σxg), l30) ∷ (tyRef erased mut σyd, l31) ∷ (tyRef erased mut σyf, l32) ∷ (tyRef erased mut σbs, l33) ∷ (sliceTy (tyRef erased mut σbs), l34) ∷ (tyRef erased mut σcs, l35) ∷ (sliceTy (tyRef erased mut σcs), l36) ∷ (tyRef erased mut σks, l37) ∷ (sliceTy (tyRef erased mut σks), l38) ∷ (tyInt w64, l39) ∷ (tyPtr, l40) ∷ []) t-1 (atRet ((O′.mir, l0) ∷ (τ1, l1) ∷ (sliceTy (tyRef (named 0) mut σxt), l2) ∷ (sliceTy (tyRef (named 1) mut σxg), l3) ∷ (tyRef (named 2) mut σyd, l4) ∷ (tyRef (named 3) mut σyf, l5) ∷ (sliceTy (tyRef (named 4) mut σbs), l6) ∷ (sliceTy (tyRef (named 5) mut σcs), l7) ∷ (sliceTy (tyRef (named 6) mut σks), l8) ∷ (τ9, l9) ∷ (tyArray B′.mir 8, l10) ∷ (O′.mir, l11) ∷ (tyInt w64, l12) ∷ (tyPtr, l13) ∷ (B′.mir, l14) ∷ (tyPtr, l15) ∷ (B′.mir, l16) ∷ (tyPtr, l17) ∷ (B′.mir, l18) ∷ (tyPtr, l19) ∷ (B′.mir, l20) ∷ (tyPtr, l21) ∷ (B′.mir, l22) ∷ (tyPtr, l23) ∷ (B′.mir, l24) ∷ (tyPtr, l25) ∷ (B′.mir, l26) ∷ (tyPtr, l27) ∷ (B′.mir, l28) ∷ (tyRef erased mut σxg, l29) ∷ (sliceTy (tyRef erased mut σxg), l30) ∷ (tyRef erased mut σyd, l31) ∷ (tyRef erased mut σyf, l32) ∷ (tyRef erased mut σbs, l33) ∷ (sliceTy (tyRef erased mut σbs), l34) ∷ (tyRef erased mut σcs, l35) ∷ (sliceTy (tyRef erased mut σcs), l36) ∷ (tyRef erased mut σks, l37) ∷ (sliceTy (tyRef erased mut σks), l38) ∷ (tyInt w64, l39) ∷ (tyPtr, l40) ∷ []) Post))
     start l0 l1 l2 l3 l4 l5 l6 l7 l8 l9 l10 l11 l12 l13 l14 l15 l16 l17 l18 l19 l20 l21 l22 l23 l24 l25 l26 l27 l28 l29 l30 l31 l32 l33 l34 l35 l36 l37 l38 l39 l40 σbs σcs σks σxg σxt σyd σyf τ1 τ9 big bigs =
         move ! (0 ∷ 1 ∷ 8 ∷ []) $ opens-slice ! tt B.the-row (xt .now) (xt .ptr .0) (xt .ptr .1) $
+        know-tables W (xt .now) (xt .ptr .0) (xt .ptr .1) _ big (λ is.
         assigns ! (bin ! (load ! (from ! (fld ! refl (stop !))) (look-in ! 87 (sub ! 0 refl (whole !)))) (lit ! tt) tt) (from ! (stop !)) (init ! 65 refl (tt, tt)) $
-        rewrite ! 65 (λ (z : ℕ). ‵ (fat fullShare tyPtr l13 0 (vptr (xt .ptr .0) z))) (sym (place-is 56 (xt .ptr .1) 0)) refl $
-        elem-out ! B.the-row (Is B.the-row) (shows 𝓤 H A B.the-row) B-vals (B′.lowers .val-is) fullShare (xt .now) 0 noTable (xt .ptr .0) (xt .ptr .1) (within 0 big tt) (λ is0.
-        assigns ! (of-opd ! (load ! (from ! (hop ! (look ! 67 refl) (stop !))) (look-raw ! 0 refl))) (from ! (stop !)) (init ! 65 refl (typed-one (getD (xt .now) 0 noTable) is0)) $
-        elem-back ! B.the-row fullShare (xt .now) 0 noTable (B-vals (getD (xt .now) 0 noTable)) (xt .ptr .0) (xt .ptr .1) (within 0 big tt) $
+        assigns ! (of-opd ! (load ! (from ! (hop ! (look ! 65 refl) (stop !))) (read-table W (xt .now) (xt .ptr .0) (xt .ptr .1) _ 0 (within 0 big tt)))) (from ! (stop !)) (init ! 63 refl (typed-one (getD (xt .now) 0 noTable) (is .0))) $
         assigns ! (bin ! (load ! (from ! (fld ! refl (stop !))) (look-in ! 87 (sub ! 0 refl (whole !)))) (lit ! tt) tt) (from ! (stop !)) (init ! 61 refl (tt, tt)) $
-        rewrite ! 61 (λ (z : ℕ). ‵ (fat fullShare tyPtr l15 0 (vptr (xt .ptr .0) z))) (sym (place-is 56 (xt .ptr .1) 1)) refl $
-        elem-out ! B.the-row (Is B.the-row) (shows 𝓤 H A B.the-row) B-vals (B′.lowers .val-is) fullShare (xt .now) 1 noTable (xt .ptr .0) (xt .ptr .1) (within 1 big tt) (λ is1.
-        assigns ! (of-opd ! (load ! (from ! (hop ! (look ! 63 refl) (stop !))) (look-raw ! 0 refl))) (from ! (stop !)) (init ! 61 refl (typed-one (getD (xt .now) 1 noTable) is1)) $
-        elem-back ! B.the-row fullShare (xt .now) 1 noTable (B-vals (getD (xt .now) 1 noTable)) (xt .ptr .0) (xt .ptr .1) (within 1 big tt) $
+        assigns ! (of-opd ! (load ! (from ! (hop ! (look ! 61 refl) (stop !))) (read-table W (xt .now) (xt .ptr .0) (xt .ptr .1) _ 1 (within 1 big tt)))) (from ! (stop !)) (init ! 59 refl (typed-one (getD (xt .now) 1 noTable) (is .1 .0))) $
         assigns ! (bin ! (load ! (from ! (fld ! refl (stop !))) (look-in ! 87 (sub ! 0 refl (whole !)))) (lit ! tt) tt) (from ! (stop !)) (init ! 57 refl (tt, tt)) $
-        rewrite ! 57 (λ (z : ℕ). ‵ (fat fullShare tyPtr l17 0 (vptr (xt .ptr .0) z))) (sym (place-is 56 (xt .ptr .1) 2)) refl $
-        elem-out ! B.the-row (Is B.the-row) (shows 𝓤 H A B.the-row) B-vals (B′.lowers .val-is) fullShare (xt .now) 2 noTable (xt .ptr .0) (xt .ptr .1) (within 2 big tt) (λ is2.
-        assigns ! (of-opd ! (load ! (from ! (hop ! (look ! 59 refl) (stop !))) (look-raw ! 0 refl))) (from ! (stop !)) (init ! 57 refl (typed-one (getD (xt .now) 2 noTable) is2)) $
-        elem-back ! B.the-row fullShare (xt .now) 2 noTable (B-vals (getD (xt .now) 2 noTable)) (xt .ptr .0) (xt .ptr .1) (within 2 big tt) $
+        assigns ! (of-opd ! (load ! (from ! (hop ! (look ! 57 refl) (stop !))) (read-table W (xt .now) (xt .ptr .0) (xt .ptr .1) _ 2 (within 2 big tt)))) (from ! (stop !)) (init ! 55 refl (typed-one (getD (xt .now) 2 noTable) (is .1 .1 .0))) $
         assigns ! (bin ! (load ! (from ! (fld ! refl (stop !))) (look-in ! 87 (sub ! 0 refl (whole !)))) (lit ! tt) tt) (from ! (stop !)) (init ! 53 refl (tt, tt)) $
-        rewrite ! 53 (λ (z : ℕ). ‵ (fat fullShare tyPtr l19 0 (vptr (xt .ptr .0) z))) (sym (place-is 56 (xt .ptr .1) 3)) refl $
-        elem-out ! B.the-row (Is B.the-row) (shows 𝓤 H A B.the-row) B-vals (B′.lowers .val-is) fullShare (xt .now) 3 noTable (xt .ptr .0) (xt .ptr .1) (within 3 big tt) (λ is3.
-        assigns ! (of-opd ! (load ! (from ! (hop ! (look ! 55 refl) (stop !))) (look-raw ! 0 refl))) (from ! (stop !)) (init ! 53 refl (typed-one (getD (xt .now) 3 noTable) is3)) $
-        elem-back ! B.the-row fullShare (xt .now) 3 noTable (B-vals (getD (xt .now) 3 noTable)) (xt .ptr .0) (xt .ptr .1) (within 3 big tt) $
+        assigns ! (of-opd ! (load ! (from ! (hop ! (look ! 53 refl) (stop !))) (read-table W (xt .now) (xt .ptr .0) (xt .ptr .1) _ 3 (within 3 big tt)))) (from ! (stop !)) (init ! 51 refl (typed-one (getD (xt .now) 3 noTable) (is .1 .1 .1 .0))) $
         assigns ! (bin ! (load ! (from ! (fld ! refl (stop !))) (look-in ! 87 (sub ! 0 refl (whole !)))) (lit ! tt) tt) (from ! (stop !)) (init ! 49 refl (tt, tt)) $
-        rewrite ! 49 (λ (z : ℕ). ‵ (fat fullShare tyPtr l21 0 (vptr (xt .ptr .0) z))) (sym (place-is 56 (xt .ptr .1) 4)) refl $
-        elem-out ! B.the-row (Is B.the-row) (shows 𝓤 H A B.the-row) B-vals (B′.lowers .val-is) fullShare (xt .now) 4 noTable (xt .ptr .0) (xt .ptr .1) (within 4 big tt) (λ is4.
-        assigns ! (of-opd ! (load ! (from ! (hop ! (look ! 51 refl) (stop !))) (look-raw ! 0 refl))) (from ! (stop !)) (init ! 49 refl (typed-one (getD (xt .now) 4 noTable) is4)) $
-        elem-back ! B.the-row fullShare (xt .now) 4 noTable (B-vals (getD (xt .now) 4 noTable)) (xt .ptr .0) (xt .ptr .1) (within 4 big tt) $
+        assigns ! (of-opd ! (load ! (from ! (hop ! (look ! 49 refl) (stop !))) (read-table W (xt .now) (xt .ptr .0) (xt .ptr .1) _ 4 (within 4 big tt)))) (from ! (stop !)) (init ! 47 refl (typed-one (getD (xt .now) 4 noTable) (is .1 .1 .1 .1 .0))) $
         assigns ! (bin ! (load ! (from ! (fld ! refl (stop !))) (look-in ! 87 (sub ! 0 refl (whole !)))) (lit ! tt) tt) (from ! (stop !)) (init ! 45 refl (tt, tt)) $
-        rewrite ! 45 (λ (z : ℕ). ‵ (fat fullShare tyPtr l23 0 (vptr (xt .ptr .0) z))) (sym (place-is 56 (xt .ptr .1) 5)) refl $
-        elem-out ! B.the-row (Is B.the-row) (shows 𝓤 H A B.the-row) B-vals (B′.lowers .val-is) fullShare (xt .now) 5 noTable (xt .ptr .0) (xt .ptr .1) (within 5 big tt) (λ is5.
-        assigns ! (of-opd ! (load ! (from ! (hop ! (look ! 47 refl) (stop !))) (look-raw ! 0 refl))) (from ! (stop !)) (init ! 45 refl (typed-one (getD (xt .now) 5 noTable) is5)) $
-        elem-back ! B.the-row fullShare (xt .now) 5 noTable (B-vals (getD (xt .now) 5 noTable)) (xt .ptr .0) (xt .ptr .1) (within 5 big tt) $
+        assigns ! (of-opd ! (load ! (from ! (hop ! (look ! 45 refl) (stop !))) (read-table W (xt .now) (xt .ptr .0) (xt .ptr .1) _ 5 (within 5 big tt)))) (from ! (stop !)) (init ! 43 refl (typed-one (getD (xt .now) 5 noTable) (is .1 .1 .1 .1 .1 .0))) $
         assigns ! (bin ! (load ! (from ! (fld ! refl (stop !))) (look-in ! 87 (sub ! 0 refl (whole !)))) (lit ! tt) tt) (from ! (stop !)) (init ! 41 refl (tt, tt)) $
-        rewrite ! 41 (λ (z : ℕ). ‵ (fat fullShare tyPtr l25 0 (vptr (xt .ptr .0) z))) (sym (place-is 56 (xt .ptr .1) 6)) refl $
-        elem-out ! B.the-row (Is B.the-row) (shows 𝓤 H A B.the-row) B-vals (B′.lowers .val-is) fullShare (xt .now) 6 noTable (xt .ptr .0) (xt .ptr .1) (within 6 big tt) (λ is6.
-        assigns ! (of-opd ! (load ! (from ! (hop ! (look ! 43 refl) (stop !))) (look-raw ! 0 refl))) (from ! (stop !)) (init ! 41 refl (typed-one (getD (xt .now) 6 noTable) is6)) $
-        elem-back ! B.the-row fullShare (xt .now) 6 noTable (B-vals (getD (xt .now) 6 noTable)) (xt .ptr .0) (xt .ptr .1) (within 6 big tt) $
+        assigns ! (of-opd ! (load ! (from ! (hop ! (look ! 41 refl) (stop !))) (read-table W (xt .now) (xt .ptr .0) (xt .ptr .1) _ 6 (within 6 big tt)))) (from ! (stop !)) (init ! 39 refl (typed-one (getD (xt .now) 6 noTable) (is .1 .1 .1 .1 .1 .1 .0))) $
         assigns ! (bin ! (load ! (from ! (fld ! refl (stop !))) (look-in ! 87 (sub ! 0 refl (whole !)))) (lit ! tt) tt) (from ! (stop !)) (init ! 37 refl (tt, tt)) $
-        rewrite ! 37 (λ (z : ℕ). ‵ (fat fullShare tyPtr l27 0 (vptr (xt .ptr .0) z))) (sym (place-is 56 (xt .ptr .1) 7)) refl $
-        elem-out ! B.the-row (Is B.the-row) (shows 𝓤 H A B.the-row) B-vals (B′.lowers .val-is) fullShare (xt .now) 7 noTable (xt .ptr .0) (xt .ptr .1) (within 7 big tt) (λ is7.
-        assigns ! (of-opd ! (load ! (from ! (hop ! (look ! 39 refl) (stop !))) (look-raw ! 0 refl))) (from ! (stop !)) (init ! 37 refl (typed-one (getD (xt .now) 7 noTable) is7)) $
-        elem-back ! B.the-row fullShare (xt .now) 7 noTable (B-vals (getD (xt .now) 7 noTable)) (xt .ptr .0) (xt .ptr .1) (within 7 big tt) $
-        assigns ! (agg ! (and-then ! (load ! (from ! (stop !)) (look ! 63 refl)) (and-then ! (load ! (from ! (stop !)) (look ! 59 refl)) (and-then ! (load ! (from ! (stop !)) (look ! 55 refl)) (and-then ! (load ! (from ! (stop !)) (look ! 51 refl)) (and-then ! (load ! (from ! (stop !)) (look ! 47 refl)) (and-then ! (load ! (from ! (stop !)) (look ! 43 refl)) (and-then ! (load ! (from ! (stop !)) (look ! 39 refl)) (and-then ! (load ! (from ! (stop !)) (look ! 35 refl)) (no-more !)))))))))) (from ! (stop !)) (init ! 71 refl (typed-B first (is-first is0 is1 is2 is3 is4 is5 is6 is7) .0)) $
-        middle l0 l1 l2 l3 l4 l5 l6 l7 l8 l9 l10 l11 l12 l13 l14 l15 l16 l17 l18 l19 l20 l21 l22 l23 l24 l25 l26 l27 l28 l29 l30 l31 l32 l33 l34 l35 l36 l37 l38 l39 l40 _ _ _ _ _ _ _ _ _ _ _ _ _ _ _ _ _ _ _ _ _ _ _ _ _ _ _ _ _ _ _ _ _ _ _ _ _ _ _ _ _ _ big bigs (is-first is0 is1 is2 is3 is4 is5 is6 is7)))))))))
+        assigns ! (of-opd ! (load ! (from ! (hop ! (look ! 37 refl) (stop !))) (read-table W (xt .now) (xt .ptr .0) (xt .ptr .1) _ 7 (within 7 big tt)))) (from ! (stop !)) (init ! 35 refl (typed-one (getD (xt .now) 7 noTable) (is .1 .1 .1 .1 .1 .1 .1 .0))) $
+        assigns ! (agg ! (and-then ! (load ! (from ! (stop !)) (look ! 63 refl)) (and-then ! (load ! (from ! (stop !)) (look ! 59 refl)) (and-then ! (load ! (from ! (stop !)) (look ! 55 refl)) (and-then ! (load ! (from ! (stop !)) (look ! 51 refl)) (and-then ! (load ! (from ! (stop !)) (look ! 47 refl)) (and-then ! (load ! (from ! (stop !)) (look ! 43 refl)) (and-then ! (load ! (from ! (stop !)) (look ! 39 refl)) (and-then ! (load ! (from ! (stop !)) (look ! 35 refl)) (no-more !)))))))))) (from ! (stop !)) (init ! 71 refl (typed-B first (is-first is) .0)) $
+        middle l0 l1 l2 l3 l4 l5 l6 l7 l8 l9 l10 l11 l12 l13 l14 l15 l16 l17 l18 l19 l20 l21 l22 l23 l24 l25 l26 l27 l28 l29 l30 l31 l32 l33 l34 l35 l36 l37 l38 l39 l40 _ _ _ _ _ _ _ _ _ _ _ _ _ _ _ _ _ _ _ _ _ _ _ _ _ _ _ _ _ _ _ _ _ _ _ _ _ _ _ _ _ _ big bigs (is-first is))
 
     -- the whole function
     walk : 8 ≤ length (xt .now) → 8 ≤ length (xg .now) → ent 𝓤 (onEntry 𝓤 H A f.signature (κ0, (κ1, (κ2, (κ3, (κ4, (κ5, (κ6, tt))))))) (q0, (q1, (q2, (q3, (q4, (q5, (q6, tt))))))) a at) (WpFn 𝓤 H C Λ code.function (only (Ys-vals ms) ∷ (list-of xt) ∷ (list-of xg) ∷ (record-of yd) ∷ (record-of yf) ∷ (list-of bs) ∷ (list-of cs) ∷ (list-of ks) ∷ P′.lowered op ∷ []) Post)

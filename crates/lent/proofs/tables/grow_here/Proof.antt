@@ -1,5 +1,6 @@
 -- `lent::tables::grow_here` meets its contract, by a walk of its code: the first 8 records are read, one is grown, and its size, the fuel left and the script's place are written back. Assumes nothing.
-use Rattle.lent.proofs.Walk.{_≡_, refl, ap, subst, sym, [], _∷_, List, map, ℕ, _≤_, _<_, _^_, _*_, arith, ltb, ltb→lt, length, set, getD, length-set, fullShare, URA, named, w64, tyInt, tyPtr, Val, vint, vptr, WT, hasTy, Lft, Share, ftrue, fat, flft, fobs, fbor, SProp, ent, id⊢, Routine, Heap, Calls, Loops, WpFn, Atoms, Fun, fact, givenOf, tables, FmC, Given, Item, ‵, raw, _⊛_, some, later, ⋆, _$_, _∵_, !, qed, by, move, keep, drop, use1, group, split, join, pick, rewrite, fsplit, fsplit3, fjoin, fjoin3, feqL, feqI, suffices, frame, await, done, look, look-raw, init, forget, stop, hop, fld, from, load, lit, addr, of-opd, bin, and-then, no-more, assigns, land, returns, enter, alloc1, alloc0, params1, pass1, pass0, agg, whole, sub, look-in, Body, owns, Is, shows, mem, uint-makes, uint-vals, uint-tells, u64, usize, RefT, MutRef, ptr-vals, mut-tells, sliceVal, slice-vals, MutSlice, Room, heres, finally, codedHoleys, at-slice, mut-slice-tells, Held, pureI, place-is, elem-out, elem-back, elem-put, opens-slice, closes-slice, array-lawful, array-makes, plain, only, opens, closes, owned, peeks, heard, nothing, spelt, yes, Contract, Triple, calls-at, ensured, lasts, onEntry, tripleOf, cited, says, needs, Stays, stay-none, stay-ref, stay-slice, gave-slice, walkOf, AllGo, goes-none, goes-ref, goes-slice, goes-gave-slice, Walks, ends-at, walked, Holds, Mem, list-of, record-of, closes-walk, free-all, held, bare}
+use Rattle.lent.proofs.Walk.{_≡_, refl, ap, subst, sym, [], _∷_, List, map, ℕ, _≤_, _<_, _^_, _*_, arith, ltb, ltb→lt, length, set, getD, length-set, fullShare, URA, named, w64, tyInt, tyPtr, Val, vint, vptr, WT, hasTy, Lft, Share, ftrue, fat, flft, fobs, fbor, SProp, ent, id⊢, Routine, Heap, Calls, Loops, WpFn, Atoms, Fun, fact, givenOf, tables, FmC, Given, Item, ‵, raw, _⊛_, some, later, ⋆, _$_, _∵_, !, qed, by, move, keep, drop, use1, group, split, join, pick, rewrite, fsplit, fsplit3, fjoin, fjoin3, feqL, feqI, suffices, frame, await, done, look, look-raw, init, forget, stop, hop, fld, from, load, lit, addr, of-opd, bin, and-then, no-more, assigns, land, returns, enter, alloc1, alloc0, params1, pass1, pass0, agg, whole, sub, look-in, Body, owns, Is, shows, mem, uint-makes, uint-vals, uint-tells, u64, usize, RefT, MutRef, ptr-vals, mut-tells, sliceVal, slice-vals, MutSlice, Room, heres, finally, codedHoleys, at-slice, mut-slice-tells, Held, pureI, place-is, elem-out, elem-put, opens-slice, closes-slice, array-lawful, array-makes, plain, only, opens, closes, owned, peeks, heard, nothing, spelt, yes, Contract, Triple, calls-at, ensured, lasts, onEntry, tripleOf, cited, says, needs, Stays, stay-none, stay-ref, stay-slice, gave-slice, walkOf, AllGo, goes-none, goes-ref, goes-slice, goes-gave-slice, Walks, ends-at, walked, Holds, Mem, list-of, record-of, closes-walk, free-all, held, bare}
+use Rattle.lent.proofs.RowReads.{TablesKnown, read-table, know-tables}
 use denote.Struct.Laws as LL
 use denote.Enum.Laws as EL
 use Rattle.types.specs.Raw.{rawBytes}
@@ -86,11 +87,8 @@ module _ {M : Type 1} (𝓤 : URA M) (H : Heap 𝓤) (A : Atoms 𝓤) (W : Given
   typed-one : (x : Table) → Is B.the-row x (B-vals x) → Holds (hasTy B′.mir (B′.lowered x)) × WT (B′.lowered x)
   typed-one x is = LL.lawful B.the-type B′.the-laws 𝓤 H A W .typed x _ is .0
 
-  abbrev nth-is : ℕ → Type 0
-  nth-is k = Is B.the-row (getD (xs .now) k noTable) (B-vals (getD (xs .now) k noTable))
-
-  is-first : nth-is 0 → nth-is 1 → nth-is 2 → nth-is 3 → nth-is 4 → nth-is 5 → nth-is 6 → nth-is 7 → Is AR-B read (Bs-vals read)
-  is-first a0 a1 a2 a3 a4 a5 a6 a7 = (map (λ (x : Table). B′.lowered x) read, ((refl, refl), (a0, (a1, (a2, (a3, (a4, (a5, (a6, (a7, tt))))))))))
+  is-first : TablesKnown (xs .now) → Is AR-B read (Bs-vals read)
+  is-first is = (map (λ (x : Table). B′.lowered x) read, ((refl, refl), is))
 
   -- what is lent, after the growth is written back
   abbrev x′ : Regrown → Table
@@ -160,47 +158,24 @@ module _ {M : Type 1} (𝓤 : URA M) (H : Heap 𝓤) (A : Atoms 𝓤) (W : Given
         move ! (2 ∷ []) $ drop ! $
         -- [o0 0; b0 1; s-yl 2; s-yf 3; s-cs 4; l3 5; l2 6; l1 7; l0 8; L32 9; L31 11; L30 13; L29 15; L28 17; L27 19; L26 21; L25 23; L24 25; L23 27; L22 29; L21 31; L20 33; L19 35; L18 37; L17 39; L16 41; L15 43; L14 45; L13 47; L12 49; L11 51; L10 53; L9 55; L8 57; L7 59; L6 61; L5 63; L4 65; L3 67; L2 69; L1 71; L0 73]
         move ! (0 ∷ 1 ∷ 8 ∷ []) $ opens-slice ! tt B.the-row (xs .now) (xs .ptr .0) (xs .ptr .1) $
+        know-tables W (xs .now) (xs .ptr .0) (xs .ptr .1) _ big (λ is.
         assigns ! (bin ! (load ! (from ! (fld ! refl (stop !))) (look-in ! 72 (sub ! 0 refl (whole !)))) (lit ! tt) tt) (from ! (stop !)) (init ! 52 refl (tt, tt)) $
-        rewrite ! 52 (λ (z : ℕ). ‵ (fat fullShare tyPtr l11 0 (vptr (xs .ptr .0) z))) (sym (place-is 56 (xs .ptr .1) 0)) refl $
-        elem-out ! B.the-row (Is B.the-row) (shows 𝓤 H A B.the-row) B-vals (B′.lowers .val-is) fullShare (xs .now) 0 noTable (xs .ptr .0) (xs .ptr .1) (within 0 tt) (λ is0.
-        assigns ! (of-opd ! (load ! (from ! (hop ! (look ! 54 refl) (stop !))) (look-raw ! 0 refl))) (from ! (stop !)) (init ! 52 refl (typed-one (getD (xs .now) 0 noTable) is0)) $
-        elem-back ! B.the-row fullShare (xs .now) 0 noTable (B-vals (getD (xs .now) 0 noTable)) (xs .ptr .0) (xs .ptr .1) (within 0 tt) $
+        assigns ! (of-opd ! (load ! (from ! (hop ! (look ! 52 refl) (stop !))) (read-table W (xs .now) (xs .ptr .0) (xs .ptr .1) _ 0 (within 0 tt)))) (from ! (stop !)) (init ! 50 refl (typed-one (getD (xs .now) 0 noTable) (is .0))) $
         assigns ! (bin ! (load ! (from ! (fld ! refl (stop !))) (look-in ! 72 (sub ! 0 refl (whole !)))) (lit ! tt) tt) (from ! (stop !)) (init ! 48 refl (tt, tt)) $
-        rewrite ! 48 (λ (z : ℕ). ‵ (fat fullShare tyPtr l13 0 (vptr (xs .ptr .0) z))) (sym (place-is 56 (xs .ptr .1) 1)) refl $
-        elem-out ! B.the-row (Is B.the-row) (shows 𝓤 H A B.the-row) B-vals (B′.lowers .val-is) fullShare (xs .now) 1 noTable (xs .ptr .0) (xs .ptr .1) (within 1 tt) (λ is1.
-        assigns ! (of-opd ! (load ! (from ! (hop ! (look ! 50 refl) (stop !))) (look-raw ! 0 refl))) (from ! (stop !)) (init ! 48 refl (typed-one (getD (xs .now) 1 noTable) is1)) $
-        elem-back ! B.the-row fullShare (xs .now) 1 noTable (B-vals (getD (xs .now) 1 noTable)) (xs .ptr .0) (xs .ptr .1) (within 1 tt) $
+        assigns ! (of-opd ! (load ! (from ! (hop ! (look ! 48 refl) (stop !))) (read-table W (xs .now) (xs .ptr .0) (xs .ptr .1) _ 1 (within 1 tt)))) (from ! (stop !)) (init ! 46 refl (typed-one (getD (xs .now) 1 noTable) (is .1 .0))) $
         assigns ! (bin ! (load ! (from ! (fld ! refl (stop !))) (look-in ! 72 (sub ! 0 refl (whole !)))) (lit ! tt) tt) (from ! (stop !)) (init ! 44 refl (tt, tt)) $
-        rewrite ! 44 (λ (z : ℕ). ‵ (fat fullShare tyPtr l15 0 (vptr (xs .ptr .0) z))) (sym (place-is 56 (xs .ptr .1) 2)) refl $
-        elem-out ! B.the-row (Is B.the-row) (shows 𝓤 H A B.the-row) B-vals (B′.lowers .val-is) fullShare (xs .now) 2 noTable (xs .ptr .0) (xs .ptr .1) (within 2 tt) (λ is2.
-        assigns ! (of-opd ! (load ! (from ! (hop ! (look ! 46 refl) (stop !))) (look-raw ! 0 refl))) (from ! (stop !)) (init ! 44 refl (typed-one (getD (xs .now) 2 noTable) is2)) $
-        elem-back ! B.the-row fullShare (xs .now) 2 noTable (B-vals (getD (xs .now) 2 noTable)) (xs .ptr .0) (xs .ptr .1) (within 2 tt) $
+        assigns ! (of-opd ! (load ! (from ! (hop ! (look ! 44 refl) (stop !))) (read-table W (xs .now) (xs .ptr .0) (xs .ptr .1) _ 2 (within 2 tt)))) (from ! (stop !)) (init ! 42 refl (typed-one (getD (xs .now) 2 noTable) (is .1 .1 .0))) $
         assigns ! (bin ! (load ! (from ! (fld ! refl (stop !))) (look-in ! 72 (sub ! 0 refl (whole !)))) (lit ! tt) tt) (from ! (stop !)) (init ! 40 refl (tt, tt)) $
-        rewrite ! 40 (λ (z : ℕ). ‵ (fat fullShare tyPtr l17 0 (vptr (xs .ptr .0) z))) (sym (place-is 56 (xs .ptr .1) 3)) refl $
-        elem-out ! B.the-row (Is B.the-row) (shows 𝓤 H A B.the-row) B-vals (B′.lowers .val-is) fullShare (xs .now) 3 noTable (xs .ptr .0) (xs .ptr .1) (within 3 tt) (λ is3.
-        assigns ! (of-opd ! (load ! (from ! (hop ! (look ! 42 refl) (stop !))) (look-raw ! 0 refl))) (from ! (stop !)) (init ! 40 refl (typed-one (getD (xs .now) 3 noTable) is3)) $
-        elem-back ! B.the-row fullShare (xs .now) 3 noTable (B-vals (getD (xs .now) 3 noTable)) (xs .ptr .0) (xs .ptr .1) (within 3 tt) $
+        assigns ! (of-opd ! (load ! (from ! (hop ! (look ! 40 refl) (stop !))) (read-table W (xs .now) (xs .ptr .0) (xs .ptr .1) _ 3 (within 3 tt)))) (from ! (stop !)) (init ! 38 refl (typed-one (getD (xs .now) 3 noTable) (is .1 .1 .1 .0))) $
         assigns ! (bin ! (load ! (from ! (fld ! refl (stop !))) (look-in ! 72 (sub ! 0 refl (whole !)))) (lit ! tt) tt) (from ! (stop !)) (init ! 36 refl (tt, tt)) $
-        rewrite ! 36 (λ (z : ℕ). ‵ (fat fullShare tyPtr l19 0 (vptr (xs .ptr .0) z))) (sym (place-is 56 (xs .ptr .1) 4)) refl $
-        elem-out ! B.the-row (Is B.the-row) (shows 𝓤 H A B.the-row) B-vals (B′.lowers .val-is) fullShare (xs .now) 4 noTable (xs .ptr .0) (xs .ptr .1) (within 4 tt) (λ is4.
-        assigns ! (of-opd ! (load ! (from ! (hop ! (look ! 38 refl) (stop !))) (look-raw ! 0 refl))) (from ! (stop !)) (init ! 36 refl (typed-one (getD (xs .now) 4 noTable) is4)) $
-        elem-back ! B.the-row fullShare (xs .now) 4 noTable (B-vals (getD (xs .now) 4 noTable)) (xs .ptr .0) (xs .ptr .1) (within 4 tt) $
+        assigns ! (of-opd ! (load ! (from ! (hop ! (look ! 36 refl) (stop !))) (read-table W (xs .now) (xs .ptr .0) (xs .ptr .1) _ 4 (within 4 tt)))) (from ! (stop !)) (init ! 34 refl (typed-one (getD (xs .now) 4 noTable) (is .1 .1 .1 .1 .0))) $
         assigns ! (bin ! (load ! (from ! (fld ! refl (stop !))) (look-in ! 72 (sub ! 0 refl (whole !)))) (lit ! tt) tt) (from ! (stop !)) (init ! 32 refl (tt, tt)) $
-        rewrite ! 32 (λ (z : ℕ). ‵ (fat fullShare tyPtr l21 0 (vptr (xs .ptr .0) z))) (sym (place-is 56 (xs .ptr .1) 5)) refl $
-        elem-out ! B.the-row (Is B.the-row) (shows 𝓤 H A B.the-row) B-vals (B′.lowers .val-is) fullShare (xs .now) 5 noTable (xs .ptr .0) (xs .ptr .1) (within 5 tt) (λ is5.
-        assigns ! (of-opd ! (load ! (from ! (hop ! (look ! 34 refl) (stop !))) (look-raw ! 0 refl))) (from ! (stop !)) (init ! 32 refl (typed-one (getD (xs .now) 5 noTable) is5)) $
-        elem-back ! B.the-row fullShare (xs .now) 5 noTable (B-vals (getD (xs .now) 5 noTable)) (xs .ptr .0) (xs .ptr .1) (within 5 tt) $
+        assigns ! (of-opd ! (load ! (from ! (hop ! (look ! 32 refl) (stop !))) (read-table W (xs .now) (xs .ptr .0) (xs .ptr .1) _ 5 (within 5 tt)))) (from ! (stop !)) (init ! 30 refl (typed-one (getD (xs .now) 5 noTable) (is .1 .1 .1 .1 .1 .0))) $
         assigns ! (bin ! (load ! (from ! (fld ! refl (stop !))) (look-in ! 72 (sub ! 0 refl (whole !)))) (lit ! tt) tt) (from ! (stop !)) (init ! 28 refl (tt, tt)) $
-        rewrite ! 28 (λ (z : ℕ). ‵ (fat fullShare tyPtr l23 0 (vptr (xs .ptr .0) z))) (sym (place-is 56 (xs .ptr .1) 6)) refl $
-        elem-out ! B.the-row (Is B.the-row) (shows 𝓤 H A B.the-row) B-vals (B′.lowers .val-is) fullShare (xs .now) 6 noTable (xs .ptr .0) (xs .ptr .1) (within 6 tt) (λ is6.
-        assigns ! (of-opd ! (load ! (from ! (hop ! (look ! 30 refl) (stop !))) (look-raw ! 0 refl))) (from ! (stop !)) (init ! 28 refl (typed-one (getD (xs .now) 6 noTable) is6)) $
-        elem-back ! B.the-row fullShare (xs .now) 6 noTable (B-vals (getD (xs .now) 6 noTable)) (xs .ptr .0) (xs .ptr .1) (within 6 tt) $
+        assigns ! (of-opd ! (load ! (from ! (hop ! (look ! 28 refl) (stop !))) (read-table W (xs .now) (xs .ptr .0) (xs .ptr .1) _ 6 (within 6 tt)))) (from ! (stop !)) (init ! 26 refl (typed-one (getD (xs .now) 6 noTable) (is .1 .1 .1 .1 .1 .1 .0))) $
         assigns ! (bin ! (load ! (from ! (fld ! refl (stop !))) (look-in ! 72 (sub ! 0 refl (whole !)))) (lit ! tt) tt) (from ! (stop !)) (init ! 24 refl (tt, tt)) $
-        rewrite ! 24 (λ (z : ℕ). ‵ (fat fullShare tyPtr l25 0 (vptr (xs .ptr .0) z))) (sym (place-is 56 (xs .ptr .1) 7)) refl $
-        elem-out ! B.the-row (Is B.the-row) (shows 𝓤 H A B.the-row) B-vals (B′.lowers .val-is) fullShare (xs .now) 7 noTable (xs .ptr .0) (xs .ptr .1) (within 7 tt) (λ is7.
-        assigns ! (of-opd ! (load ! (from ! (hop ! (look ! 26 refl) (stop !))) (look-raw ! 0 refl))) (from ! (stop !)) (init ! 24 refl (typed-one (getD (xs .now) 7 noTable) is7)) $
-        elem-back ! B.the-row fullShare (xs .now) 7 noTable (B-vals (getD (xs .now) 7 noTable)) (xs .ptr .0) (xs .ptr .1) (within 7 tt) $
-        assigns ! (agg ! (and-then ! (load ! (from ! (stop !)) (look ! 50 refl)) (and-then ! (load ! (from ! (stop !)) (look ! 46 refl)) (and-then ! (load ! (from ! (stop !)) (look ! 42 refl)) (and-then ! (load ! (from ! (stop !)) (look ! 38 refl)) (and-then ! (load ! (from ! (stop !)) (look ! 34 refl)) (and-then ! (load ! (from ! (stop !)) (look ! 30 refl)) (and-then ! (load ! (from ! (stop !)) (look ! 26 refl)) (and-then ! (load ! (from ! (stop !)) (look ! 22 refl)) (no-more !)))))))))) (from ! (stop !)) (init ! 56 refl (array-lawful 𝓤 H A W B.the-row (LL.lawful B.the-type B′.the-laws 𝓤 H A W) 8 .typed read _ (is-first is0 is1 is2 is3 is4 is5 is6 is7) .0)) $
+        assigns ! (of-opd ! (load ! (from ! (hop ! (look ! 24 refl) (stop !))) (read-table W (xs .now) (xs .ptr .0) (xs .ptr .1) _ 7 (within 7 tt)))) (from ! (stop !)) (init ! 22 refl (typed-one (getD (xs .now) 7 noTable) (is .1 .1 .1 .1 .1 .1 .1 .0))) $
+        assigns ! (agg ! (and-then ! (load ! (from ! (stop !)) (look ! 50 refl)) (and-then ! (load ! (from ! (stop !)) (look ! 46 refl)) (and-then ! (load ! (from ! (stop !)) (look ! 42 refl)) (and-then ! (load ! (from ! (stop !)) (look ! 38 refl)) (and-then ! (load ! (from ! (stop !)) (look ! 34 refl)) (and-then ! (load ! (from ! (stop !)) (look ! 30 refl)) (and-then ! (load ! (from ! (stop !)) (look ! 26 refl)) (and-then ! (load ! (from ! (stop !)) (look ! 22 refl)) (no-more !)))))))))) (from ! (stop !)) (init ! 56 refl (array-lawful 𝓤 H A W B.the-row (LL.lawful B.the-type B′.the-laws 𝓤 H A W) 8 .typed read _ (is-first is) .0)) $
         forget ! 52 refl $ forget ! 50 refl $ forget ! 48 refl $ forget ! 46 refl $ forget ! 44 refl $ forget ! 42 refl $ forget ! 40 refl $ forget ! 38 refl $ forget ! 36 refl $ forget ! 34 refl $ forget ! 32 refl $ forget ! 30 refl $ forget ! 28 refl $ forget ! 26 refl $ forget ! 24 refl $ forget ! 22 refl $
         assigns ! (addr ! (from ! (fld ! refl (hop ! (look-in ! 66 (sub ! 0 refl (whole !))) (stop !))))) (from ! (stop !)) (init ! 20 refl (tt, tt)) $
         assigns ! (agg ! (and-then ! (load ! (from ! (stop !)) (look ! 20 refl)) (and-then ! (load ! (from ! (fld ! refl (stop !))) (look-in ! 66 (sub ! 1 refl (whole !)))) (no-more !)))) (from ! (stop !)) (init ! 18 refl (tt, (tt, (record { fits = room-cs .0 }, tt)))) $
@@ -213,7 +188,7 @@ module _ {M : Type 1} (𝓤 : URA M) (H : Heap 𝓤) (A : Atoms 𝓤) (W : Given
         move ! (1 ∷ []) $ peeks ! Lm.the-row (Is Lm.the-row) (shows 𝓤 H A Lm.the-row) (yl .now) (Lm-vals (yl .now)) (λ was3. drop ! $
         assigns ! (of-opd ! (load ! (from ! (hop ! (look ! 62 refl) (stop !))) (look-raw ! 0 refl))) (from ! (stop !)) (init ! 18 refl (LL.lawful Lm.the-type Lm′.the-laws 𝓤 H A W .typed (yl .now) _ was3 .0)) $
         -- [cell3 0; obor3 1; o3 2; auth3 3; cell2 4; obor2 5; o2 6; auth2 7; row 8; obor0 9; o0 10; auth0 11; s-cs 12; l1 13; L32 14; L31 16; L30 18; L29 20; L28 22; L27 24; L26 26; L25 28; L24 30; L23 32; L22 34; L21 36; L20 38; L19 40; L18 42; L17 44; L16 46; L15 48; L14 50; L13 52; L12 54; L11 56; L10 58; L9 60; L8 62; L7 64; L6 66; L5 68; L4 70; L3 72; L2 74; L1 76; L0 78]
-        move ! (13 ∷ 12 ∷ []) $ group ! 2 $ use1 W (raw (Step 𝓤 H A at-mem run .pre to-step)) (goes (is-first is0 is1 is2 is3 is4 is5 is6 is7) was2 was3) $
+        move ! (13 ∷ 12 ∷ []) $ group ! 2 $ use1 W (raw (Step 𝓤 H A at-mem run .pre to-step)) (goes (is-first is) was2 was3) $
         calls-at ! fm (Step 𝓤 H A at-mem run) known to-step (and-then ! (load ! (from ! (stop !)) (look ! 59 refl)) (and-then ! (load ! (from ! (stop !)) (look ! 73 refl)) (and-then ! (load ! (from ! (stop !)) (look ! 71 refl)) (and-then ! (load ! (from ! (stop !)) (look ! 21 refl)) (and-then ! (load ! (from ! (stop !)) (look ! 67 refl)) (and-then ! (load ! (from ! (stop !)) (look ! 65 refl)) (and-then ! (load ! (from ! (stop !)) (look ! 19 refl)) (and-then ! (load ! (from ! (stop !)) (look ! 17 refl)) (no-more !))))))))) (λ v′.
         use1 W (later (some (λ (g : Regrown). ((‵ (flft κ1 q1) ⊛ ‵ ftrue) ⊛ ‵ (G.the-row .own g (v′ ∷ []))) ⊛ raw (ensured 𝓤 H A step.ended (step.clauses 𝓤 H A at-mem run) (κ1, tt) (read, (n, (i, (cs, (d, (v, (yf .now, (yl .now, tt)))))))) tt g)))) (id⊢ 𝓤 _) $ await ! tt $ pick ! (λ g.
         split ! $ move ! (1 ∷ []) $
@@ -243,7 +218,7 @@ module _ {M : Type 1} (𝓤 : URA M) (H : Heap 𝓤) (A : Atoms 𝓤) (W : Given
         closes ! tt Lm.the-row (limiter′ g) (Lm-vals (limiter′ g)) (yl .ptr .0) (yl .ptr .1) $
         owned ! S.the-row (Is S.the-row) (EL.makes S.the-type S′.the-plain 𝓤 H A) (g .answer) _ (grown-answer-is g v′ is) $ returns ! (look ! 76 refl) $
         move ! (76 ∷ 77 ∷ 74 ∷ 75 ∷ 72 ∷ 73 ∷ 70 ∷ 71 ∷ 68 ∷ 69 ∷ 66 ∷ 67 ∷ 64 ∷ 65 ∷ 62 ∷ 63 ∷ 60 ∷ 61 ∷ 58 ∷ 59 ∷ 56 ∷ 57 ∷ 54 ∷ 55 ∷ 52 ∷ 53 ∷ 50 ∷ 51 ∷ 48 ∷ 49 ∷ 46 ∷ 47 ∷ 44 ∷ 45 ∷ 42 ∷ 43 ∷ 40 ∷ 41 ∷ 38 ∷ 39 ∷ 36 ∷ 37 ∷ 34 ∷ 35 ∷ 32 ∷ 33 ∷ 30 ∷ 31 ∷ 28 ∷ 29 ∷ 26 ∷ 27 ∷ 24 ∷ 25 ∷ 22 ∷ 23 ∷ 20 ∷ 21 ∷ 18 ∷ 19 ∷ 16 ∷ 17 ∷ 14 ∷ 15 ∷ 12 ∷ 13 ∷ []) $ free-all ! (held _ l0 _ ∷ held _ l1 _ ∷ bare _ l2 ∷ bare _ l3 ∷ bare _ l4 ∷ bare _ l5 ∷ bare _ l6 ∷ held _ l7 _ ∷ held _ l8 _ ∷ bare _ l9 ∷ held _ l10 _ ∷ bare _ l11 ∷ bare _ l12 ∷ bare _ l13 ∷ bare _ l14 ∷ bare _ l15 ∷ bare _ l16 ∷ bare _ l17 ∷ bare _ l18 ∷ bare _ l19 ∷ bare _ l20 ∷ bare _ l21 ∷ bare _ l22 ∷ bare _ l23 ∷ bare _ l24 ∷ bare _ l25 ∷ bare _ l26 ∷ bare _ l27 ∷ bare _ l28 ∷ bare _ l29 ∷ bare _ l30 ∷ held _ l31 _ ∷ held _ l32 _ ∷ []) $ keep ! (9 ∷ 10 ∷ 6 ∷ 3 ∷ 7 ∷ 8 ∷ 11 ∷ 4 ∷ 5 ∷ 1 ∷ 2 ∷ 0 ∷ []) $
-        by ! (exits g (ws .1 .1 .1 .0) e same _)))))))))))))))))))))))))))))))))))))))))))))))))))))
+        by ! (exits g (ws .1 .1 .1 .0) e same _))))))))))))))))))))))))))))))))))))))))))))))
 
 module _ {M : Type 1} (𝓤 : URA M) (H : Heap 𝓤) (A : Atoms 𝓤) (W : Given 𝓤 H A) (at-mem : Mem → SProp 𝓤) (run : Routine → Fun 𝓤) where
   walks : (C : Calls 𝓤 H) (Λ : Loops 𝓤 H) → FmC 𝓤 H (W .laws) C → Triple 𝓤 (C #regrow) (Step 𝓤 H A at-mem run)
