@@ -3,18 +3,13 @@ use mathlib.Core.Path.{_≡_, refl, ap, sym, _∙_}
 use mathlib.Core.Bool.{Bool, true, false}
 use Prim.Native.Nat.{ℕ, _-_}
 use lib.Dec.{ltb}
-use Rattle.types.specs.Pick.{pick}
-use Rattle.types.specs.Answer.{refusal}
-use Rattle.types.specs.Fuel.{left, setFuel, getFuel, consume, consumeIf, consumeUnchecked}
-use Rattle.lent.specs.Fuel.{FuelDone, fuelDone, setBy, chargedBy, requested}
-use Rattle.lent.specs.stages.Fuel.{leftOf}
-use Rattle.types.specs.declared.answer.Refusal.{Refusal}
-use Rattle.types.specs.declared.fuel.Fuel.{Fuel}
-use Rattle.types.specs.declared.fuel.FuelStep.{FuelStep}
-use Rattle.types.specs.declared.fuel.FuelStep.the-variants.{Done, Refused}
-use Rattle.lent.specs.declared.fuel.FuelRequest.{FuelRequest}
-use Rattle.lent.specs.declared.fuel.FuelRequest.the-variants.{Set, Get, Charge, ChargeIf, ChargeUnchecked}
-use Rattle.lent.specs.declared.fuel.FuelLeft.{FuelLeft}
+use Rattle.types.specs.{Pick.pick, Answer.refusal, Fuel.left, Fuel.setFuel, Fuel.getFuel, Fuel.consume, Fuel.consumeIf, Fuel.consumeUnchecked}
+use Rattle.types.specs.{declared.answer.Refusal.Refusal, declared.fuel.Fuel.Fuel, declared.fuel.FuelStep.FuelStep, declared.fuel.FuelStep.the-variants.Done}
+use Rattle.types.specs.{declared.fuel.FuelStep.the-variants.Refused}
+use Rattle.lent.specs.{Fuel.FuelDone, Fuel.fuelDone, Fuel.setBy, Fuel.chargedBy, Fuel.requested, stages.Fuel.leftOf}
+use Rattle.lent.specs.{declared.fuel.FuelRequest.FuelRequest, declared.fuel.FuelRequest.the-variants.Set, declared.fuel.FuelRequest.the-variants.Get}
+use Rattle.lent.specs.{declared.fuel.FuelRequest.the-variants.Charge, declared.fuel.FuelRequest.the-variants.ChargeIf}
+use Rattle.lent.specs.{declared.fuel.FuelRequest.the-variants.ChargeUnchecked, declared.fuel.FuelLeft.FuelLeft}
 
 -- the record f, but for the amount left
 abbrev pub SameBut : Fuel → FuelDone → Type 0

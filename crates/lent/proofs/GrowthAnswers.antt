@@ -8,19 +8,11 @@ use native.Mathlib.Omega.{arith}
 use lib.Dec.{leb, ltb}
 use lib.ListN.{length, take, getD}
 use borrow.Author.Tests.{leb-true, lt-leb, le-ltb, eqb-true}
-use Rattle.types.specs.Numbers.{word32}
-use Rattle.types.specs.Pick.{both}
-use Rattle.types.specs.Answer.{refuse}
-use Rattle.types.specs.declared.raw.TypedRawRef.{TypedRawRef}
+use Rattle.types.specs.{Numbers.word32, Pick.both, Answer.refuse, declared.raw.TypedRawRef.TypedRawRef}
 use Rattle.types.proofs.Picks.{pick-true, pick-false, both-1, both-2, both-left, both-right, either}
-use Rattle.memory.specs.Memory.{soundMemory}
-use Rattle.memory.specs.Grow.{growMemory}
-use Rattle.memory.specs.declared.memory.Memory.{Memory}
-use Rattle.table.specs.Table.{soundTable}
-use Rattle.table.specs.Grow.{growTable}
-use Rattle.table.specs.declared.table.Table.{Table}
-use Rattle.machine.specs.Machine.{noMemory, noTable, memoryEnd, tableEnd}
-use Rattle.machine.specs.Sound.{follow, soundList}
+use Rattle.memory.specs.{Memory.soundMemory, Grow.growMemory, declared.memory.Memory.Memory}
+use Rattle.table.specs.{Table.soundTable, Grow.growTable, declared.table.Table.Table}
+use Rattle.machine.specs.{Machine.noMemory, Machine.noTable, Machine.memoryEnd, Machine.tableEnd, Sound.follow, Sound.soundList}
 use Rattle.lent.specs.Growth.{Lending, Grew, grew, growAt}
 use Rattle.lent.specs.Memories.{soundMemoryList, recordOf as memoryOf, memoryGrown, growMemoryAt}
 use Rattle.lent.specs.Tables.{soundTableList, recordOf as tableOf, tableGrown, growTableAt}

@@ -7,34 +7,22 @@ use native.Mathlib.Omega.{arith}
 use lib.Dec.{leb, ltb}
 use lib.ListN.{length, getD, set}
 use borrow.Author.Tests.{ltb-true, leb-true}
-use Rattle.types.specs.Numbers.{word32}
-use Rattle.types.specs.Pick.{pick, both}
-use Rattle.types.specs.Done.{Done, done}
-use Rattle.types.specs.Answer.{refuse}
-use Rattle.types.specs.Fuel.{left, paid}
-use Rattle.types.specs.Limiter.{moved}
-use Rattle.types.specs.declared.answer.Answer.{Answer}
-use Rattle.types.specs.declared.fuel.Fuel.{Fuel}
-use Rattle.types.specs.declared.limiter.Limiter.{Limiter}
-use Rattle.types.specs.declared.raw.TypedRawRef.{TypedRawRef}
+use Rattle.types.specs.{Numbers.word32, Pick.pick, Pick.both, Done.Done, Done.done, Answer.refuse, Fuel.left, Fuel.paid, Limiter.moved}
+use Rattle.types.specs.{declared.answer.Answer.Answer, declared.fuel.Fuel.Fuel, declared.limiter.Limiter.Limiter, declared.raw.TypedRawRef.TypedRawRef}
 use Rattle.types.proofs.Picks.{pick-true, pick-false, both-1, both-2}
 use Rattle.memory.specs.Memory as memory
 use Rattle.memory.specs.Grow as memory-grow
-use Rattle.memory.specs.declared.memory.Memory.{Memory}
-use Rattle.memory.specs.declared.grow.GrownMemory.{GrownMemory}
+use Rattle.memory.specs.{declared.memory.Memory.Memory, declared.grow.GrownMemory.GrownMemory}
 use Rattle.table.specs.Table as table
 use Rattle.table.specs.Grow as table-grow
-use Rattle.table.specs.declared.table.Table.{Table}
-use Rattle.table.specs.declared.grow.GrownTable.{GrownTable}
+use Rattle.table.specs.{declared.table.Table.Table, declared.grow.GrownTable.GrownTable}
 use Rattle.machine.specs.Machine.{noMemory, noTable, memoryAt, tableAt, memoryEnd, tableEnd}
 use Rattle.machine.specs.Sound.{follow, soundList, soundMemories, soundTables, soundSegments, soundReferences, soundMachine}
 use Rattle.machine.specs.declared.records.Machine.{Machine}
-use Rattle.lent.specs.declared.regrown.Regrown.{Regrown}
-use Rattle.lent.specs.Growth.{Lending, lending, Grew, grew, growAt}
-use Rattle.lent.specs.Memories.{soundMemoryList, memoryGrown, growMemoryAt}
-use Rattle.lent.specs.Tables.{soundTableList, tableGrown, growTableAt}
-use Rattle.lent.specs.stages.Growth.{memoriesAlone, tablesAlone, kept, regrown, memoryBack, tableBack, memoryRegrown, tableRegrown}
-use Rattle.lent.specs.stages.Places.{eight}
+use Rattle.lent.specs.{declared.regrown.Regrown.Regrown, Growth.Lending, Growth.lending, Growth.Grew, Growth.grew, Growth.growAt}
+use Rattle.lent.specs.{Memories.soundMemoryList, Memories.memoryGrown, Memories.growMemoryAt, Tables.soundTableList, Tables.tableGrown}
+use Rattle.lent.specs.{Tables.growTableAt, stages.Growth.memoriesAlone, stages.Growth.tablesAlone, stages.Growth.kept, stages.Growth.regrown}
+use Rattle.lent.specs.{stages.Growth.memoryBack, stages.Growth.tableBack, stages.Growth.memoryRegrown, stages.Growth.tableRegrown, stages.Places.eight}
 use Rattle.lent.proofs.Lists.{set-kept, eight-get, eight-sound}
 
 -- the same script at another place

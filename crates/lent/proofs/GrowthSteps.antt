@@ -7,30 +7,16 @@ use native.Mathlib.Omega.{arith}
 use lib.Dec.{leb, ltb}
 use lib.ListN.{length, take, take-append-drop}
 use borrow.Author.Tests.{leb-true, leb-false, le-leb, lt-ltb}
-use Rattle.types.specs.Numbers.{word32}
-use Rattle.types.specs.Pick.{pick, both}
-use Rattle.types.specs.Answer.{refuse}
-use Rattle.types.specs.Done.{Done}
-use Rattle.types.specs.declared.answer.Answer.{Answer}
-use Rattle.types.specs.declared.raw.TypedRawRef.{TypedRawRef}
+use Rattle.types.specs.{Numbers.word32, Pick.pick, Pick.both, Answer.refuse, Done.Done, declared.answer.Answer.Answer, declared.raw.TypedRawRef.TypedRawRef}
 use Rattle.types.proofs.Picks.{pick-true, pick-false, both-true, both-1, both-2, both-left, both-right, both-then, either}
-use Rattle.memory.specs.Memory.{soundMemory}
-use Rattle.memory.specs.Grow.{growMemory}
-use Rattle.memory.specs.declared.memory.Memory.{Memory}
-use Rattle.memory.specs.declared.grow.GrownMemory.{GrownMemory}
-use Rattle.table.specs.Table.{soundTable}
-use Rattle.table.specs.Grow.{growTable}
-use Rattle.table.specs.declared.table.Table.{Table}
-use Rattle.table.specs.declared.grow.GrownTable.{GrownTable}
-use Rattle.machine.specs.Machine.{Buffers, buffers, noMemory, noTable, memoryAt, tableAt, memoryEnd, tableEnd}
-use Rattle.machine.specs.Sound.{soundList, soundMemories, soundTables, soundSegments, soundReferences, soundMachine, soundOver}
-use Rattle.machine.specs.Operation.{memoryWellFormed, wellFormed}
-use Rattle.machine.specs.Outcome.{keeps, refused, changed, standing, settled}
-use Rattle.machine.specs.Memories.{memoryDone, performMemory, onMemory}
-use Rattle.machine.specs.Tables.{tableDone, performTable, onTable}
-use Rattle.machine.specs.Step.{Performed, onNone, onBytes, onCells, perform, decide, after, step}
-use Rattle.machine.specs.declared.records.Machine.{Machine}
-use Rattle.machine.specs.declared.operation.Operation.{Operation}
+use Rattle.memory.specs.{Memory.soundMemory, Grow.growMemory, declared.memory.Memory.Memory, declared.grow.GrownMemory.GrownMemory}
+use Rattle.table.specs.{Table.soundTable, Grow.growTable, declared.table.Table.Table, declared.grow.GrownTable.GrownTable}
+use Rattle.machine.specs.{Machine.Buffers, Machine.buffers, Machine.noMemory, Machine.noTable, Machine.memoryAt, Machine.tableAt, Machine.memoryEnd}
+use Rattle.machine.specs.{Machine.tableEnd, Sound.soundList, Sound.soundMemories, Sound.soundTables, Sound.soundSegments, Sound.soundReferences}
+use Rattle.machine.specs.{Sound.soundMachine, Sound.soundOver, Operation.memoryWellFormed, Operation.wellFormed, Outcome.keeps, Outcome.refused}
+use Rattle.machine.specs.{Outcome.changed, Outcome.standing, Outcome.settled, Memories.memoryDone, Memories.performMemory, Memories.onMemory, Tables.tableDone}
+use Rattle.machine.specs.{Tables.performTable, Tables.onTable, Step.Performed, Step.onNone, Step.onBytes, Step.onCells, Step.perform, Step.decide, Step.after}
+use Rattle.machine.specs.{Step.step, declared.records.Machine.Machine, declared.operation.Operation.Operation}
 use Rattle.machine.specs.declared.operation.Operation.the-variants as operation
 use Rattle.machine.specs.declared.operation.MemoryOp.the-variants as memory-op
 use Rattle.machine.specs.declared.operation.TableOp.the-variants as on-table

@@ -7,20 +7,14 @@ use native.Mathlib.Omega.{arith}
 use lib.Dec.{ltb}
 use lib.ListN.{length, set}
 use borrow.Author.Tests.{ltb-true, leb-true, le-leb}
-use Rattle.types.specs.Pick.{pick}
+use Rattle.types.specs.{Pick.pick, declared.fuel.Fuel.Fuel}
 use Rattle.types.proofs.Picks.{pick-true, pick-false, both-true, both-1, both-2, either}
-use Rattle.types.specs.declared.fuel.Fuel.{Fuel}
 use Rattle.memory.specs.declared.memory.Memory.{Memory}
-use Rattle.table.specs.declared.table.Table.{Table}
-use Rattle.table.specs.declared.element.ElementSegment.{ElementSegment}
-use Rattle.machine.specs.Machine.{Buffers, noMemory, noTable, noSegment}
-use Rattle.machine.specs.Outcome.{changed, standing, settled}
-use Rattle.machine.specs.Step.{decide, Stepped, step}
-use Rattle.machine.specs.declared.records.Machine.{Machine}
-use Rattle.machine.specs.declared.outcome.Outcome.{Outcome}
-use Rattle.machine.specs.declared.outcome.Change.{Change}
+use Rattle.table.specs.{declared.table.Table.Table, declared.element.ElementSegment.ElementSegment}
+use Rattle.machine.specs.{Machine.Buffers, Machine.noMemory, Machine.noTable, Machine.noSegment, Outcome.changed, Outcome.standing, Outcome.settled}
+use Rattle.machine.specs.{Step.decide, Step.Stepped, Step.step, declared.records.Machine.Machine, declared.outcome.Outcome.Outcome}
+use Rattle.machine.specs.{declared.outcome.Change.Change, declared.operation.Operation.Operation}
 use Rattle.machine.specs.declared.outcome.Change.the-variants as change
-use Rattle.machine.specs.declared.operation.Operation.{Operation}
 use Rattle.lent.specs.declared.operate.Standing.{Standing}
 use Rattle.lent.specs.declared.operate.Placed.{Placed}
 use Rattle.lent.specs.declared.operate.Verdict.{Verdict}

@@ -24,30 +24,25 @@ use denote.Array.{Array, array-vals}
 use Rattle.memory.specs.declared.memory.Memory.{Memory}
 use Rattle.memory.proofs.memory.Memory as Y
 use Rattle.memory.proofs.memory.Memory.Laws as Y′
-use Rattle.table.specs.declared.table.Table.{Table}
+use Rattle.table.specs.{declared.table.Table.Table, declared.element.ElementSegment.ElementSegment}
 use Rattle.table.proofs.table.Table as B
 use Rattle.table.proofs.table.Table.Laws as B′
-use Rattle.table.specs.declared.element.ElementSegment.{ElementSegment}
 use Rattle.table.proofs.element.ElementSegment as G
 use Rattle.table.proofs.element.ElementSegment.Laws as G′
-use Rattle.lent.specs.declared.operate.Standing.{Standing}
+use Rattle.lent.specs.{declared.operate.Standing.Standing, declared.regrown.Regrown.Regrown}
 use Rattle.lent.proofs.operate.Standing.Laws as D′
-use Rattle.types.specs.Fuel.{left}
-use Rattle.types.specs.declared.fuel.Fuel.{Fuel}
+use Rattle.types.specs.{Fuel.left, declared.fuel.Fuel.Fuel, declared.limiter.Limiter.Limiter, declared.raw.TypedRawRef.TypedRawRef}
 use Rattle.types.proofs.fuel.Fuel as F
 use Rattle.types.proofs.fuel.Fuel.Laws as F′
 use Rattle.types.proofs.answer.Answer as S
 use Rattle.types.proofs.answer.Answer.Laws as S′
-use Rattle.lent.specs.declared.regrown.Regrown.{Regrown}
 use Rattle.lent.proofs.regrown.Regrown as R
 use Rattle.lent.proofs.regrown.Regrown.Laws as R′
-use Rattle.types.specs.declared.limiter.Limiter.{Limiter}
 use Rattle.types.proofs.limiter.Limiter as Lm
 use Rattle.types.proofs.limiter.Limiter.Laws as Lm′
 use Rattle.memory.specs.Memory as memory
 use Rattle.table.specs.Table as table
 use Rattle.lent.proofs.GrowthLaws.{placed}
-use Rattle.types.specs.declared.raw.TypedRawRef.{TypedRawRef}
 use Rattle.types.proofs.raw.TypedRawRef.Laws as X′
 use Rattle.machine.specs.declared.operation.Operation.{Operation}
 use Rattle.machine.proofs.operation.Operation.Laws as P′

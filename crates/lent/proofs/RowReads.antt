@@ -10,10 +10,9 @@ use Rattle.machine.specs.Machine.{noMemory, noTable, noSegment}
 use Rattle.memory.specs.declared.memory.Memory.{Memory}
 use Rattle.memory.proofs.memory.Memory as Y
 use Rattle.memory.proofs.memory.Memory.Laws as Y′
-use Rattle.table.specs.declared.table.Table.{Table}
+use Rattle.table.specs.{declared.table.Table.Table, declared.element.ElementSegment.ElementSegment}
 use Rattle.table.proofs.table.Table as B
 use Rattle.table.proofs.table.Table.Laws as B′
-use Rattle.table.specs.declared.element.ElementSegment.{ElementSegment}
 use Rattle.table.proofs.element.ElementSegment as G
 use Rattle.table.proofs.element.ElementSegment.Laws as G′
 

@@ -4,25 +4,13 @@ use mathlib.Core.Path.{_≡_, sym, _∙_, ap}
 use mathlib.Core.List.{List}
 use denote.Ref.{now}
 use Rattle.types.proofs.One.{OneWith}
-use Rattle.machine.specs.Machine.{Buffers, buffers}
-use Rattle.machine.specs.Step.{Stepped}
-use Rattle.machine.specs.declared.operation.Operation.{Operation}
-use Rattle.machine.specs.declared.operate.Operated.{Operated}
+use Rattle.machine.specs.{Machine.Buffers, Machine.buffers, Step.Stepped, declared.operation.Operation.Operation, declared.operate.Operated.Operated}
 use Prim.Native.Nat.{ℕ}
-use Rattle.types.specs.declared.answer.Answer.{Answer}
-use Rattle.types.specs.declared.fuel.Fuel.{Fuel}
-use Rattle.types.specs.declared.limiter.Limiter.{Limiter}
-use Rattle.types.specs.declared.raw.TypedRawRef.{TypedRawRef}
+use Rattle.types.specs.{declared.answer.Answer.Answer, declared.fuel.Fuel.Fuel, declared.limiter.Limiter.Limiter, declared.raw.TypedRawRef.TypedRawRef}
 use Rattle.memory.specs.declared.memory.Memory.{Memory}
-use Rattle.table.specs.declared.table.Table.{Table}
-use Rattle.table.specs.declared.element.ElementSegment.{ElementSegment}
-use Rattle.lent.specs.declared.fuel.FuelRequest.{FuelRequest}
-use Rattle.lent.specs.declared.operate.Standing.{Standing}
-use Rattle.lent.specs.Fuel.{FuelDone, Requests}
-use Rattle.lent.specs.Growth.{Lending, Grew}
-use Rattle.lent.specs.Memories.{GrowsMemory}
-use Rattle.lent.specs.Tables.{GrowsTable}
-use Rattle.lent.specs.Records.{Lent, LentStepped, Operates}
+use Rattle.table.specs.{declared.table.Table.Table, declared.element.ElementSegment.ElementSegment}
+use Rattle.lent.specs.{declared.fuel.FuelRequest.FuelRequest, declared.operate.Standing.Standing, Fuel.FuelDone, Fuel.Requests, Growth.Lending}
+use Rattle.lent.specs.{Growth.Grew, Memories.GrowsMemory, Tables.GrowsTable, Records.Lent, Records.LentStepped, Records.Operates}
 use Rattle.lent.proofs.operate.operate_kept.Reads as operate-kept-reads
 use Rattle.lent.proofs.operate.operate_kept.Kinds as operate-kept-kinds
 

@@ -1,6 +1,5 @@
 -- `lent::fuel::charged_by` meets its contract. Assumes nothing.
-use Rattle.lent.specs.Fuel.{chargedBy}
-use Rattle.lent.specs.stages.Fuel.{leftOf}
+use Rattle.lent.specs.{Fuel.chargedBy, stages.Fuel.leftOf}
 use borrow.Author.Needs.{needs}
 use Rattle.lent.proofs.fuel.charged_by.Statement.{statement}
 use Rattle.lent.proofs.fuel.charged_by.Tie as tie

@@ -2,12 +2,8 @@
 use Rattle.lent.proofs.Walk.{_≡_, refl, ap, subst, [], _∷_, List, ℕ, fullShare, URA, named, Val, vptr, Lft, Share, ftrue, fat, flft, fobs, fbor, GName, SProp, ent, emp, via, fst∗, id⊢, snd∗, exE, Routine, Heap, Calls, Loops, WpFn, Atoms, sem, Fun, fact, givenOf, tables, FmC, Given, ‵, raw, _⊛_, some, later, ⋆, _$_, _∵_, !, qed, by, move, keep, drop, use1, split, join, pick, rewrite, fsplit, fsplit3, fjoin, fjoin3, feqI, suffices, frame, await, done, look, look-raw, init, forget, stop, hop, fld, from, load, of-opd, and-then, no-more, assigns, land, returns, enter, alloc1, alloc0, params1, pass1, pass0, free1, free0, whole, sub, look-in, store-in, Body, owns, Is, shows, mem, RefT, MutRef, ptr-vals, mut-tells, plain, only, opens, closes, owned, peeks, heard, nothing, spelt, yes, Contract, Triple, calls-at, ensured, lasts, onEntry, tripleOf, cited, says, Stays, stay-none, stay-ref, walkOf, AllGo, goes-none, goes-ref, Walks, ends-at, walked, Mem, closes-walk}
 use denote.Struct.Laws as LL
 use denote.Enum.Laws as EL
-use Rattle.types.specs.Fuel.{left}
-use Rattle.lent.specs.Fuel.{requested}
-use Rattle.lent.specs.stages.Fuel.{leftOf}
-use Rattle.types.specs.declared.fuel.Fuel.{Fuel}
-use Rattle.lent.specs.declared.fuel.FuelLeft.{FuelLeft}
-use Rattle.lent.specs.declared.fuel.FuelRequest.{FuelRequest}
+use Rattle.types.specs.{Fuel.left, declared.fuel.Fuel.Fuel}
+use Rattle.lent.specs.{Fuel.requested, stages.Fuel.leftOf, declared.fuel.FuelLeft.FuelLeft, declared.fuel.FuelRequest.FuelRequest}
 use Rattle.lent.proofs.FuelLaws.{request-done}
 use Rattle.types.proofs.fuel.Fuel as T
 use Rattle.types.proofs.fuel.Fuel.Laws as T′

@@ -1,6 +1,5 @@
 -- `lent::fuel::set_by` meets its contract. Assumes nothing.
-use Rattle.lent.specs.Fuel.{setBy}
-use Rattle.lent.specs.stages.Fuel.{leftOf}
+use Rattle.lent.specs.{Fuel.setBy, stages.Fuel.leftOf}
 use borrow.Author.Needs.{needs}
 use Rattle.lent.proofs.fuel.set_by.Statement.{statement}
 use Rattle.lent.proofs.fuel.set_by.Tie as tie

@@ -1,7 +1,6 @@
 -- `lent::memories::alone` meets its contract. Assumes nothing.
 use mathlib.Core.Path.{ap}
-use Rattle.machine.specs.Machine.{freshMachine}
-use Rattle.machine.specs.declared.records.Machine.{Machine}
+use Rattle.machine.specs.{Machine.freshMachine, declared.records.Machine.Machine}
 use Rattle.lent.specs.stages.Growth.{memoriesAlone}
 use borrow.Author.Needs.{needs}
 use Rattle.lent.proofs.memories.alone.Statement.{statement}

@@ -2,17 +2,13 @@
 use Rattle.lent.proofs.Walk.{_≡_, refl, sym, [], _∷_, List, ℕ, _≤_, _<_, _^_, ltb→lt, nltb→le, lit<, length, URA, named, w64, Val, vint, Lft, Share, ftrue, flft, fres, SProp, ent, emp, via, fst∗, id⊢, Routine, Heap, Calls, Loops, WpFn, Atoms, Fun, fact, givenOf, tables, FmC, Given, Item, atRet, ‵, raw, _⊛_, some, later, ⋆, _$_, _∵_, !, qed, by, move, keep, drop, use1, group, split, join, pick, fsplit, fsplit3, fjoin, feqL, suffices, frame, await, done, look, init, stop, hop, fld, from, load, lit, addr, of-opd, bin, and-then, no-more, assigns, land, first, branches, skips, exec, returns-within, returns, enter, alloc1, alloc0, params1, pass1, pass0, agg, whole, sub, look-in, name-done, owns, Is, shows, uint-makes, uint-vals, uint-tells, u8, u64, usize, RefT, MutRef, ptr-vals, mut-tells, slice-vals, MutSlice, Room, finally, res-finally, mut-slice-tells, plain, owned, peeks, heard, nothing, yes, Contract, Triple, calls-at, ensured, lasts, onEntry, tripleOf, cited, says, Stays, stay-none, gave-ref, gave-slice, walkOf, AllGo, goes-none, goes-gave-ref, goes-gave-slice, Walks, ends-at, walked, Mem, list-of, record-of, closes-walk, free-all, held, bare}
 use denote.Struct.Laws as LL
 use denote.Enum.Laws as EL
-use Rattle.types.specs.Answer.{refusal, refuse}
-use Rattle.lent.specs.Growth.{Lending, lending, grew}
-use Rattle.lent.specs.Memories.{growMemoryAt}
+use Rattle.types.specs.{Answer.refusal, Answer.refuse, declared.fuel.Fuel.Fuel, declared.limiter.Limiter.Limiter, declared.answer.Answer.Answer}
+use Rattle.lent.specs.{Growth.Lending, Growth.lending, Growth.grew, Memories.growMemoryAt}
 use Rattle.lent.proofs.GrowthAnswers.{memory-answers}
 use Rattle.memory.specs.declared.memory.Memory.{Memory}
 use Rattle.memory.proofs.memory.Memory as Y
-use Rattle.types.specs.declared.fuel.Fuel.{Fuel}
 use Rattle.types.proofs.fuel.Fuel as F
-use Rattle.types.specs.declared.limiter.Limiter.{Limiter}
 use Rattle.types.proofs.limiter.Limiter as Lm
-use Rattle.types.specs.declared.answer.Answer.{Answer}
 use Rattle.types.proofs.answer.Answer as S
 use Rattle.types.proofs.answer.Answer.Laws as S′
 use Rattle.types.proofs.answer.Refusal as R

@@ -4,24 +4,19 @@ use Rattle.lent.proofs.RowReads.{MemoriesKnown, read-memory, know-memor
 use denote.Struct.Laws as LL
 use denote.Enum.Laws as EL
 use Rattle.types.specs.Done as result
-use Rattle.types.specs.Fuel.{left}
+use Rattle.types.specs.{Fuel.left, declared.fuel.Fuel.Fuel, declared.limiter.Limiter.Limiter}
 use Rattle.memory.specs.Memory as memory
 use Rattle.machine.specs.Machine.{noMemory}
-use Rattle.lent.specs.Growth.{Lending, lending}
-use Rattle.lent.specs.stages.Growth.{memoryRegrown}
-use Rattle.lent.specs.stages.Places.{eight}
+use Rattle.lent.specs.{Growth.Lending, Growth.lending, stages.Growth.memoryRegrown, stages.Places.eight, declared.regrown.Regrown.Regrown}
 use Rattle.lent.proofs.GrowthLaws.{placed, memory-place, memory-stored}
 use Rattle.lent.proofs.RecordParts.{AR-Y, Y-vals, Ys-vals, F-vals, Lm-vals, left-is, placed-is, memory-is, grown-fits, grown-answer-is, put-left, put-place, put-memory-size, grown-answer, grown-place, grown-size, grown-left, grown-at}
 use Rattle.memory.specs.declared.memory.Memory.{Memory}
 use Rattle.memory.proofs.memory.Memory as Y
 use Rattle.memory.proofs.memory.Memory.Laws as Y′
-use Rattle.types.specs.declared.fuel.Fuel.{Fuel}
 use Rattle.types.proofs.fuel.Fuel as F
 use Rattle.types.proofs.fuel.Fuel.Laws as F′
-use Rattle.types.specs.declared.limiter.Limiter.{Limiter}
 use Rattle.types.proofs.limiter.Limiter as Lm
 use Rattle.types.proofs.limiter.Limiter.Laws as Lm′
-use Rattle.lent.specs.declared.regrown.Regrown.{Regrown}
 use Rattle.lent.proofs.regrown.Regrown as G
 use Rattle.lent.proofs.regrown.Regrown.Laws as G′
 use Rattle.types.proofs.answer.Answer as S

@@ -3,8 +3,7 @@ use mathlib.Core.Path.{sym, ap, _∙_}
 use mathlib.Core.Bool.{true}
 use Rattle.types.proofs.Picks.{pick-false, cases}
 use Rattle.types.specs.declared.answer.Answer.{Answer}
-use Rattle.lent.specs.declared.operate.Verdict.{Verdict}
-use Rattle.lent.specs.stages.Places.{verdict}
+use Rattle.lent.specs.{declared.operate.Verdict.Verdict, stages.Places.verdict}
 use borrow.Author.Needs.{needs}
 use Rattle.lent.proofs.operate.judge.Statement.{statement}
 use Rattle.lent.proofs.operate.judge.Tie as tie

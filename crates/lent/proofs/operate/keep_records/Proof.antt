@@ -3,33 +3,27 @@ use Rattle.lent.proofs.Walk.{_≡_, refl, ap, subst, _∙_, sym, [], _�
 use denote.Memory.{partOf}
 use denote.Struct.Laws as LL
 use denote.Enum.Laws as EL
-use Rattle.types.specs.Raw.{rawBytes}
-use Rattle.machine.specs.Machine.{Buffers, buffers}
-use Rattle.lent.specs.Records.{Lent, lent, lentStepped, lentStep}
+use Rattle.types.specs.{Raw.rawBytes, declared.fuel.Fuel.Fuel, declared.answer.Answer.Answer}
+use Rattle.machine.specs.{Machine.Buffers, Machine.buffers, declared.operation.Operation.Operation}
+use Rattle.lent.specs.{Records.Lent, Records.lent, Records.lentStepped, Records.lentStep, declared.operate.Standing.Standing, declared.operate.Kept.Kept}
 use Rattle.lent.proofs.RecordParts.{AR-Y, Y-vals, Ys-vals, AR-B, B-vals, Bs-vals, AR-G, G-vals, Gs-vals, D-vals, F-vals, P-vals}
 use Rattle.lent.proofs.RecordLaws.{kept-step}
 use Rattle.memory.specs.declared.memory.Memory.{Memory}
 use Rattle.memory.proofs.memory.Memory as Y
 use Rattle.memory.proofs.memory.Memory.Laws as Y′
-use Rattle.table.specs.declared.table.Table.{Table}
+use Rattle.table.specs.{declared.table.Table.Table, declared.element.ElementSegment.ElementSegment}
 use Rattle.table.proofs.table.Table as B
 use Rattle.table.proofs.table.Table.Laws as B′
-use Rattle.table.specs.declared.element.ElementSegment.{ElementSegment}
 use Rattle.table.proofs.element.ElementSegment as G
 use Rattle.table.proofs.element.ElementSegment.Laws as G′
-use Rattle.lent.specs.declared.operate.Standing.{Standing}
 use Rattle.lent.proofs.operate.Standing as D
 use Rattle.lent.proofs.operate.Standing.Laws as D′
-use Rattle.types.specs.declared.fuel.Fuel.{Fuel}
 use Rattle.types.proofs.fuel.Fuel as F
 use Rattle.types.proofs.fuel.Fuel.Laws as F′
-use Rattle.machine.specs.declared.operation.Operation.{Operation}
 use Rattle.machine.proofs.operation.Operation as P
 use Rattle.machine.proofs.operation.Operation.Laws as P′
-use Rattle.types.specs.declared.answer.Answer.{Answer}
 use Rattle.types.proofs.answer.Answer as S
 use Rattle.types.proofs.answer.Answer.Laws as S′
-use Rattle.lent.specs.declared.operate.Kept.{Kept}
 use Rattle.lent.proofs.operate.Kept as K
 use Rattle.lent.proofs.operate.Kept.Laws as K′
 use Rattle.lent.proofs.operate.operate_lent as stage

@@ -2,33 +2,27 @@
 use Rattle.lent.proofs.Walk.{_≡_, refl, ap, subst, _∙_, true, [], _∷_, List, ℕ, _≤_, is-true, is-false, length, set, fullShare, URA, named, w64, Ty, tyInt, tyBool, tyRef, mut, erased, Val, vbool, vint, Lft, Share, ftrue, fat, froom, fdies, flft, fres, SProp, ent, emp, via, fst∗, id⊢, Routine, Heap, Calls, Loops, WpFn, Atoms, Fun, fact, givenOf, tables, FmC, Given, Item, Go, nth, Sq, runs, atRet, ‵, raw, _⊛_, some, later, ⋆, _$_, _∵_, !, qed, by, move, keep, drop, use0, use1, group, split, join, pick, rewrite, fsplit, fsplit3, fjoin, feqL, suffices, frame, await, done, Reads, look, init, stop, hop, fld, from, load, addr, of-opd, and-then, no-more, assigns, land, first, branches, skips, exec, returns-within, returns, enter, alloc1, alloc0, params1, pass1, pass0, agg, whole, sub, look-in, name-done, owns, Is, shows, uint-makes, u8, u64, usize, RefT, MutRef, ptr-vals, mut-tells, sliceTy, slice-vals, MutSlice, Room, finally, res-finally, mut-slice-tells, plain, only, owned, peeks, heard, nothing, yes, Contract, Triple, calls-at, ensured, lasts, onEntry, tripleOf, cited, says, Stays, stay-none, gave-ref, gave-slice, walkOf, AllGo, goes-none, goes-gave-ref, goes-gave-slice, Walks, ends-at, walked, Mem, list-of, record-of, closes-walk, free-all, held, bare}
 use denote.Struct.Laws as LL
 use denote.Enum.Laws as EL
-use Rattle.types.specs.Raw.{rawBytes}
-use Rattle.machine.specs.declared.records.Machine.{Machine}
-use Rattle.machine.specs.Machine.{Buffers, buffers, noMemory, noTable, noSegment}
-use Rattle.lent.specs.Records.{Lent, lent, placed, lentStepped, lentStep, gathered}
-use Rattle.lent.specs.stages.Places.{verdict, placing, place, eight}
+use Rattle.types.specs.{Raw.rawBytes, declared.fuel.Fuel.Fuel, declared.answer.Answer.Answer}
+use Rattle.machine.specs.{declared.records.Machine.Machine, Machine.Buffers, Machine.buffers, Machine.noMemory, Machine.noTable, Machine.noSegment}
+use Rattle.machine.specs.{declared.operation.Operation.Operation}
+use Rattle.lent.specs.{Records.Lent, Records.lent, Records.placed, Records.lentStepped, Records.lentStep, Records.gathered, stages.Places.verdict}
+use Rattle.lent.specs.{stages.Places.placing, stages.Places.place, stages.Places.eight, declared.operate.Standing.Standing}
+use Rattle.lent.specs.{declared.operate.Placed.Placed, declared.operate.Verdict.Verdict}
 use Rattle.lent.proofs.RecordLaws.{lent-steps, lent-short, found-short, found-long, long-lists}
 use Rattle.lent.proofs.RecordParts.{P-vals, name-of, fields-of, values-of, read-field}
 use Rattle.memory.specs.declared.memory.Memory.{Memory}
 use Rattle.memory.proofs.memory.Memory as Y
-use Rattle.table.specs.declared.table.Table.{Table}
+use Rattle.table.specs.{declared.table.Table.Table, declared.element.ElementSegment.ElementSegment}
 use Rattle.table.proofs.table.Table as B
-use Rattle.table.specs.declared.element.ElementSegment.{ElementSegment}
 use Rattle.table.proofs.element.ElementSegment as G
-use Rattle.lent.specs.declared.operate.Standing.{Standing}
 use Rattle.lent.proofs.operate.Standing as D
-use Rattle.types.specs.declared.fuel.Fuel.{Fuel}
 use Rattle.types.proofs.fuel.Fuel as F
-use Rattle.machine.specs.declared.operation.Operation.{Operation}
 use Rattle.machine.proofs.operation.Operation as P
 use Rattle.machine.proofs.operation.Operation.Laws as P′
-use Rattle.lent.specs.declared.operate.Placed.{Placed}
 use Rattle.lent.proofs.operate.Placed as O
 use Rattle.lent.proofs.operate.Placed.Laws as O′
-use Rattle.types.specs.declared.answer.Answer.{Answer}
 use Rattle.types.proofs.answer.Answer as S
 use Rattle.types.proofs.answer.Answer.Laws as S′
-use Rattle.lent.specs.declared.operate.Verdict.{Verdict}
 use Rattle.lent.proofs.operate.Verdict as J
 use Rattle.lent.proofs.operate.Verdict.Laws as J′
 use Rattle.lent.proofs.operate.operate_memories as step

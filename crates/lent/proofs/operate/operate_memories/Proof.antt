@@ -3,28 +3,23 @@ use Rattle.lent.proofs.Walk.{_≡_, refl, ap, subst, sym, [], _∷_, Li
 use Rattle.lent.proofs.RowReads.{MemoriesKnown, read-memory, know-memories}
 use denote.Struct.Laws as LL
 use denote.Enum.Laws as EL
-use Rattle.types.specs.Raw.{rawBytes}
-use Rattle.machine.specs.declared.records.Machine.{Machine}
-use Rattle.machine.specs.Machine.{Buffers, buffers, noMemory, noTable, noSegment}
-use Rattle.lent.specs.Records.{gathered}
-use Rattle.lent.specs.stages.Places.{Placing, placing, place, eight}
+use Rattle.types.specs.{Raw.rawBytes, declared.fuel.Fuel.Fuel}
+use Rattle.machine.specs.{declared.records.Machine.Machine, Machine.Buffers, Machine.buffers, Machine.noMemory, Machine.noTable, Machine.noSegment}
+use Rattle.machine.specs.{declared.operation.Operation.Operation}
+use Rattle.lent.specs.{Records.gathered, stages.Places.Placing, stages.Places.placing, stages.Places.place, stages.Places.eight}
+use Rattle.lent.specs.{declared.operate.Standing.Standing, declared.operate.Placed.Placed}
 use Rattle.lent.proofs.RecordLaws.{place-within}
 use Rattle.lent.proofs.RecordParts.{AR-Y, Y-vals, Ys-vals, P-vals, name-of, fields-of, values-of, read-field}
 use Rattle.memory.specs.declared.memory.Memory.{Memory}
 use Rattle.memory.proofs.memory.Memory as Y
 use Rattle.memory.proofs.memory.Memory.Laws as Y′
-use Rattle.table.specs.declared.table.Table.{Table}
+use Rattle.table.specs.{declared.table.Table.Table, declared.element.ElementSegment.ElementSegment}
 use Rattle.table.proofs.table.Table as B
-use Rattle.table.specs.declared.element.ElementSegment.{ElementSegment}
 use Rattle.table.proofs.element.ElementSegment as G
-use Rattle.lent.specs.declared.operate.Standing.{Standing}
 use Rattle.lent.proofs.operate.Standing as D
-use Rattle.types.specs.declared.fuel.Fuel.{Fuel}
 use Rattle.types.proofs.fuel.Fuel as F
-use Rattle.machine.specs.declared.operation.Operation.{Operation}
 use Rattle.machine.proofs.operation.Operation as P
 use Rattle.machine.proofs.operation.Operation.Laws as P′
-use Rattle.lent.specs.declared.operate.Placed.{Placed}
 use Rattle.lent.proofs.operate.Placed as O
 use Rattle.lent.proofs.operate.Placed.Laws as O′
 use Rattle.lent.proofs.operate.operate_tables as step

@@ -2,31 +2,24 @@
 use Rattle.lent.proofs.Walk.{_≡_, refl, ap, subst, [], _∷_, List, ℕ, length, fullShare, URA, named, Ty, tyRef, mut, erased, Val, Lft, Share, ftrue, fat, froom, fdies, flft, fobs, fauth, fbor, fobor, SProp, ent, emp, via, fst∗, id⊢, Routine, Heap, Calls, Loops, WpFn, Atoms, Fun, fact, givenOf, tables, FmC, Given, Item, Go, nth, Sq, runs, atRet, ‵, raw, _⊛_, some, later, ⋆, _$_, _∵_, !, qed, by, move, keep, drop, use1, group, split, join, pick, rewrite, fsplit, fsplit3, fjoin, fjoin3, feqL, feqI, suffices, frame, await, done, Reads, look, look-raw, init, store-raw, stop, hop, fld, from, load, addr, of-opd, and-then, no-more, assigns, land, returns, enter, alloc1, alloc0, params1, pass1, pass0, agg, whole, sub, look-in, Body, owns, Is, shows, Typed, mem, cellAt, u8, u64, RefT, MutRef, ptr-vals, mut-tells, sliceTy, slice-vals, MutSlice, Room, finally, mut-slice-tells, array-tells, array-lawful, array-makes, plain, only, opens, closes, owned, peeks, heard, nothing, spelt, yes, Contract, Triple, calls-at, ensured, lasts, onEntry, tripleOf, cited, says, Stays, stay-none, stay-ref, gave-slice, walkOf, AllGo, goes-none, goes-ref, goes-gave-slice, Walks, ends-at, walked, Mem, list-of, record-of, closes-walk, free-all, held}
 use denote.Struct.Laws as LL
 use denote.Enum.Laws as EL
-use Rattle.types.specs.Raw.{rawBytes}
-use Rattle.machine.specs.declared.records.Machine.{Machine}
-use Rattle.machine.specs.Machine.{buffers}
-use Rattle.lent.specs.Records.{gathered}
-use Rattle.lent.specs.stages.Places.{placing, place}
+use Rattle.types.specs.{Raw.rawBytes, declared.fuel.Fuel.Fuel}
+use Rattle.machine.specs.{declared.records.Machine.Machine, Machine.buffers, declared.operation.Operation.Operation}
+use Rattle.lent.specs.{Records.gathered, stages.Places.placing, stages.Places.place, declared.operate.Standing.Standing, declared.operate.Placed.Placed}
 use Rattle.lent.proofs.RecordParts.{AR-Y, Y-vals, Ys-vals, AR-B, B-vals, Bs-vals, AR-G, G-vals, Gs-vals, D-vals, F-vals, P-vals, name-of, fields-of, values-of, read-field}
 use Rattle.memory.specs.declared.memory.Memory.{Memory}
 use Rattle.memory.proofs.memory.Memory as Y
 use Rattle.memory.proofs.memory.Memory.Laws as Y′
-use Rattle.table.specs.declared.table.Table.{Table}
+use Rattle.table.specs.{declared.table.Table.Table, declared.element.ElementSegment.ElementSegment}
 use Rattle.table.proofs.table.Table as B
 use Rattle.table.proofs.table.Table.Laws as B′
-use Rattle.table.specs.declared.element.ElementSegment.{ElementSegment}
 use Rattle.table.proofs.element.ElementSegment as G
 use Rattle.table.proofs.element.ElementSegment.Laws as G′
-use Rattle.lent.specs.declared.operate.Standing.{Standing}
 use Rattle.lent.proofs.operate.Standing as D
 use Rattle.lent.proofs.operate.Standing.Laws as D′
-use Rattle.types.specs.declared.fuel.Fuel.{Fuel}
 use Rattle.types.proofs.fuel.Fuel as F
 use Rattle.types.proofs.fuel.Fuel.Laws as F′
-use Rattle.machine.specs.declared.operation.Operation.{Operation}
 use Rattle.machine.proofs.operation.Operation as P
 use Rattle.machine.proofs.operation.Operation.Laws as P′
-use Rattle.lent.specs.declared.operate.Placed.{Placed}
 use Rattle.lent.proofs.operate.Placed as O
 use Rattle.lent.proofs.operate.Placed.Laws as O′
 use Rattle.lent.proofs.operate.operate_records as step

@@ -3,29 +3,22 @@ use Rattle.lent.proofs.Walk.{_≡_, refl, ap, subst, sym, [], _∷_, Li
 use Rattle.lent.proofs.RowReads.{TablesKnown, read-table, know-tables}
 use denote.Struct.Laws as LL
 use denote.Enum.Laws as EL
-use Rattle.types.specs.Raw.{rawBytes}
+use Rattle.types.specs.{Raw.rawBytes, Fuel.left, declared.raw.TypedRawRef.TypedRawRef, declared.fuel.Fuel.Fuel, declared.limiter.Limiter.Limiter}
 use Rattle.types.specs.Done as result
-use Rattle.types.specs.Fuel.{left}
 use Rattle.table.specs.Table as table
 use Rattle.machine.specs.Machine.{noTable}
-use Rattle.lent.specs.Growth.{Lending, lending}
-use Rattle.lent.specs.stages.Growth.{tableRegrown}
-use Rattle.lent.specs.stages.Places.{eight}
+use Rattle.lent.specs.{Growth.Lending, Growth.lending, stages.Growth.tableRegrown, stages.Places.eight, declared.regrown.Regrown.Regrown}
 use Rattle.lent.proofs.GrowthLaws.{placed, table-place, table-stored}
 use Rattle.lent.proofs.RecordParts.{AR-B, B-vals, Bs-vals, F-vals, Lm-vals, X-vals, left-is, placed-is, table-is, grown-fits, grown-answer-is, put-left, put-place, put-table-size, grown-answer, grown-place, grown-size, grown-left, grown-at}
 use Rattle.table.specs.declared.table.Table.{Table}
 use Rattle.table.proofs.table.Table as B
 use Rattle.table.proofs.table.Table.Laws as B′
-use Rattle.types.specs.declared.raw.TypedRawRef.{TypedRawRef}
 use Rattle.types.proofs.raw.TypedRawRef as X
 use Rattle.types.proofs.raw.TypedRawRef.Laws as X′
-use Rattle.types.specs.declared.fuel.Fuel.{Fuel}
 use Rattle.types.proofs.fuel.Fuel as F
 use Rattle.types.proofs.fuel.Fuel.Laws as F′
-use Rattle.types.specs.declared.limiter.Limiter.{Limiter}
 use Rattle.types.proofs.limiter.Limiter as Lm
 use Rattle.types.proofs.limiter.Limiter.Laws as Lm′
-use Rattle.lent.specs.declared.regrown.Regrown.{Regrown}
 use Rattle.lent.proofs.regrown.Regrown as G
 use Rattle.lent.proofs.regrown.Regrown.Laws as G′
 use Rattle.types.proofs.answer.Answer as S
