@@ -1,26 +1,10 @@
-//! What one operation costs through the port's `operate`, and how much of that is the soundness test and copying; then in place, in a
-//! row of words that is lent, with the tests of its form and soundness and without them.
+//! What one operation costs in place, on a machine in a row of words that is lent: with the tests of the row's form and soundness and without them.
 //! The rounds run inside one call; a call with no rounds is taken off.
 
 use std::time::Instant;
 
-// Archive libtiming.a: crates/timing/src/operate.rt and in_place.rt.
+// Archive libtiming.a: crates/timing/src/in_place.rt.
 unsafe extern "C" {
-    /// So many rounds of the line's operation, by value or through lent records and lent fuel, on a machine with so many memories,
-    /// tables and segments; the fuel left.
-    fn rounds_operate(
-        bytes: *mut u8,
-        byte_count: usize,
-        cells: *mut u64,
-        cell_count: usize,
-        items: *mut u64,
-        item_count: usize,
-        lent: bool,
-        line: *const u8,
-        length: usize,
-        instances: u64,
-        rounds: u64,
-    ) -> u64;
     /// So many rounds of the line's operation on the machine of a row: with every test, or without those of the row's form and soundness.
     fn rounds_in_place(
         words: *mut u64,
@@ -41,16 +25,6 @@ unsafe extern "C" {
 // Archive libyshankelt.a: include/yshankelt.h.
 unsafe extern "C" {
     fn ysh_machine_new(words: *mut u64, words_len: usize, metering: bool, copied: u32) -> u8;
-}
-
-/// How a machine is handed over.
-#[derive(Clone, Copy)]
-enum Way {
-    Value,
-    Lent,
-    /// In place, by `proceed` or by `operate` with its tests.
-    Proceed,
-    Operate,
 }
 
 /// Each instance has a room of so many bytes or cells, of which the first 64 are in use.
@@ -95,7 +69,7 @@ impl Buffers {
         unsafe { rounds_in_place(words, w, bytes, n, cells, c, items, i, tested, line.as_ptr(), line.len(), rounds) }
     }
 
-    /// A machine in the row with so many memories, tables and segments, made anew, as the rounds by value begin.
+    /// A machine in the row with so many memories, tables and segments, made anew.
     fn make(&mut self, instances: u64) {
         assert_eq!(unsafe { ysh_machine_new(self.words.as_mut_ptr(), self.words.len(), true, 64) }, 0);
         let room = ROOM as u64;
@@ -106,31 +80,20 @@ impl Buffers {
 }
 
 /// The nanoseconds of one call.
-fn spent(b: &mut Buffers, way: Way, line: &str, instances: u64, rounds: u64) -> f64 {
-    let (bytes, cells, items) = (b.bytes.as_mut_ptr(), b.cells.as_mut_ptr(), b.items.as_mut_ptr());
-    let [n, c, i] = [b.bytes.len(), b.cells.len(), b.items.len()];
-    let (text, length) = (line.as_ptr(), line.len());
-    if matches!(way, Way::Proceed | Way::Operate) {
-        b.make(instances);
-    }
+fn spent(b: &mut Buffers, tested: bool, line: &str, instances: u64, rounds: u64) -> f64 {
+    b.make(instances);
     let start = Instant::now();
-    let left = match way {
-        Way::Value => unsafe { rounds_operate(bytes, n, cells, c, items, i, false, text, length, instances, rounds) },
-        Way::Lent => unsafe { rounds_operate(bytes, n, cells, c, items, i, true, text, length, instances, rounds) },
-        Way::Proceed => b.in_place(false, line, rounds),
-        Way::Operate => b.in_place(true, line, rounds),
-    };
-    std::hint::black_box(left);
+    std::hint::black_box(b.in_place(tested, line, rounds));
     start.elapsed().as_nanos() as f64
 }
 
 /// The nanoseconds of one round: the best of many.
-fn round(b: &mut Buffers, way: Way, line: &str, instances: u64) -> f64 {
+fn round(b: &mut Buffers, tested: bool, line: &str, instances: u64) -> f64 {
     let mut none = f64::INFINITY;
     let mut all = f64::INFINITY;
     for _ in 0..60 {
-        none = none.min(spent(b, way, line, instances, 0));
-        all = all.min(spent(b, way, line, instances, ROUNDS));
+        none = none.min(spent(b, tested, line, instances, 0));
+        all = all.min(spent(b, tested, line, instances, ROUNDS));
     }
     (all - none) / ROUNDS as f64
 }
@@ -138,25 +101,11 @@ fn round(b: &mut Buffers, way: Way, line: &str, instances: u64) -> f64 {
 pub fn print() {
     let mut b = Buffers { words: vec![0; 186], bytes: vec![0; 8 * ROOM], cells: vec![0; 8 * ROOM], items: vec![0; 32] };
     println!();
-    println!("{:<26} {:>12} {:>12} {:>12} {:>16}", "through operate", "empty", "1 of each", "8 of each", "1 of each, lent");
-    for (name, code, fields, needs) in OPERATIONS {
-        let line = text(code, fields);
-        let empty = if needs { "-".to_string() } else { format!("{:.1} ns", round(&mut b, Way::Value, &line, 0)) };
-        let one = format!("{:.1} ns", round(&mut b, Way::Value, &line, 1));
-        let all = format!("{:.1} ns", round(&mut b, Way::Value, &line, 8));
-        let lent = format!("{:.1} ns", round(&mut b, Way::Lent, &line, 1));
-        println!("{name:<26} {empty:>12} {one:>12} {all:>12} {lent:>16}");
-    }
-    let copying = round(&mut b, Way::Value, "02", 0);
-    let one = round(&mut b, Way::Value, "02", 1) - copying;
-    let all = round(&mut b, Way::Value, "02", 8) - copying;
-    println!("of which copying and dispatch {copying:.1} ns, the soundness test {one:.1} ns with 1 of each and {all:.1} ns with 8 of each");
-    println!();
     println!("{:<26} {:>12} {:>12} {:>16} {:>16}", "in place", "1 of each", "8 of each", "1 each, tested", "8 each, tested");
     for (name, code, fields, _) in OPERATIONS {
         let line = text(code, fields);
-        let [one, all] = [1, 8].map(|instances| format!("{:.1} ns", round(&mut b, Way::Proceed, &line, instances)));
-        let [one_tested, all_tested] = [1, 8].map(|instances| format!("{:.1} ns", round(&mut b, Way::Operate, &line, instances)));
+        let [one, all] = [1, 8].map(|instances| format!("{:.1} ns", round(&mut b, false, &line, instances)));
+        let [one_tested, all_tested] = [1, 8].map(|instances| format!("{:.1} ns", round(&mut b, true, &line, instances)));
         println!("{name:<26} {one:>12} {all:>12} {one_tested:>16} {all_tested:>16}");
     }
 }

@@ -42,7 +42,6 @@ claims =
       fresh-sound = fresh-sound;
       stays-sound = step-sound;
       never-unsound = never-unsound;
-      operate-is-step = λ κs a x s p. p;
       row-is-step = λ κs a x s p. p;
       form-holds = λ l e. sym (form-holds l e);
       stays-in-form = stays-in-form;

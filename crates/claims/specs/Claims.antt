@@ -7,8 +7,6 @@ use denote.Ref.{now}
 use Rattle.types.specs.Names.{over, rawBytes, FuelCosts}
 use Rattle.machine.specs.Names.{Buffers, buffers, freshMachine, soundReferences, soundOver, stepped, step, run, OthersStay, OnlySizes}
 use Rattle.machine.specs.Names.{Machine, Operation, MemoryOp, TableOp}
-use Rattle.machine.proofs.records.Machine.operate.Reads as operate-reads
-use Rattle.machine.proofs.records.Machine.operate.Kinds as operate-kinds
 use Rattle.machine.specs.{Words.wordsOf, Words.machineFrom, Words.inForm, Row.inRow, Row.operateRow, Row.rowPages, Row.rowCells}
 use Rattle.machine.proofs.row.operate.Reads as row-reads
 use Rattle.machine.proofs.row.operate.Kinds as row-kinds
@@ -80,12 +78,8 @@ pub record Claims : Type 0 where
   pub never-unsound : (r : ℕ) (metering : Bool) (costs : FuelCosts) (b : Buffers) (ops : List Operation)
       → soundReferences (length (b .cells)) (length (b .items)) ≡ true
       → never 19 (run r (freshMachine metering costs) b ops .answers) ≡ true
-  -- 8. What `operate` gives back under its contract is `step`'s: answer, machine, and the content of the three buffers.
-  pub operate-is-step : (κs : Lfts 3) (a : Dens κs operate-kinds.ps) (x : resT operate-kinds.r κs .Denot) (s : AtExit (endedOf 3 operate-kinds.ps operate-kinds.r) κs)
-      → operate-reads.Post κs a x s
-      → stepped (x .answer) (x .machine) (now (s .1 .0)) (now (s .1 .1 .0)) (now (s .1 .1 .1 .0))
-      ≡ step rawBytes (a .0) (buffers (now (a .1 .0)) (now (a .1 .1 .0)) (now (a .1 .1 .1 .0))) (a .1 .1 .1 .1 .0)
-  -- In place, `row::operate`: 18, 19 for a row out of form, else `step` on the machine that the row says, whose words then stand in the row.
+  -- 8. What `row::operate` gives back under its contract: 18, 19 for a row out of form, else `step` on the machine that the row says: answer, buffers, and
+  -- that machine's words in the row.
   pub row-is-step : (κs : Lfts 4) (a : Dens κs row-kinds.ps) (x : resT row-kinds.r κs .Denot) (s : AtExit (endedOf 4 row-kinds.ps row-kinds.r) κs)
       → row-reads.Post κs a x s
       → inRow x (now (s .0)) (now (s .1 .0)) (now (s .1 .1 .0)) (now (s .1 .1 .1 .0))
@@ -99,7 +93,7 @@ pub record Claims : Type 0 where
       → rowPages l i ≡ step r (machineFrom l) b (Operation.Memory i MemoryOp.Size) .answer
   pub cells-as-22 : (r : ℕ) (l : List ℕ) (b : Buffers) (i : ℕ) → inForm l ≡ true → soundOver (machineFrom l) b ≡ true
       → rowCells l i ≡ step r (machineFrom l) b (Operation.Table i TableOp.Size) .answer
-  -- As `operate` so `operate_kept`, which runs an operation through records in lent lists and lent fuel.
+  -- `operate_kept`, which runs an operation through records in lent lists and lent fuel, gives back and leaves what `step` does.
   pub lent-is-step : (κs : Lfts 3) (a : Dens κs lent-kinds.ps) (x : resT lent-kinds.r κs .Denot) (s : AtExit (endedOf 3 lent-kinds.ps lent-kinds.r) κs)
       → lent-reads.Post κs a x s
       → stepped (x .answer) (x .machine) (now (s .1 .0)) (now (s .1 .1 .0)) (now (s .1 .1 .1 .0))

@@ -1,5 +1,4 @@
 // One operation on records that stand in lent lists, with the fuel record lent: each list has one record stored to it.
-use machine::operate::Operated;
 use machine::operation::Operation;
 use machine::outcome::Change;
 use machine::outcome::Outcome;
@@ -39,6 +38,12 @@ pub struct Placed {
     pub standing: Standing,
     pub fuel: Fuel,
     pub answer: Answer,
+}
+
+// An answer, and the machine after it.
+pub struct Operated {
+    pub answer: Answer,
+    pub machine: Machine,
 }
 
 // Whether a list is too short, and the answer if so.

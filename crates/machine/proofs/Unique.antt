@@ -33,16 +33,11 @@ use mathlib.Core.List.{List}
 use Prim.Native.Nat.{ℕ}
 use denote.Ref.{now}
 use Rattle.machine.specs.Machine.{Buffers, buffers}
-use Rattle.machine.specs.Step.{Performed, Stepped}
-use Rattle.machine.specs.declared.operate.Operated.{Operated}
+use Rattle.machine.specs.Step.{Performed}
 use Rattle.machine.proofs.records.Machine.new.Reads as new-reads
 use Rattle.machine.proofs.records.Machine.new.Kinds as new-kinds
 use Rattle.machine.proofs.records.Machine.is_sound.Reads as is-sound-reads
 use Rattle.machine.proofs.records.Machine.is_sound.Kinds as is-sound-kinds
-use Rattle.machine.proofs.records.Machine.operate.Reads as operate-reads
-use Rattle.machine.proofs.records.Machine.operate.Kinds as operate-kinds
-use Rattle.machine.proofs.records.Machine.settle.Reads as settle-reads
-use Rattle.machine.proofs.records.Machine.settle.Kinds as settle-kinds
 use Rattle.machine.proofs.records.Machine.memory_at.Reads as memory-at-reads
 use Rattle.machine.proofs.records.Machine.memory_at.Kinds as memory-at-kinds
 use Rattle.machine.proofs.records.Machine.table_at.Reads as table-at-reads
@@ -63,16 +58,6 @@ machine-new-one κs a x x′ s s′ z p q = p ∙ sym q
 
 pub machine-is-sound-one : One 0 is-sound-kinds.ps is-sound-kinds.r is-sound-reads.Pre is-sound-reads.Post
 machine-is-sound-one κs a x x′ s s′ z p q = p ∙ sym q
-
--- one answer, one machine, and one content of each of the three buffers
-pub machine-operate-one : OneWith 3 operate-kinds.ps operate-kinds.r operate-reads.Pre operate-reads.Post Buffers (λ κs s. buffers (now (s .1 .0)) (now (s .1 .1 .0)) (now (s .1 .1 .1 .0)))
-machine-operate-one κs a x x′ s s′ z p q = (ap outcome (p ∙ sym q), ap (λ (o : Stepped). o .buffers) (p ∙ sym q))
-  where
-    outcome : Stepped → Operated
-    outcome o = record { answer = o .answer; machine = o .machine }
-
-pub machine-settle-one : One 0 settle-kinds.ps settle-kinds.r settle-reads.Pre settle-reads.Post
-machine-settle-one κs a x x′ s s′ z p q = p ∙ sym q
 
 pub machine-memory-at-one : One 0 memory-at-kinds.ps memory-at-kinds.r memory-at-reads.Pre memory-at-reads.Post
 machine-memory-at-one κs a x x′ s s′ z p q = p ∙ sym q

@@ -8,4 +8,4 @@ pub use Rattle.machine.specs.Outcome.{changed, standing, metered, oneMem
 pub use Rattle.machine.specs.Step.{Stepped, stepped, step, run}
 pub use Rattle.machine.specs.Frame.{OthersStay, OnlySizes}
 pub use declared.{operation.FuelOp.FuelOp, operation.Items.Items, operation.MemoryOp.MemoryOp, operation.Operation.Operation}
-pub use declared.{operation.TableOp.TableOp, records.Counts.Counts, records.Machine.Machine, outcome.Change.Change, operate.Operated.Operated}
+pub use declared.{operation.TableOp.TableOp, records.Counts.Counts, records.Machine.Machine, outcome.Change.Change}

@@ -1,4 +1,4 @@
-// One operation on a machine: 18, 19, then 16 or 17, then the operation's own checks.
+// What one operation on a machine gives back: 18, 19, then 16 or 17, then the operation's own checks.
 use super::fueling;
 use super::memories;
 use super::operation::Operation;
@@ -9,7 +9,6 @@ use super::segments;
 use super::sound;
 use super::tables;
 use super::words;
-use types::answer::Answer;
 ghost use mathlib.Core.Path.{_≡_};
 ghost use Prim.Native.Nat.{_≤_};
 ghost use lib.ListN.{length};
@@ -17,13 +16,7 @@ ghost use Rattle.types.specs.Raw.{rawBytes};
 ghost use Rattle.machine.specs.Machine.{buffers};
 ghost use Rattle.machine.specs.Words.{rowLength, machineFrom};
 ghost use Rattle.machine.specs.stages.Rows.{Inside};
-ghost use Rattle.machine.specs.Step.{performed, perform, decide, stepped, step};
-
-// The answer, and the machine after it.
-pub struct Operated {
-    pub answer: Answer,
-    pub machine: Machine,
-}
+ghost use Rattle.machine.specs.Step.{performed, perform, decide};
 
 // 16 or 17, then the operation's own checks.
 pub(crate) fn perform(
@@ -99,21 +92,5 @@ impl Machine {
     {
         let row = words::row_of(self);
         decide(&row, bytes, cells, items, op)
-    }
-
-    // One operation: the answer, and the machine after it.
-    pub fn operate(
-        self,
-        bytes: &mut [u8],
-        cells: &mut [u64],
-        items: &mut [u64],
-        op: Operation,
-    ) -> Operated
-        ensures { λ r. ⌜ stepped (r .answer) (r .machine) (now (bytes .exit)) (now (cells .exit)) (now (items .exit)) ≡ step rawBytes self (buffers (now (bytes .entry)) (now (cells .entry)) (now (items .entry))) op ⌝ }
-    {
-        let outcome = self.decide(bytes, cells, items, op);
-        let answer = outcome.answer;
-        let machine = self.settle(outcome);
-        Operated { answer, machine }
     }
 }

@@ -1,6 +1,5 @@
-// What an operation gives back, and the machine after it: one record changes at most.
+// What an operation gives back: one record changes at most.
 use super::records::Counts;
-use super::records::Machine;
 use super::words;
 use memory::memory::Memory;
 use table::element::ElementSegment;
@@ -13,9 +12,8 @@ ghost use mathlib.Core.Path.{_≡_};
 ghost use Prim.Native.Nat.{_≤_};
 ghost use lib.ListN.{length};
 ghost use Rattle.types.specs.Answer.{refuse};
-ghost use Rattle.machine.specs.declared.outcome.Change.the-variants as change;
 ghost use Rattle.machine.specs.Words.{rowLength, machineFrom};
-ghost use Rattle.machine.specs.Outcome.{leaves, keeps, changed, settled};
+ghost use Rattle.machine.specs.Outcome.{leaves, keeps};
 
 // The record at a place; a new one stands at the next free place.
 pub enum Change {
@@ -63,66 +61,4 @@ pub(crate) fn refuses(words: &[u64], number: u8) -> Outcome
     ensures { λ r. ⌜ r ≡ keeps (machineFrom (now (words .entry))) (refuse number 0) ⌝ }
 {
     keeps(words, Answer::Refusal(Refusal { number, amount: 0 }))
-}
-
-impl Machine {
-    fn put_memory(self, i: usize, memory: Memory) -> Machine
-        ensures { λ r. ⌜ r ≡ changed (change.Memory i memory) self ⌝ }
-    {
-        if i < 8 {
-            let mut next = self;
-            next.memories[i] = memory;
-            return next;
-        }
-        self
-    }
-
-    fn put_table(self, i: usize, table: Table) -> Machine
-        ensures { λ r. ⌜ r ≡ changed (change.Table i table) self ⌝ }
-    {
-        if i < 8 {
-            let mut next = self;
-            next.tables[i] = table;
-            return next;
-        }
-        self
-    }
-
-    fn put_segment(self, i: usize, segment: ElementSegment) -> Machine
-        ensures { λ r. ⌜ r ≡ changed (change.Segment i segment) self ⌝ }
-    {
-        if i < 8 {
-            let mut next = self;
-            next.segments[i] = segment;
-            return next;
-        }
-        self
-    }
-
-    // The records after a change.
-    fn changed(self, change: Change) -> Machine
-        ensures { λ r. ⌜ r ≡ changed change self ⌝ }
-    {
-        match change {
-            Change::Nothing => self,
-            Change::Memory(i, memory) => self.put_memory(i, memory),
-            Change::Table(i, table) => self.put_table(i, table),
-            Change::Segment(i, segment) => self.put_segment(i, segment),
-        }
-    }
-
-    // The machine after an operation.
-    pub fn settle(self, outcome: Outcome) -> Machine
-        ensures { λ r. ⌜ r ≡ settled self outcome ⌝ }
-    {
-        let change = outcome.change;
-        let counts = outcome.counts;
-        let fuel = outcome.fuel;
-        let limiter = outcome.limiter;
-        let mut next = self.changed(change);
-        next.counts = counts;
-        next.fuel = fuel;
-        next.limiter = limiter;
-        next
-    }
 }

@@ -2,13 +2,13 @@
 // answer line for each on standard output, and after them the cells of every memory and table.
 mod cells;
 
+use lent::operate::Operated;
 use lent::operate::operate_kept;
 use lines::answer_line::write_answer_line;
 use lines::code::Read;
 use lines::code::read_line;
 use lines::input::end_line;
 use lines::session::Session;
-use machine::operate::Operated;
 use machine::records::Machine;
 use types::answer::Answer;
 use types::answer::Refusal;

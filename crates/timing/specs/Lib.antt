@@ -1,4 +1,3 @@
 pub mod Timing
-pub mod Rounds
 pub mod InPlace
 pub mod Text

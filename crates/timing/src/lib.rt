@@ -1,6 +1,5 @@
 // Exports for the benches only: each builds the records of one operation from numbers, and leaves what a host would keep.
 pub mod in_place;
-pub mod operate;
 pub mod text;
 
 use memory::memory::Memory;

@@ -4,7 +4,7 @@ use machine::operation::FuelOp;
 use machine::operation::Items;
 use machine::operation::MemoryOp;
 use machine::operation::Operation;
-use machine::records::Machine;
+use machine::row;
 use memory::access::LoadKind;
 use memory::access::StoreKind;
 use types::fuel::FuelCosts;
@@ -16,13 +16,17 @@ use types::raw::TypedRawRef;
 use types::span::CopySpan;
 use types::table_ty::WantedTable;
 
-fn fresh(copied: u32) -> Machine {
-    let costs = FuelCosts {
-        copied,
-        translated: 7,
-        validated: 2,
-    };
-    Machine::new(true, costs)
+// A machine with metering on, in place.
+fn fresh(words: &mut [u64], copied: u32) {
+    row::fresh(
+        words,
+        true,
+        FuelCosts {
+            copied,
+            translated: 7,
+            validated: 2,
+        },
+    );
 }
 
 // No maximum.
@@ -49,23 +53,27 @@ fn new_memory(room: u64, wide: bool, minimum: u64, exponent: u8) -> Operation {
 // One operation whose answer is shown.
 fn show(
     name: &[u8],
-    machine: Machine,
+    words: &mut [u64],
     bytes: &mut [u8],
     cells: &mut [u64],
     items: &mut [u64],
     op: Operation,
-) -> Machine {
-    let done = machine.operate(bytes, cells, items, op);
-    let answer = done.answer;
+) {
+    let answer = row::operate(words, bytes, cells, items, op);
     answer_line(name, answer);
-    done.machine
 }
 
 // P6: a minimum of 2^64 bytes.
-pub(crate) fn minimum_of_all(bytes: &mut [u8], cells: &mut [u64], items: &mut [u64]) {
+pub(crate) fn minimum_of_all(
+    words: &mut [u64],
+    bytes: &mut [u8],
+    cells: &mut [u64],
+    items: &mut [u64],
+) {
+    fresh(words, 64);
     show(
         b"P6 creation",
-        fresh(64),
+        words,
         bytes,
         cells,
         items,
@@ -73,15 +81,9 @@ pub(crate) fn minimum_of_all(bytes: &mut [u8], cells: &mut [u64], items: &mut [u
     );
 }
 
-// A table of two cells and a segment of two items.
-fn table_and_segment(
-    machine: Machine,
-    bytes: &mut [u8],
-    cells: &mut [u64],
-    items: &mut [u64],
-) -> Machine {
+fn two_cells() -> Operation {
     let limits = at_least(2);
-    let table = Operation::NewTable {
+    Operation::NewTable {
         room: 2,
         wanted: WantedTable {
             element: RefType::Func,
@@ -92,9 +94,11 @@ fn table_and_segment(
             raw: RawRef { bits: 0 },
             ty: RefType::Func,
         },
-    };
-    let with_table = machine.operate(bytes, cells, items, table);
-    let segment = Operation::NewSegment {
+    }
+}
+
+fn two_items() -> Operation {
+    Operation::NewSegment {
         element: RefType::Func,
         items: Items {
             count: 2,
@@ -103,10 +107,13 @@ fn table_and_segment(
             third: 0,
             fourth: 0,
         },
-    };
-    let next = with_table.machine;
-    let with_both = next.operate(bytes, cells, items, segment);
-    with_both.machine
+    }
+}
+
+// A table of two cells and a segment of two items.
+fn table_and_segment(words: &mut [u64], bytes: &mut [u8], cells: &mut [u64], items: &mut [u64]) {
+    row::operate(words, bytes, cells, items, two_cells());
+    row::operate(words, bytes, cells, items, two_items());
 }
 
 fn empty_init(to: u64) -> Operation {
@@ -122,25 +129,24 @@ fn empty_init(to: u64) -> Operation {
 }
 
 // P7: init of length 0 at the size, and one further.
-fn two_inits(machine: Machine, bytes: &mut [u8], cells: &mut [u64], items: &mut [u64]) {
-    let next = show(
-        b"P7 at the size",
-        machine,
-        bytes,
-        cells,
-        items,
-        empty_init(2),
-    );
-    show(b"P7 one further", next, bytes, cells, items, empty_init(3));
+fn two_inits(words: &mut [u64], bytes: &mut [u8], cells: &mut [u64], items: &mut [u64]) {
+    show(b"P7 at the size", words, bytes, cells, items, empty_init(2));
+    show(b"P7 one further", words, bytes, cells, items, empty_init(3));
 }
 
-pub(crate) fn init_at_the_size(bytes: &mut [u8], cells: &mut [u64], items: &mut [u64]) {
-    let ready = table_and_segment(fresh(64), bytes, cells, items);
-    two_inits(ready, bytes, cells, items);
+pub(crate) fn init_at_the_size(
+    words: &mut [u64],
+    bytes: &mut [u8],
+    cells: &mut [u64],
+    items: &mut [u64],
+) {
+    fresh(words, 64);
+    table_and_segment(words, bytes, cells, items);
+    two_inits(words, bytes, cells, items);
 }
 
 // P8: B 0 and fuel 5: a copy and an init of length 0.
-fn copy_and_init(machine: Machine, bytes: &mut [u8], cells: &mut [u64], items: &mut [u64]) {
+fn copy_and_init(words: &mut [u64], bytes: &mut [u8], cells: &mut [u64], items: &mut [u64]) {
     let copy = Operation::TableCopy {
         into: 0,
         source: 0,
@@ -150,28 +156,31 @@ fn copy_and_init(machine: Machine, bytes: &mut [u8], cells: &mut [u64], items: &
             len: 0,
         },
     };
-    let next = show(b"P8 copy", machine, bytes, cells, items, copy);
-    show(b"P8 init", next, bytes, cells, items, empty_init(0));
+    show(b"P8 copy", words, bytes, cells, items, copy);
+    show(b"P8 init", words, bytes, cells, items, empty_init(0));
 }
 
-fn fuelled(bytes: &mut [u8], cells: &mut [u64], items: &mut [u64]) -> Machine {
+fn five_units(words: &mut [u64], bytes: &mut [u8], cells: &mut [u64], items: &mut [u64]) {
+    fresh(words, 0);
     let set = Operation::Fuel {
         op: FuelOp::SetFuel { amount: 5 },
     };
-    let done = fresh(0).operate(bytes, cells, items, set);
-    let next = done.machine;
-    table_and_segment(next, bytes, cells, items)
+    row::operate(words, bytes, cells, items, set);
 }
 
-pub(crate) fn length_zero_with_b_zero(bytes: &mut [u8], cells: &mut [u64], items: &mut [u64]) {
-    let ready = fuelled(bytes, cells, items);
-    copy_and_init(ready, bytes, cells, items);
+pub(crate) fn length_zero_with_b_zero(
+    words: &mut [u64],
+    bytes: &mut [u8],
+    cells: &mut [u64],
+    items: &mut [u64],
+) {
+    five_units(words, bytes, cells, items);
+    table_and_segment(words, bytes, cells, items);
+    copy_and_init(words, bytes, cells, items);
 }
 
-// A memory of one byte that holds ff.
-fn one_byte(bytes: &mut [u8], cells: &mut [u64], items: &mut [u64]) -> Machine {
-    let made = fresh(64).operate(bytes, cells, items, new_memory(1, false, 1, 0));
-    let store = Operation::Memory {
+fn store_ff() -> Operation {
+    Operation::Memory {
         number: 0,
         op: MemoryOp::Store {
             kind: StoreKind::I32To8,
@@ -179,10 +188,14 @@ fn one_byte(bytes: &mut [u8], cells: &mut [u64], items: &mut [u64]) -> Machine {
             offset: 0,
             bits: 255,
         },
-    };
-    let next = made.machine;
-    let stored = next.operate(bytes, cells, items, store);
-    stored.machine
+    }
+}
+
+// A memory of one byte that holds ff.
+fn one_byte(words: &mut [u64], bytes: &mut [u8], cells: &mut [u64], items: &mut [u64]) {
+    fresh(words, 64);
+    row::operate(words, bytes, cells, items, new_memory(1, false, 1, 0));
+    row::operate(words, bytes, cells, items, store_ff());
 }
 
 fn load(kind: LoadKind, pointer: u64, offset: u64) -> Operation {
@@ -197,26 +210,19 @@ fn load(kind: LoadKind, pointer: u64, offset: u64) -> Operation {
 }
 
 // P9.
-fn two_loads(machine: Machine, bytes: &mut [u8], cells: &mut [u64], items: &mut [u64]) -> Machine {
-    let next = show(
-        b"P9 i32 from 8s",
-        machine,
-        bytes,
-        cells,
-        items,
-        load(LoadKind::I32From8S, 0, 0),
-    );
+fn two_loads(words: &mut [u64], bytes: &mut [u8], cells: &mut [u64], items: &mut [u64]) {
+    let narrow = load(LoadKind::I32From8S, 0, 0);
+    show(b"P9 i32 from 8s", words, bytes, cells, items, narrow);
     let wide = load(LoadKind::I64From8U, 0, 0);
-    show(b"P9 i64 from 8u", next, bytes, cells, items, wide)
+    show(b"P9 i64 from 8u", words, bytes, cells, items, wide);
 }
 
-// P9, and P10.
-fn three_loads(machine: Machine, bytes: &mut [u8], cells: &mut [u64], items: &mut [u64]) {
-    let last = two_loads(machine, bytes, cells, items);
+// P10.
+fn far_load(words: &mut [u64], bytes: &mut [u8], cells: &mut [u64], items: &mut [u64]) {
     let far = load(LoadKind::I32From8U, 18446744073709551615, 1);
     show(
         b"P10 pointer 2^64-1, offset 1",
-        last,
+        words,
         bytes,
         cells,
         items,
@@ -224,7 +230,8 @@ fn three_loads(machine: Machine, bytes: &mut [u8], cells: &mut [u64], items: &mu
     );
 }
 
-pub(crate) fn byte_ff(bytes: &mut [u8], cells: &mut [u64], items: &mut [u64]) {
-    let ready = one_byte(bytes, cells, items);
-    three_loads(ready, bytes, cells, items);
+pub(crate) fn byte_ff(words: &mut [u64], bytes: &mut [u8], cells: &mut [u64], items: &mut [u64]) {
+    one_byte(words, bytes, cells, items);
+    two_loads(words, bytes, cells, items);
+    far_load(words, bytes, cells, items);
 }

@@ -3,21 +3,23 @@ mod lines;
 mod machines;
 mod numbers;
 
-// The machines of a function share its buffers, one after another.
+// The machines of a function share its row and its buffers, one after another.
 fn creation_and_init() {
+    let mut words = [0u64; 186];
     let mut bytes = [0u8; 8];
     let mut cells = [0u64; 4];
     let mut items = [0u64; 4];
-    machines::minimum_of_all(&mut bytes, &mut cells, &mut items);
-    machines::init_at_the_size(&mut bytes, &mut cells, &mut items);
+    machines::minimum_of_all(&mut words, &mut bytes, &mut cells, &mut items);
+    machines::init_at_the_size(&mut words, &mut bytes, &mut cells, &mut items);
 }
 
 fn copy_and_loads() {
+    let mut words = [0u64; 186];
     let mut bytes = [0u8; 8];
     let mut cells = [0u64; 4];
     let mut items = [0u64; 4];
-    machines::length_zero_with_b_zero(&mut bytes, &mut cells, &mut items);
-    machines::byte_ff(&mut bytes, &mut cells, &mut items);
+    machines::length_zero_with_b_zero(&mut words, &mut bytes, &mut cells, &mut items);
+    machines::byte_ff(&mut words, &mut bytes, &mut cells, &mut items);
 }
 
 fn main() {
