@@ -31,26 +31,26 @@ unsafe extern "C" {
 pub const ROOM: usize = 131072;
 pub const ROUNDS: u64 = 2000;
 
-/// A name, a code, its fields, and whether it needs an instance.
-pub const OPERATIONS: [(&str, &str, &[u64], bool); 18] = [
-    ("set fuel", "01", &[1000000], false),
-    ("get fuel", "02", &[], false),
-    ("charge", "03", &[0], false),
-    ("hand over a script", "04", &[3, 0x1200000000000000], false),
-    ("grow a memory by 1 byte", "11", &[0, 1], true),
-    ("a memory's size", "12", &[0], true),
-    ("load i64", "13", &[0, 1, 8, 8], true),
-    ("store i64", "14", &[0, 1, 8, 8, 7], true),
-    ("grow a table by 1 cell", "21", &[0, 1, 0, 5], true),
-    ("a table's size", "22", &[0], true),
-    ("get a cell", "23", &[0, 3], true),
-    ("set a cell", "24", &[0, 3, 0, 5], true),
-    ("fill 8 cells", "25", &[0, 3, 0, 5, 8], true),
-    ("copy 8 cells within", "26", &[0, 3, 0, 4, 8], true),
-    ("init 4 cells", "27", &[0, 0, 3, 0, 4], true),
-    ("drop a segment", "28", &[0], true),
-    ("link check", "30", &[0, 0, 0, 64, 0, 0], true),
-    ("unknown memory (16)", "12", &[9], false),
+/// A name, a code and its fields.
+pub const OPERATIONS: [(&str, &str, &[u64]); 18] = [
+    ("set fuel", "01", &[1000000]),
+    ("get fuel", "02", &[]),
+    ("charge", "03", &[0]),
+    ("hand over a script", "04", &[3, 0x1200000000000000]),
+    ("grow a memory by 1 byte", "11", &[0, 1]),
+    ("a memory's size", "12", &[0]),
+    ("load i64", "13", &[0, 1, 8, 8]),
+    ("store i64", "14", &[0, 1, 8, 8, 7]),
+    ("grow a table by 1 cell", "21", &[0, 1, 0, 5]),
+    ("a table's size", "22", &[0]),
+    ("get a cell", "23", &[0, 3]),
+    ("set a cell", "24", &[0, 3, 0, 5]),
+    ("fill 8 cells", "25", &[0, 3, 0, 5, 8]),
+    ("copy 8 cells within", "26", &[0, 3, 0, 4, 8]),
+    ("init 4 cells", "27", &[0, 0, 3, 0, 4]),
+    ("drop a segment", "28", &[0]),
+    ("link check", "30", &[0, 0, 0, 64, 0, 0]),
+    ("unknown memory (16)", "12", &[9]),
 ];
 
 struct Buffers {
@@ -102,7 +102,7 @@ pub fn print() {
     let mut b = Buffers { words: vec![0; 186], bytes: vec![0; 8 * ROOM], cells: vec![0; 8 * ROOM], items: vec![0; 32] };
     println!();
     println!("{:<26} {:>12} {:>12} {:>16} {:>16}", "in place", "1 of each", "8 of each", "1 each, tested", "8 each, tested");
-    for (name, code, fields, _) in OPERATIONS {
+    for (name, code, fields) in OPERATIONS {
         let line = text(code, fields);
         let [one, all] = [1, 8].map(|instances| format!("{:.1} ns", round(&mut b, false, &line, instances)));
         let [one_tested, all_tested] = [1, 8].map(|instances| format!("{:.1} ns", round(&mut b, true, &line, instances)));

@@ -116,7 +116,7 @@ pub fn print() {
     let mut host = Host::new();
     println!();
     println!("{:<26} {:>12} {:>12}", "the machine in C", "1 of each", "8 of each");
-    for (name, code, fields, _) in OPERATIONS {
+    for (name, code, fields) in OPERATIONS {
         let code = u8::from_str_radix(code, 16).expect("a code has two digits");
         // the one row that is a refusal
         let number = if name.starts_with("unknown") { 16 } else { 0 };
