@@ -18,9 +18,9 @@ use types.Run.{Reads, Writes}
 use types.Part.{Part, whole, sub, look-in, store-in}
 use mathlib.Core.Option.{some}
 use denote.RattleType.{RattleType}
-use denote.Laws.{Is}
+use denote.Laws.{Is, Typed}
 use denote.Struct.Laws as LL
-use denote.Array.{Array, array-vals}
+use denote.Array.{Array, array-vals, array-lawful}
 use Rattle.memory.specs.declared.memory.Memory.{Memory}
 use Rattle.memory.proofs.memory.Memory as Y
 use Rattle.memory.proofs.memory.Memory.Laws as Y′
@@ -121,6 +121,17 @@ module _ (g : Regrown) (v : Val) (is : Is R.the-row g (v ∷ [])) where
 
   pub grown-answer-is : Is S.the-row (g .answer) (S′.lowered (g .answer) ∷ [])
   grown-answer-is = let p = LL.owed R.the-type R′.the-laws g (v ∷ []) is .0 in subst (Is S.the-row (g .answer)) (S′.lowers .val-is (g .answer) _ p) p
+
+-- the machine values of 8 records are of their type
+module _ {M : Type 1} {𝓤 : URA M} {H : Heap 𝓤} {A : Atoms 𝓤} (W : Given 𝓤 H A) where
+  pub typed-Y : (l : List Memory) → Is AR-Y l (Ys-vals l) → Typed (AR-Y .mir) (Ys-vals l)
+  typed-Y l is = array-lawful 𝓤 H A W Y.the-row (LL.lawful Y.the-type Y′.the-laws 𝓤 H A W) 8 .typed l _ is
+
+  pub typed-B : (l : List Table) → Is AR-B l (Bs-vals l) → Typed (AR-B .mir) (Bs-vals l)
+  typed-B l is = array-lawful 𝓤 H A W B.the-row (LL.lawful B.the-type B′.the-laws 𝓤 H A W) 8 .typed l _ is
+
+  pub typed-G : (l : List ElementSegment) → Is AR-G l (Gs-vals l) → Typed (AR-G .mir) (Gs-vals l)
+  typed-G l is = array-lawful 𝓤 H A W G.the-row (LL.lawful G.the-type G′.the-laws 𝓤 H A W) 8 .typed l _ is
 
 -- a struct type and a struct value taken apart
 abbrev pub name-of : Ty → Sym

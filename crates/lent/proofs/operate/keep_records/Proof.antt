@@ -1,12 +1,12 @@
 -- `lent::operate::keep_records` meets its contract, by a walk of its code. Assumes nothing.
-use Rattle.lent.proofs.Walk.{_≡_, refl, ap, subst, _∙_, sym, [], _∷_, List, map, ℕ, lit<, length, length-map, fullShare, URA, named, Ty, tyRef, mut, erased, tyArray, Val, vptr, Lft, Share, ftrue, fat, froom, fdies, flft, fres, GName, fsep, flent, SProp, ent, emp, via, fst∗, id⊢, sep, ex, Routine, Heap, Calls, Loops, WpFn, Atoms, sem, Fun, fact, givenOf, tables, FmC, Given, Sq, runs, atRet, ‵, raw, _⊛_, some, later, ⋆, _$_, _∵_, !, qed, by, move, keep, drop, use1, use2, use3, group, split, join, pick, rewrite, fsplit, fjoin, fpack, feqL, feqI, suffices, frame, await, done, look, init, stop, hop, fld, from, load, lit, addr, of-opd, and-then, no-more, assigns, land, returns, enter, alloc1, alloc0, params1, pass1, pass0, agg, whole, sub, look-in, Body, cells, Arr, arr-parts, lft-new, lft-end, RattleType, owns, Is, shows, Typed, mem, cellAt, partAt, shares, u8, u64, RefT, MutRef, sliceTy, sliceVal, slice-vals, MutSlice, Room, finally, mut-slice-tells, Held, lends-ref, ref-back, lends-slice, slice-back, shadow, row, whole-in, whole-out, array-tells, array-lawful, array-makes, each, array-apart, array-whole, plain, only, owned, peeks, heard, nothing, array-field, spelt, yes, Contract, Triple, calls-at, ensured, lasts, onEntry, tripleOf, cited, says, Stays, stay-none, gave-slice, walkOf, AllGo, goes-none, goes-gave-slice, Walks, ends-at, walked, Mem, list-of, closes-walk, free-all, held}
+use Rattle.lent.proofs.Walk.{_≡_, refl, ap, subst, _∙_, sym, [], _∷_, List, map, ℕ, lit<, length, length-map, fullShare, URA, named, Ty, tyRef, mut, erased, tyArray, Val, vptr, Lft, Share, ftrue, fat, froom, fdies, flft, fres, GName, fsep, flent, SProp, ent, emp, via, fst∗, id⊢, sep, ex, Routine, Heap, Calls, Loops, WpFn, Atoms, sem, Fun, fact, givenOf, tables, FmC, Given, Sq, runs, atRet, ‵, raw, _⊛_, some, later, ⋆, _$_, _∵_, !, qed, by, move, keep, drop, use1, use2, use3, group, split, join, pick, rewrite, fsplit, fjoin, fpack, feqL, feqI, suffices, frame, await, done, look, init, stop, hop, fld, from, load, lit, addr, of-opd, and-then, no-more, assigns, land, returns, enter, alloc1, alloc0, params1, pass1, pass0, agg, whole, sub, look-in, Body, cells, Arr, arr-parts, lft-new, lft-end, RattleType, owns, Is, shows, mem, cellAt, partAt, shares, u8, u64, RefT, MutRef, sliceTy, sliceVal, slice-vals, MutSlice, Room, finally, mut-slice-tells, Held, lends-ref, ref-back, lends-slice, slice-back, shadow, row, whole-in, whole-out, array-tells, array-makes, each, array-apart, array-whole, plain, only, owned, peeks, heard, nothing, array-field, spelt, yes, Contract, Triple, calls-at, ensured, lasts, onEntry, tripleOf, cited, says, Stays, stay-none, gave-slice, walkOf, AllGo, goes-none, goes-gave-slice, Walks, ends-at, walked, Mem, list-of, closes-walk, free-all, held}
 use denote.Memory.{partOf}
 use denote.Struct.Laws as LL
 use denote.Enum.Laws as EL
 use Rattle.types.specs.{Raw.rawBytes, declared.fuel.Fuel.Fuel, declared.answer.Answer.Answer}
 use Rattle.machine.specs.{Machine.Buffers, Machine.buffers, declared.operation.Operation.Operation}
 use Rattle.lent.specs.{Records.Lent, Records.lent, Records.lentStepped, Records.lentStep, declared.operate.Standing.Standing, declared.operate.Kept.Kept}
-use Rattle.lent.proofs.RecordParts.{AR-Y, Y-vals, Ys-vals, AR-B, B-vals, Bs-vals, AR-G, G-vals, Gs-vals, D-vals, F-vals, P-vals}
+use Rattle.lent.proofs.RecordParts.{AR-Y, Y-vals, Ys-vals, AR-B, B-vals, Bs-vals, AR-G, G-vals, Gs-vals, D-vals, F-vals, P-vals, typed-Y, typed-B, typed-G}
 use Rattle.lent.proofs.RecordLaws.{kept-step}
 use Rattle.memory.specs.declared.memory.Memory.{Memory}
 use Rattle.memory.proofs.memory.Memory as Y
@@ -157,15 +157,6 @@ module _ {M : Type 1} (𝓤 : URA M) (H : Heap 𝓤) (A : Atoms 𝓤) (W : Given
   abbrev Said : Answer → List Memory → List Table → List ElementSegment → Standing → Fuel → List ℕ → List ℕ → List ℕ → Type 0
   Said r ms′ ts′ gs′ sd′ fu′ bs′ cs′ ks′ = lentStepped r (lent ms′ ts′ gs′ sd′ fu′) (buffers bs′ cs′ ks′) ≡ lentStep rawBytes was before op
 
-  typed-Y : (l : List Memory) → Is AR-Y l (Ys-vals l) → Typed (AR-Y .mir) (Ys-vals l)
-  typed-Y l is = array-lawful 𝓤 H A W Y.the-row (LL.lawful Y.the-type Y′.the-laws 𝓤 H A W) 8 .typed l _ is
-
-  typed-B : (l : List Table) → Is AR-B l (Bs-vals l) → Typed (AR-B .mir) (Bs-vals l)
-  typed-B l is = array-lawful 𝓤 H A W B.the-row (LL.lawful B.the-type B′.the-laws 𝓤 H A W) 8 .typed l _ is
-
-  typed-G : (l : List ElementSegment) → Is AR-G l (Gs-vals l) → Typed (AR-G .mir) (Gs-vals l)
-  typed-G l is = array-lawful 𝓤 H A W G.the-row (LL.lawful G.the-type G′.the-laws 𝓤 H A W) 8 .typed l _ is
-
   abbrev kept : List Memory → List Table → List ElementSegment → Standing → Fuel → Answer → Kept
   kept x y z s u r = record { memories = x; tables = y; segments = z; standing = s; fuel = u; answer = r }
 
@@ -204,9 +195,9 @@ module _ {M : Type 1} (𝓤 : URA M) (H : Heap 𝓤) (A : Atoms 𝓤) (W : Given
         → (r : Answer) → (ms′ : List Memory) → (ts′ : List Table) → (gs′ : List ElementSegment) → (sd′ : Standing) → (fu′ : Fuel) → (bs′ : List ℕ) → (cs′ : List ℕ) → (ks′ : List ℕ) → Said r ms′ ts′ gs′ sd′ fu′ bs′ cs′ ks′ → length bs′ ≡ length (bs .now) → length cs′ ≡ length (cs .now) → length ks′ ≡ length (ks .now) → Is S.the-row r (S′.lowered r ∷ []) → Is AR-Y ms′ (Ys-vals ms′) → Is AR-B ts′ (Bs-vals ts′) → Is AR-G gs′ (Gs-vals gs′) → Is D.the-row sd′ (D-vals sd′) → Is F.the-row fu′ (F-vals fu′) →
         Sq W (‵ (fat fullShare F′.mir l14 0 (F′.lowered fu′)) ∷ ‵ (fat fullShare D′.mir l13 0 (D′.lowered sd′)) ∷ ‵ (fat fullShare (tyArray G′.mir 8) l12 0 (only (Gs-vals gs′))) ∷ ‵ (fat fullShare (tyArray B′.mir 8) l11 0 (only (Bs-vals ts′))) ∷ ‵ (fat fullShare (tyArray Y′.mir 8) l10 0 (only (Ys-vals ms′))) ∷ (‵ (flft κ0 q0) ⊛ ‵ (flft κ1 q1) ⊛ ‵ (flft κ2 q2) ⊛ ‵ ftrue) ∷ ‵ (finally u64 (ks .name) ks′) ∷ ‵ (finally u64 (cs .name) cs′) ∷ ‵ (finally u8 (bs .name) bs′) ∷ ‵ (froom F′.mir l34 0) ∷ ‵ (fdies F′.mir l34) ∷ ‵ (froom D′.mir l33 0) ∷ ‵ (fdies D′.mir l33) ∷ ‵ (froom (tyArray G′.mir 8) l32 0) ∷ ‵ (fdies (tyArray G′.mir 8) l32) ∷ ‵ (froom (tyArray B′.mir 8) l31 0) ∷ ‵ (fdies (tyArray B′.mir 8) l31) ∷ ‵ (froom (tyArray Y′.mir 8) l30 0) ∷ ‵ (fdies (tyArray Y′.mir 8) l30) ∷ ‵ (fat fullShare τ29 l29 0 w-29) ∷ ‵ (fdies τ29 l29) ∷ ‵ (fat fullShare τ28 l28 0 w-28) ∷ ‵ (fdies τ28 l28) ∷ ‵ (fat fullShare τ27 l27 0 w-27) ∷ ‵ (fdies τ27 l27) ∷ ‵ (fat fullShare τ26 l26 0 w-26) ∷ ‵ (fdies τ26 l26) ∷ ‵ (fat fullShare τ25 l25 0 w-25) ∷ ‵ (fdies τ25 l25) ∷ ‵ (fat fullShare τ24 l24 0 w-24) ∷ ‵ (fdies τ24 l24) ∷ ‵ (fat fullShare τ23 l23 0 w-23) ∷ ‵ (fdies τ23 l23) ∷ ‵ (fat fullShare τ22 l22 0 w-22) ∷ ‵ (fdies τ22 l22) ∷ ‵ (fat fullShare τ21 l21 0 w-21) ∷ ‵ (fdies τ21 l21) ∷ ‵ (fat fullShare τ20 l20 0 w-20) ∷ ‵ (fdies τ20 l20) ∷ ‵ (fat fullShare τ19 l19 0 w-19) ∷ ‵ (fdies τ19 l19) ∷ ‵ (fat fullShare τ18 l18 0 w-18) ∷ ‵ (fdies τ18 l18) ∷ ‵ (fat fullShare τ17 l17 0 w-17) ∷ ‵ (fdies τ17 l17) ∷ ‵ (fat fullShare τ16 l16 0 w-16) ∷ ‵ (fdies τ16 l16) ∷ ‵ (fat fullShare S′.mir l15 0 (S′.lowered r)) ∷ ‵ (fdies S′.mir l15) ∷ ‵ (fdies F′.mir l14) ∷ ‵ (fdies D′.mir l13) ∷ ‵ (fdies (tyArray G′.mir 8) l12) ∷ ‵ (fdies (tyArray B′.mir 8) l11) ∷ ‵ (fdies (tyArray Y′.mir 8) l10) ∷ ‵ (fat fullShare τ9 l9 0 w-9) ∷ ‵ (fdies τ9 l9) ∷ ‵ (fat fullShare τ8 l8 0 w-8) ∷ ‵ (fdies τ8 l8) ∷ ‵ (fat fullShare τ7 l7 0 w-7) ∷ ‵ (fdies τ7 l7) ∷ ‵ (fat fullShare τ6 l6 0 w-6) ∷ ‵ (fdies τ6 l6) ∷ ‵ (fat fullShare τ5 l5 0 w-5) ∷ ‵ (fdies τ5 l5) ∷ ‵ (fat fullShare τ4 l4 0 w-4) ∷ ‵ (fdies τ4 l4) ∷ ‵ (fat fullShare τ3 l3 0 w-3) ∷ ‵ (fdies τ3 l3) ∷ ‵ (fat fullShare τ2 l2 0 w-2) ∷ ‵ (fdies τ2 l2) ∷ ‵ (fat fullShare τ1 l1 0 w-1) ∷ ‵ (fdies τ1 l1) ∷ ‵ (froom K′.mir l0 0) ∷ ‵ (fdies K′.mir l0) ∷ []) (runs C Λ ((K′.mir, l0) ∷ (τ1, l1) ∷ (τ2, l2) ∷ (τ3, l3) ∷ (τ4, l4) ∷ (τ5, l5) ∷ (τ6, l6) ∷ (τ7, l7) ∷ (τ8, l8) ∷ (τ9, l9) ∷ (tyArray Y′.mir 8, l10) ∷ (tyArray B′.mir 8, l11) ∷ (tyArray G′.mir 8, l12) ∷ (D′.mir, l13) ∷ (F′.mir, l14) ∷ (S′.mir, l15) ∷ (τ16, l16) ∷ (τ17, l17) ∷ (τ18, l18) ∷ (τ19, l19) ∷ (τ20, l20) ∷ (τ21, l21) ∷ (τ22, l22) ∷ (τ23, l23) ∷ (τ24, l24) ∷ (τ25, l25) ∷ (τ26, l26) ∷ (τ27, l27) ∷ (τ28, l28) ∷ (τ29, l29) ∷ (tyArray Y′.mir 8, l30) ∷ (tyArray B′.mir 8, l31) ∷ (tyArray G′.mir 8, l32) ∷ (D′.mir, l33) ∷ (F′.mir, l34) ∷ []) t-21 (atRet ((K′.mir, l0) ∷ (τ1, l1) ∷ (τ2, l2) ∷ (τ3, l3) ∷ (τ4, l4) ∷ (τ5, l5) ∷ (τ6, l6) ∷ (τ7, l7) ∷ (τ8, l8) ∷ (τ9, l9) ∷ (tyArray Y′.mir 8, l10) ∷ (tyArray B′.mir 8, l11) ∷ (tyArray G′.mir 8, l12) ∷ (D′.mir, l13) ∷ (F′.mir, l14) ∷ (S′.mir, l15) ∷ (τ16, l16) ∷ (τ17, l17) ∷ (τ18, l18) ∷ (τ19, l19) ∷ (τ20, l20) ∷ (τ21, l21) ∷ (τ22, l22) ∷ (τ23, l23) ∷ (τ24, l24) ∷ (τ25, l25) ∷ (τ26, l26) ∷ (τ27, l27) ∷ (τ28, l28) ∷ (τ29, l29) ∷ (tyArray Y′.mir 8, l30) ∷ (tyArray B′.mir 8, l31) ∷ (tyArray G′.mir 8, l32) ∷ (D′.mir, l33) ∷ (F′.mir, l34) ∷ []) Post))
     finish l0 l1 l2 l3 l4 l5 l6 l7 l8 l9 l10 l11 l12 l13 l14 l15 l16 l17 l18 l19 l20 l21 l22 l23 l24 l25 l26 l27 l28 l29 l30 l31 l32 l33 l34 τ1 τ2 τ3 τ4 τ5 τ6 τ7 τ8 τ9 τ16 τ17 τ18 τ19 τ20 τ21 τ22 τ23 τ24 τ25 τ26 τ27 τ28 τ29 w-1 w-2 w-3 w-4 w-5 w-6 w-7 w-8 w-9 w-16 w-17 w-18 w-19 w-20 w-21 w-22 w-23 w-24 w-25 w-26 w-27 w-28 w-29 r ms′ ts′ gs′ sd′ fu′ bs′ cs′ ks′ e long-bs long-cs long-ks is is0 is1 is2 is3 is4 =
-        assigns ! (of-opd ! (load ! (from ! (stop !)) (look ! 4 refl))) (from ! (stop !)) (init ! 17 refl (typed-Y ms′ is0 .0)) $
-        assigns ! (of-opd ! (load ! (from ! (stop !)) (look ! 3 refl))) (from ! (stop !)) (init ! 15 refl (typed-B ts′ is1 .0)) $
-        assigns ! (of-opd ! (load ! (from ! (stop !)) (look ! 2 refl))) (from ! (stop !)) (init ! 13 refl (typed-G gs′ is2 .0)) $
+        assigns ! (of-opd ! (load ! (from ! (stop !)) (look ! 4 refl))) (from ! (stop !)) (init ! 17 refl (typed-Y W ms′ is0 .0)) $
+        assigns ! (of-opd ! (load ! (from ! (stop !)) (look ! 3 refl))) (from ! (stop !)) (init ! 15 refl (typed-B W ts′ is1 .0)) $
+        assigns ! (of-opd ! (load ! (from ! (stop !)) (look ! 2 refl))) (from ! (stop !)) (init ! 13 refl (typed-G W gs′ is2 .0)) $
         assigns ! (of-opd ! (load ! (from ! (stop !)) (look ! 1 refl))) (from ! (stop !)) (init ! 11 refl (LL.lawful D.the-type D′.the-laws 𝓤 H A W .typed sd′ _ is3 .0)) $
         assigns ! (of-opd ! (load ! (from ! (stop !)) (look ! 0 refl))) (from ! (stop !)) (init ! 9 refl (LL.lawful F.the-type F′.the-laws 𝓤 H A W .typed fu′ _ is4 .0)) $
         assigns ! (agg ! (and-then ! (load ! (from ! (stop !)) (look ! 17 refl)) (and-then ! (load ! (from ! (stop !)) (look ! 15 refl)) (and-then ! (load ! (from ! (stop !)) (look ! 13 refl)) (and-then ! (load ! (from ! (stop !)) (look ! 11 refl)) (and-then ! (load ! (from ! (stop !)) (look ! 9 refl)) (and-then ! (load ! (from ! (stop !)) (look ! 47 refl)) (no-more !)))))))) (from ! (stop !)) (init ! 72 refl (LL.lawful K.the-type K′.the-laws 𝓤 H A W .typed (kept ms′ ts′ gs′ sd′ fu′ r) _ (is-kept (kept ms′ ts′ gs′ sd′ fu′ r) is0 is1 is2 is3 is4 is) .0)) $
@@ -298,9 +289,9 @@ module _ {M : Type 1} (𝓤 : URA M) (H : Heap 𝓤) (A : Atoms 𝓤) (W : Given
         →
         Sq W (‵ (MutSlice (named 2) κ2 u64 .own ks ((list-of ks) ∷ [])) ∷ ‵ (MutSlice (named 1) κ1 u64 .own cs ((list-of cs) ∷ [])) ∷ ‵ (MutSlice (named 0) κ0 u8 .own bs ((list-of bs) ∷ [])) ∷ ‵ (froom F′.mir l34 0) ∷ ‵ (fdies F′.mir l34) ∷ ‵ (froom D′.mir l33 0) ∷ ‵ (fdies D′.mir l33) ∷ ‵ (froom (tyArray G′.mir 8) l32 0) ∷ ‵ (fdies (tyArray G′.mir 8) l32) ∷ ‵ (froom (tyArray B′.mir 8) l31 0) ∷ ‵ (fdies (tyArray B′.mir 8) l31) ∷ ‵ (froom (tyArray Y′.mir 8) l30 0) ∷ ‵ (fdies (tyArray Y′.mir 8) l30) ∷ ‵ (froom (sliceTy (tyRef erased mut σks)) l29 0) ∷ ‵ (fdies (sliceTy (tyRef erased mut σks)) l29) ∷ ‵ (froom (tyRef erased mut σks) l28 0) ∷ ‵ (fdies (tyRef erased mut σks) l28) ∷ ‵ (froom (sliceTy (tyRef erased mut σcs)) l27 0) ∷ ‵ (fdies (sliceTy (tyRef erased mut σcs)) l27) ∷ ‵ (froom (tyRef erased mut σcs) l26 0) ∷ ‵ (fdies (tyRef erased mut σcs) l26) ∷ ‵ (froom (sliceTy (tyRef erased mut σbs)) l25 0) ∷ ‵ (fdies (sliceTy (tyRef erased mut σbs)) l25) ∷ ‵ (froom (tyRef erased mut σbs) l24 0) ∷ ‵ (fdies (tyRef erased mut σbs) l24) ∷ ‵ (froom (tyRef erased mut σfu) l23 0) ∷ ‵ (fdies (tyRef erased mut σfu) l23) ∷ ‵ (froom (tyRef erased mut σsd) l22 0) ∷ ‵ (fdies (tyRef erased mut σsd) l22) ∷ ‵ (froom (sliceTy (tyRef erased mut σgs)) l21 0) ∷ ‵ (fdies (sliceTy (tyRef erased mut σgs)) l21) ∷ ‵ (froom (tyRef erased mut σrgs) l20 0) ∷ ‵ (fdies (tyRef erased mut σrgs) l20) ∷ ‵ (froom (sliceTy (tyRef erased mut σts)) l19 0) ∷ ‵ (fdies (sliceTy (tyRef erased mut σts)) l19) ∷ ‵ (froom (tyRef erased mut σrts) l18 0) ∷ ‵ (fdies (tyRef erased mut σrts) l18) ∷ ‵ (froom (sliceTy (tyRef erased mut σms)) l17 0) ∷ ‵ (fdies (sliceTy (tyRef erased mut σms)) l17) ∷ ‵ (froom (tyRef erased mut σrms) l16 0) ∷ ‵ (fdies (tyRef erased mut σrms) l16) ∷ ‵ (froom S′.mir l15 0) ∷ ‵ (fdies S′.mir l15) ∷ ‵ (froom F′.mir l14 0) ∷ ‵ (fdies F′.mir l14) ∷ ‵ (froom D′.mir l13 0) ∷ ‵ (fdies D′.mir l13) ∷ ‵ (froom (tyArray G′.mir 8) l12 0) ∷ ‵ (fdies (tyArray G′.mir 8) l12) ∷ ‵ (froom (tyArray B′.mir 8) l11 0) ∷ ‵ (fdies (tyArray B′.mir 8) l11) ∷ ‵ (froom (tyArray Y′.mir 8) l10 0) ∷ ‵ (fdies (tyArray Y′.mir 8) l10) ∷ ‵ (fat fullShare τ9 l9 0 (P′.lowered op)) ∷ ‵ (fdies τ9 l9) ∷ ‵ (fat fullShare (sliceTy (tyRef (named 2) mut σks)) l8 0 (list-of ks)) ∷ ‵ (fdies (sliceTy (tyRef (named 2) mut σks)) l8) ∷ ‵ (fat fullShare (sliceTy (tyRef (named 1) mut σcs)) l7 0 (list-of cs)) ∷ ‵ (fdies (sliceTy (tyRef (named 1) mut σcs)) l7) ∷ ‵ (fat fullShare (sliceTy (tyRef (named 0) mut σbs)) l6 0 (list-of bs)) ∷ ‵ (fdies (sliceTy (tyRef (named 0) mut σbs)) l6) ∷ ‵ (fat fullShare F′.mir l5 0 (F′.lowered fu)) ∷ ‵ (fdies F′.mir l5) ∷ ‵ (fat fullShare D′.mir l4 0 (D′.lowered sd)) ∷ ‵ (fdies D′.mir l4) ∷ ‵ (fat fullShare (tyArray G′.mir 8) l3 0 (only (Gs-vals gs))) ∷ ‵ (fdies (tyArray G′.mir 8) l3) ∷ ‵ (fat fullShare (tyArray B′.mir 8) l2 0 (only (Bs-vals ts))) ∷ ‵ (fdies (tyArray B′.mir 8) l2) ∷ ‵ (fat fullShare (tyArray Y′.mir 8) l1 0 (only (Ys-vals ms))) ∷ ‵ (fdies (tyArray Y′.mir 8) l1) ∷ ‵ (froom K′.mir l0 0) ∷ ‵ (fdies K′.mir l0) ∷ (‵ (flft κ0 q0) ⊛ ‵ (flft κ1 q1) ⊛ ‵ (flft κ2 q2) ⊛ ‵ ftrue) ∷ []) (runs C Λ ((K′.mir, l0) ∷ (tyArray Y′.mir 8, l1) ∷ (tyArray B′.mir 8, l2) ∷ (tyArray G′.mir 8, l3) ∷ (D′.mir, l4) ∷ (F′.mir, l5) ∷ (sliceTy (tyRef (named 0) mut σbs), l6) ∷ (sliceTy (tyRef (named 1) mut σcs), l7) ∷ (sliceTy (tyRef (named 2) mut σks), l8) ∷ (τ9, l9) ∷ (tyArray Y′.mir 8, l10) ∷ (tyArray B′.mir 8, l11) ∷ (tyArray G′.mir 8, l12) ∷ (D′.mir, l13) ∷ (F′.mir, l14) ∷ (S′.mir, l15) ∷ (tyRef erased mut σrms, l16) ∷ (sliceTy (tyRef erased mut σms), l17) ∷ (tyRef erased mut σrts, l18) ∷ (sliceTy (tyRef erased mut σts), l19) ∷ (tyRef erased mut σrgs, l20) ∷ (sliceTy (tyRef erased mut σgs), l21) ∷ (tyRef erased mut σsd, l22) ∷ (tyRef erased mut σfu, l23) ∷ (tyRef erased mut σbs, l24) ∷ (sliceTy (tyRef erased mut σbs), l25) ∷ (tyRef erased mut σcs, l26) ∷ (sliceTy (tyRef erased mut σcs), l27) ∷ (tyRef erased mut σks, l28) ∷ (sliceTy (tyRef erased mut σks), l29) ∷ (tyArray Y′.mir 8, l30) ∷ (tyArray B′.mir 8, l31) ∷ (tyArray G′.mir 8, l32) ∷ (D′.mir, l33) ∷ (F′.mir, l34) ∷ []) t-1 (atRet ((K′.mir, l0) ∷ (tyArray Y′.mir 8, l1) ∷ (tyArray B′.mir 8, l2) ∷ (tyArray G′.mir 8, l3) ∷ (D′.mir, l4) ∷ (F′.mir, l5) ∷ (sliceTy (tyRef (named 0) mut σbs), l6) ∷ (sliceTy (tyRef (named 1) mut σcs), l7) ∷ (sliceTy (tyRef (named 2) mut σks), l8) ∷ (τ9, l9) ∷ (tyArray Y′.mir 8, l10) ∷ (tyArray B′.mir 8, l11) ∷ (tyArray G′.mir 8, l12) ∷ (D′.mir, l13) ∷ (F′.mir, l14) ∷ (S′.mir, l15) ∷ (tyRef erased mut σrms, l16) ∷ (sliceTy (tyRef erased mut σms), l17) ∷ (tyRef erased mut σrts, l18) ∷ (sliceTy (tyRef erased mut σts), l19) ∷ (tyRef erased mut σrgs, l20) ∷ (sliceTy (tyRef erased mut σgs), l21) ∷ (tyRef erased mut σsd, l22) ∷ (tyRef erased mut σfu, l23) ∷ (tyRef erased mut σbs, l24) ∷ (sliceTy (tyRef erased mut σbs), l25) ∷ (tyRef erased mut σcs, l26) ∷ (sliceTy (tyRef erased mut σcs), l27) ∷ (tyRef erased mut σks, l28) ∷ (sliceTy (tyRef erased mut σks), l29) ∷ (tyArray Y′.mir 8, l30) ∷ (tyArray B′.mir 8, l31) ∷ (tyArray G′.mir 8, l32) ∷ (D′.mir, l33) ∷ (F′.mir, l34) ∷ []) Post))
     start l0 l1 l2 l3 l4 l5 l6 l7 l8 l9 l10 l11 l12 l13 l14 l15 l16 l17 l18 l19 l20 l21 l22 l23 l24 l25 l26 l27 l28 l29 l30 l31 l32 l33 l34 σbs σcs σfu σgs σks σms σrgs σrms σrts σsd σts τ9 =
-        assigns ! (of-opd ! (load ! (from ! (stop !)) (look ! 69 refl))) (from ! (stop !)) (init ! 51 refl (typed-Y ms is-ms .0)) $
-        assigns ! (of-opd ! (load ! (from ! (stop !)) (look ! 67 refl))) (from ! (stop !)) (init ! 49 refl (typed-B ts is-ts .0)) $
-        assigns ! (of-opd ! (load ! (from ! (stop !)) (look ! 65 refl))) (from ! (stop !)) (init ! 47 refl (typed-G gs is-gs .0)) $
+        assigns ! (of-opd ! (load ! (from ! (stop !)) (look ! 69 refl))) (from ! (stop !)) (init ! 51 refl (typed-Y W ms is-ms .0)) $
+        assigns ! (of-opd ! (load ! (from ! (stop !)) (look ! 67 refl))) (from ! (stop !)) (init ! 49 refl (typed-B W ts is-ts .0)) $
+        assigns ! (of-opd ! (load ! (from ! (stop !)) (look ! 65 refl))) (from ! (stop !)) (init ! 47 refl (typed-G W gs is-gs .0)) $
         assigns ! (of-opd ! (load ! (from ! (stop !)) (look ! 63 refl))) (from ! (stop !)) (init ! 45 refl (LL.lawful D.the-type D′.the-laws 𝓤 H A W .typed sd _ is-sd .0)) $
         assigns ! (of-opd ! (load ! (from ! (stop !)) (look ! 61 refl))) (from ! (stop !)) (init ! 43 refl (LL.lawful F.the-type F′.the-laws 𝓤 H A W .typed fu _ is-fu .0)) $
         assigns ! (addr ! (from ! (stop !))) (from ! (stop !)) (init ! 39 refl (tt, tt)) $
@@ -327,7 +318,7 @@ module _ {M : Type 1} (𝓤 : URA M) (H : Heap 𝓤) (A : Atoms 𝓤) (W : Given
         qed W ((‵ (flft κ0 q0) ⊛ ‵ (flft κ1 q1) ⊛ ‵ (flft κ2 q2) ⊛ ‵ ftrue) ∷ ‵ (owns (AR-Y ∷ AR-B ∷ AR-G ∷ D.the-row ∷ F.the-row ∷ MutSlice (named 0) κ0 u8 ∷ MutSlice (named 1) κ1 u64 ∷ MutSlice (named 2) κ2 u64 ∷ P.the-row ∷ []) a at) ∷ []) ∵
         enter ! C Λ code.function (only (Ys-vals ms) ∷ only (Bs-vals ts) ∷ only (Gs-vals gs) ∷ D′.lowered sd ∷ F′.lowered fu ∷ (list-of bs) ∷ (list-of cs) ∷ (list-of ks) ∷ P′.lowered op ∷ []) _ $
         alloc1 ! (λ l0. alloc1 ! (λ l1. alloc1 ! (λ l2. alloc1 ! (λ l3. alloc1 ! (λ l4. alloc1 ! (λ l5. alloc1 ! (λ l6. alloc1 ! (λ l7. alloc1 ! (λ l8. alloc1 ! (λ l9. alloc1 ! (λ l10. alloc1 ! (λ l11. alloc1 ! (λ l12. alloc1 ! (λ l13. alloc1 ! (λ l14. alloc1 ! (λ l15. alloc1 ! (λ l16. alloc1 ! (λ l17. alloc1 ! (λ l18. alloc1 ! (λ l19. alloc1 ! (λ l20. alloc1 ! (λ l21. alloc1 ! (λ l22. alloc1 ! (λ l23. alloc1 ! (λ l24. alloc1 ! (λ l25. alloc1 ! (λ l26. alloc1 ! (λ l27. alloc1 ! (λ l28. alloc1 ! (λ l29. alloc1 ! (λ l30. alloc1 ! (λ l31. alloc1 ! (λ l32. alloc1 ! (λ l33. alloc1 ! (λ l34. alloc0 ! $ params1 ! $
-        pass1 ! (init ! 66 refl (typed-Y ms is-ms .0)) $ pass1 ! (init ! 64 refl (typed-B ts is-ts .0)) $ pass1 ! (init ! 62 refl (typed-G gs is-gs .0)) $
+        pass1 ! (init ! 66 refl (typed-Y W ms is-ms .0)) $ pass1 ! (init ! 64 refl (typed-B W ts is-ts .0)) $ pass1 ! (init ! 62 refl (typed-G W gs is-gs .0)) $
         pass1 ! (init ! 60 refl (LL.lawful D.the-type D′.the-laws 𝓤 H A W .typed sd _ is-sd .0)) $ pass1 ! (init ! 58 refl (LL.lawful F.the-type F′.the-laws 𝓤 H A W .typed fu _ is-fu .0)) $
         pass1 ! (init ! 56 refl (tt, (tt, (record { fits = room-bs .0 }, tt)))) $ pass1 ! (init ! 54 refl (tt, (tt, (record { fits = room-cs .0 }, tt)))) $
         pass1 ! (init ! 52 refl (tt, (tt, (record { fits = room-ks .0 }, tt)))) $ pass1 ! (init ! 50 refl (EL.lawful P.the-type P′.the-laws 𝓤 H A W tt .typed op _ is-op .0)) $ pass0 ! $ move ! (71 ∷ []) $

@@ -1,5 +1,5 @@
 -- `lent::operate::operate_memories` meets its contract, by a walk of its code. Assumes nothing.
-use Rattle.lent.proofs.Walk.{_≡_, refl, ap, subst, sym, [], _∷_, List, map, ℕ, _≤_, _<_, _^_, _*_, arith, ltb, ltb→lt, length, set, getD, length-set, fullShare, URA, named, w64, Ty, tyInt, tyRef, mut, erased, tyPtr, tyArray, Val, vint, vptr, WT, hasTy, Lft, Share, ftrue, fat, froom, fdies, flft, fres, fobs, fauth, fbor, fobor, SProp, ent, id⊢, Routine, Heap, Calls, Loops, WpFn, Atoms, Fun, fact, givenOf, tables, FmC, Given, Item, Go, nth, Sq, runs, atRet, ‵, raw, _⊛_, some, later, ⋆, _$_, _∵_, !, qed, by, move, keep, drop, use1, group, split, join, pick, rewrite, fsplit, fjoin, feqL, suffices, frame, await, done, Reads, look, init, store-raw, stop, hop, fld, from, load, lit, addr, of-opd, bin, and-then, no-more, assigns, land, returns, enter, alloc1, alloc0, params1, pass1, pass0, agg, whole, sub, look-in, owns, Is, shows, Typed, u8, u64, RefT, MutRef, ptr-vals, mut-tells, sliceTy, sliceVal, slice-vals, MutSlice, Room, heres, finally, codedHoleys, at-slice, mut-slice-tells, Held, pureI, row, place-is, elem-out, elem-put, opens-slice, closes-slice, array-lawful, array-makes, plain, only, owned, peeks, heard, nothing, yes, Contract, Triple, calls-at, ensured, lasts, onEntry, tripleOf, cited, says, needs, Stays, stay-none, gave-ref, stay-slice, gave-slice, walkOf, AllGo, goes-none, goes-gave-ref, goes-slice, goes-gave-slice, Walks, ends-at, walked, Holds, Mem, list-of, record-of, closes-walk, free-all, held}
+use Rattle.lent.proofs.Walk.{_≡_, refl, ap, subst, sym, [], _∷_, List, map, ℕ, _≤_, _<_, _^_, _*_, arith, ltb, ltb→lt, length, set, getD, length-set, fullShare, URA, named, w64, Ty, tyInt, tyRef, mut, erased, tyPtr, tyArray, Val, vint, vptr, WT, hasTy, Lft, Share, ftrue, fat, froom, fdies, flft, fres, fobs, fauth, fbor, fobor, SProp, ent, id⊢, Routine, Heap, Calls, Loops, WpFn, Atoms, Fun, fact, givenOf, tables, FmC, Given, Item, Go, nth, Sq, runs, atRet, ‵, raw, _⊛_, some, later, ⋆, _$_, _∵_, !, qed, by, move, keep, drop, use1, group, split, join, pick, rewrite, fsplit, fjoin, feqL, suffices, frame, await, done, Reads, look, init, store-raw, stop, hop, fld, from, load, lit, addr, of-opd, bin, and-then, no-more, assigns, land, returns, enter, alloc1, alloc0, params1, pass1, pass0, agg, whole, sub, look-in, owns, Is, shows, u8, u64, RefT, MutRef, ptr-vals, mut-tells, sliceTy, sliceVal, slice-vals, MutSlice, Room, heres, finally, codedHoleys, at-slice, mut-slice-tells, Held, pureI, row, place-is, elem-out, elem-put, opens-slice, closes-slice, array-makes, plain, only, owned, peeks, heard, nothing, yes, Contract, Triple, calls-at, ensured, lasts, onEntry, tripleOf, cited, says, needs, Stays, stay-none, gave-ref, stay-slice, gave-slice, walkOf, AllGo, goes-none, goes-gave-ref, goes-slice, goes-gave-slice, Walks, ends-at, walked, Holds, Mem, list-of, record-of, closes-walk, free-all, held}
 use Rattle.lent.proofs.RowReads.{MemoriesKnown, read-memory, know-memories}
 use denote.Struct.Laws as LL
 use denote.Enum.Laws as EL
@@ -9,7 +9,7 @@ use Rattle.machine.specs.{declared.operation.Operation.Operation}
 use Rattle.lent.specs.{Records.gathered, stages.Places.Placing, stages.Places.placing, stages.Places.place, stages.Places.eight}
 use Rattle.lent.specs.{declared.operate.Standing.Standing, declared.operate.Placed.Placed}
 use Rattle.lent.proofs.RecordLaws.{place-within}
-use Rattle.lent.proofs.RecordParts.{AR-Y, Y-vals, Ys-vals, P-vals, name-of, fields-of, values-of, read-field}
+use Rattle.lent.proofs.RecordParts.{AR-Y, Y-vals, Ys-vals, P-vals, name-of, fields-of, values-of, read-field, typed-Y}
 use Rattle.memory.specs.declared.memory.Memory.{Memory}
 use Rattle.memory.proofs.memory.Memory as Y
 use Rattle.memory.proofs.memory.Memory.Laws as Y′
@@ -74,9 +74,6 @@ module _ {M : Type 1} (𝓤 : URA M) (H : Heap 𝓤) (A : Atoms 𝓤) (W : Given
 
     new : Is Y.the-row (r .memory) (Y-vals (r .memory))
     new = let p = LL.owed O.the-type O′.the-laws r (v ∷ []) is .1 .0 in subst (Is Y.the-row (r .memory)) (Y′.lowers .val-is (r .memory) _ p) p
-
-  typed-Y : (l : List Memory) → Is AR-Y l (Ys-vals l) → Typed (AR-Y .mir) (Ys-vals l)
-  typed-Y l is = array-lawful 𝓤 H A W Y.the-row (LL.lawful Y.the-type Y′.the-laws 𝓤 H A W) 8 .typed l _ is
 
   typed-one : (d : Memory) → Is Y.the-row d (Y-vals d) → Holds (hasTy Y′.mir (Y′.lowered d)) × WT (Y′.lowered d)
   typed-one d is = LL.lawful Y.the-type Y′.the-laws 𝓤 H A W .typed d _ is .0
@@ -196,7 +193,7 @@ module _ {M : Type 1} (𝓤 : URA M) (H : Heap 𝓤) (A : Atoms 𝓤) (W : Given
         assigns ! (of-opd ! (load ! (from ! (hop ! (look ! 46 refl) (stop !))) (read-memory W (xm .now) (xm .ptr .0) (xm .ptr .1) _ 6 (within 6 big tt)))) (from ! (stop !)) (init ! 44 refl (typed-one (getD (xm .now) 6 noMemory) (is .1 .1 .1 .1 .1 .1 .0))) $
         assigns ! (bin ! (load ! (from ! (fld ! refl (stop !))) (look-in ! 94 (sub ! 0 refl (whole !)))) (lit ! tt) tt) (from ! (stop !)) (init ! 42 refl (tt, tt)) $
         assigns ! (of-opd ! (load ! (from ! (hop ! (look ! 42 refl) (stop !))) (read-memory W (xm .now) (xm .ptr .0) (xm .ptr .1) _ 7 (within 7 big tt)))) (from ! (stop !)) (init ! 40 refl (typed-one (getD (xm .now) 7 noMemory) (is .1 .1 .1 .1 .1 .1 .1 .0))) $
-        assigns ! (agg ! (and-then ! (load ! (from ! (stop !)) (look ! 68 refl)) (and-then ! (load ! (from ! (stop !)) (look ! 64 refl)) (and-then ! (load ! (from ! (stop !)) (look ! 60 refl)) (and-then ! (load ! (from ! (stop !)) (look ! 56 refl)) (and-then ! (load ! (from ! (stop !)) (look ! 52 refl)) (and-then ! (load ! (from ! (stop !)) (look ! 48 refl)) (and-then ! (load ! (from ! (stop !)) (look ! 44 refl)) (and-then ! (load ! (from ! (stop !)) (look ! 40 refl)) (no-more !)))))))))) (from ! (stop !)) (init ! 76 refl (typed-Y first (is-first is) .0)) $
+        assigns ! (agg ! (and-then ! (load ! (from ! (stop !)) (look ! 68 refl)) (and-then ! (load ! (from ! (stop !)) (look ! 64 refl)) (and-then ! (load ! (from ! (stop !)) (look ! 60 refl)) (and-then ! (load ! (from ! (stop !)) (look ! 56 refl)) (and-then ! (load ! (from ! (stop !)) (look ! 52 refl)) (and-then ! (load ! (from ! (stop !)) (look ! 48 refl)) (and-then ! (load ! (from ! (stop !)) (look ! 44 refl)) (and-then ! (load ! (from ! (stop !)) (look ! 40 refl)) (no-more !)))))))))) (from ! (stop !)) (init ! 76 refl (typed-Y W first (is-first is) .0)) $
         middle l0 l1 l2 l3 l4 l5 l6 l7 l8 l9 l10 l11 l12 l13 l14 l15 l16 l17 l18 l19 l20 l21 l22 l23 l24 l25 l26 l27 l28 l29 l30 l31 l32 l33 l34 l35 l36 l37 l38 l39 l40 l41 l42 _ _ _ _ _ _ _ _ _ _ _ _ _ _ _ _ _ _ _ _ _ _ _ _ _ _ _ _ _ _ _ _ _ _ _ _ _ _ _ _ _ _ big bigs (is-first is))
 
     -- the whole function

@@ -1,5 +1,5 @@
 -- `lent::operate::operate_segments` meets its contract, by a walk of its code. Assumes nothing.
-use Rattle.lent.proofs.Walk.{_≡_, refl, ap, subst, sym, [], _∷_, List, map, ℕ, _≤_, _<_, _^_, _*_, arith, ltb, ltb→lt, length, set, getD, length-set, fullShare, URA, named, w64, Ty, tyInt, tyRef, mut, erased, tyPtr, tyArray, Val, vint, vptr, WT, hasTy, Lft, Share, ftrue, fat, froom, fdies, flft, fres, fobs, fauth, fbor, fobor, SProp, ent, id⊢, Routine, Heap, Calls, Loops, WpFn, Atoms, Fun, fact, givenOf, tables, FmC, Given, Item, Go, nth, Sq, runs, atRet, ‵, raw, _⊛_, some, later, ⋆, _$_, _∵_, !, qed, by, move, keep, drop, use1, group, split, join, pick, rewrite, fsplit, fjoin, feqL, suffices, frame, await, done, Reads, look, init, store-raw, stop, hop, fld, from, load, lit, addr, of-opd, bin, and-then, no-more, assigns, land, returns, enter, alloc1, alloc0, params1, pass1, pass0, agg, whole, sub, look-in, owns, Is, shows, Typed, u8, u64, RefT, MutRef, ptr-vals, mut-tells, sliceTy, sliceVal, slice-vals, MutSlice, Room, heres, finally, codedHoleys, at-slice, mut-slice-tells, Held, pureI, row, place-is, elem-out, elem-put, opens-slice, closes-slice, array-tells, array-lawful, array-makes, plain, only, owned, peeks, heard, nothing, yes, Contract, Triple, calls-at, ensured, lasts, onEntry, tripleOf, cited, says, needs, Stays, stay-none, gave-ref, stay-slice, gave-slice, walkOf, AllGo, goes-none, goes-gave-ref, goes-slice, goes-gave-slice, Walks, ends-at, walked, Holds, Mem, list-of, record-of, closes-walk, free-all, held}
+use Rattle.lent.proofs.Walk.{_≡_, refl, ap, subst, sym, [], _∷_, List, map, ℕ, _≤_, _<_, _^_, _*_, arith, ltb, ltb→lt, length, set, getD, length-set, fullShare, URA, named, w64, Ty, tyInt, tyRef, mut, erased, tyPtr, tyArray, Val, vint, vptr, WT, hasTy, Lft, Share, ftrue, fat, froom, fdies, flft, fres, fobs, fauth, fbor, fobor, SProp, ent, id⊢, Routine, Heap, Calls, Loops, WpFn, Atoms, Fun, fact, givenOf, tables, FmC, Given, Item, Go, nth, Sq, runs, atRet, ‵, raw, _⊛_, some, later, ⋆, _$_, _∵_, !, qed, by, move, keep, drop, use1, group, split, join, pick, rewrite, fsplit, fjoin, feqL, suffices, frame, await, done, Reads, look, init, store-raw, stop, hop, fld, from, load, lit, addr, of-opd, bin, and-then, no-more, assigns, land, returns, enter, alloc1, alloc0, params1, pass1, pass0, agg, whole, sub, look-in, owns, Is, shows, u8, u64, RefT, MutRef, ptr-vals, mut-tells, sliceTy, sliceVal, slice-vals, MutSlice, Room, heres, finally, codedHoleys, at-slice, mut-slice-tells, Held, pureI, row, place-is, elem-out, elem-put, opens-slice, closes-slice, array-tells, array-makes, plain, only, owned, peeks, heard, nothing, yes, Contract, Triple, calls-at, ensured, lasts, onEntry, tripleOf, cited, says, needs, Stays, stay-none, gave-ref, stay-slice, gave-slice, walkOf, AllGo, goes-none, goes-gave-ref, goes-slice, goes-gave-slice, Walks, ends-at, walked, Holds, Mem, list-of, record-of, closes-walk, free-all, held}
 use Rattle.lent.proofs.RowReads.{SegmentsKnown, read-segment, know-segments}
 use denote.Struct.Laws as LL
 use denote.Enum.Laws as EL
@@ -8,7 +8,7 @@ use Rattle.machine.specs.{declared.records.Machine.Machine, Machine.Buffers, Ma
 use Rattle.lent.specs.{Records.gathered, stages.Places.Placing, stages.Places.placing, stages.Places.place, stages.Places.eight}
 use Rattle.lent.specs.{declared.operate.Standing.Standing, declared.operate.Placed.Placed}
 use Rattle.lent.proofs.RecordLaws.{place-within}
-use Rattle.lent.proofs.RecordParts.{AR-Y, Y-vals, Ys-vals, AR-B, B-vals, Bs-vals, AR-G, G-vals, Gs-vals, P-vals, name-of, fields-of, values-of, read-field}
+use Rattle.lent.proofs.RecordParts.{AR-Y, Y-vals, Ys-vals, AR-B, B-vals, Bs-vals, AR-G, G-vals, Gs-vals, P-vals, name-of, fields-of, values-of, read-field, typed-Y, typed-B, typed-G}
 use Rattle.memory.specs.declared.memory.Memory.{Memory}
 use Rattle.memory.proofs.memory.Memory as Y
 use Rattle.memory.proofs.memory.Memory.Laws as Y′
@@ -75,15 +75,6 @@ module _ {M : Type 1} (𝓤 : URA M) (H : Heap 𝓤) (A : Atoms 𝓤) (W : Given
 
     new : Is G.the-row (r .segment) (G-vals (r .segment))
     new = let p = LL.owed O.the-type O′.the-laws r (v ∷ []) is .1 .1 .1 .1 .1 .0 in subst (Is G.the-row (r .segment)) (G′.lowers .val-is (r .segment) _ p) p
-
-  typed-Y : (l : List Memory) → Is AR-Y l (Ys-vals l) → Typed (AR-Y .mir) (Ys-vals l)
-  typed-Y l is = array-lawful 𝓤 H A W Y.the-row (LL.lawful Y.the-type Y′.the-laws 𝓤 H A W) 8 .typed l _ is
-
-  typed-B : (l : List Table) → Is AR-B l (Bs-vals l) → Typed (AR-B .mir) (Bs-vals l)
-  typed-B l is = array-lawful 𝓤 H A W B.the-row (LL.lawful B.the-type B′.the-laws 𝓤 H A W) 8 .typed l _ is
-
-  typed-G : (l : List ElementSegment) → Is AR-G l (Gs-vals l) → Typed (AR-G .mir) (Gs-vals l)
-  typed-G l is = array-lawful 𝓤 H A W G.the-row (LL.lawful G.the-type G′.the-laws 𝓤 H A W) 8 .typed l _ is
 
   typed-one : (d : ElementSegment) → Is G.the-row d (G-vals d) → Holds (hasTy G′.mir (G′.lowered d)) × WT (G′.lowered d)
   typed-one d is = LL.lawful G.the-type G′.the-laws 𝓤 H A W .typed d _ is .0
@@ -200,7 +191,7 @@ module _ {M : Type 1} (𝓤 : URA M) (H : Heap 𝓤) (A : Atoms 𝓤) (W : Given
         assigns ! (of-opd ! (load ! (from ! (hop ! (look ! 36 refl) (stop !))) (read-segment W (xg .now) (xg .ptr .0) (xg .ptr .1) _ 6 (within 6 big tt)))) (from ! (stop !)) (init ! 34 refl (typed-one (getD (xg .now) 6 noSegment) (is .1 .1 .1 .1 .1 .1 .0))) $
         assigns ! (bin ! (load ! (from ! (fld ! refl (stop !))) (look-in ! 80 (sub ! 0 refl (whole !)))) (lit ! tt) tt) (from ! (stop !)) (init ! 32 refl (tt, tt)) $
         assigns ! (of-opd ! (load ! (from ! (hop ! (look ! 32 refl) (stop !))) (read-segment W (xg .now) (xg .ptr .0) (xg .ptr .1) _ 7 (within 7 big tt)))) (from ! (stop !)) (init ! 30 refl (typed-one (getD (xg .now) 7 noSegment) (is .1 .1 .1 .1 .1 .1 .1 .0))) $
-        assigns ! (agg ! (and-then ! (load ! (from ! (stop !)) (look ! 58 refl)) (and-then ! (load ! (from ! (stop !)) (look ! 54 refl)) (and-then ! (load ! (from ! (stop !)) (look ! 50 refl)) (and-then ! (load ! (from ! (stop !)) (look ! 46 refl)) (and-then ! (load ! (from ! (stop !)) (look ! 42 refl)) (and-then ! (load ! (from ! (stop !)) (look ! 38 refl)) (and-then ! (load ! (from ! (stop !)) (look ! 34 refl)) (and-then ! (load ! (from ! (stop !)) (look ! 30 refl)) (no-more !)))))))))) (from ! (stop !)) (init ! 66 refl (typed-G first (is-first is) .0)) $
+        assigns ! (agg ! (and-then ! (load ! (from ! (stop !)) (look ! 58 refl)) (and-then ! (load ! (from ! (stop !)) (look ! 54 refl)) (and-then ! (load ! (from ! (stop !)) (look ! 50 refl)) (and-then ! (load ! (from ! (stop !)) (look ! 46 refl)) (and-then ! (load ! (from ! (stop !)) (look ! 42 refl)) (and-then ! (load ! (from ! (stop !)) (look ! 38 refl)) (and-then ! (load ! (from ! (stop !)) (look ! 34 refl)) (and-then ! (load ! (from ! (stop !)) (look ! 30 refl)) (no-more !)))))))))) (from ! (stop !)) (init ! 66 refl (typed-G W first (is-first is) .0)) $
         middle l0 l1 l2 l3 l4 l5 l6 l7 l8 l9 l10 l11 l12 l13 l14 l15 l16 l17 l18 l19 l20 l21 l22 l23 l24 l25 l26 l27 l28 l29 l30 l31 l32 l33 l34 l35 l36 l37 l38 _ _ _ _ _ _ _ _ _ _ _ _ _ _ _ _ _ _ _ _ _ _ _ _ _ _ _ _ _ _ _ _ _ _ _ _ _ _ _ _ _ _ big (is-first is))
 
     -- the whole function
@@ -209,7 +200,7 @@ module _ {M : Type 1} (𝓤 : URA M) (H : Heap 𝓤) (A : Atoms 𝓤) (W : Given
         qed W ((‵ (flft κ0 q0) ⊛ ‵ (flft κ1 q1) ⊛ ‵ (flft κ2 q2) ⊛ ‵ (flft κ3 q3) ⊛ ‵ (flft κ4 q4) ⊛ ‵ (flft κ5 q5) ⊛ ‵ ftrue) ∷ ‵ (owns (AR-Y ∷ AR-B ∷ MutSlice (named 0) κ0 G.the-row ∷ MutRef (named 1) κ1 D.the-row ∷ MutRef (named 2) κ2 F.the-row ∷ MutSlice (named 3) κ3 u8 ∷ MutSlice (named 4) κ4 u64 ∷ MutSlice (named 5) κ5 u64 ∷ P.the-row ∷ []) a at) ∷ []) ∵
         enter ! C Λ code.function (only (Ys-vals ms) ∷ only (Bs-vals ts) ∷ (list-of xg) ∷ (record-of yd) ∷ (record-of yf) ∷ (list-of bs) ∷ (list-of cs) ∷ (list-of ks) ∷ P′.lowered op ∷ []) _ $
         alloc1 ! (λ l0. alloc1 ! (λ l1. alloc1 ! (λ l2. alloc1 ! (λ l3. alloc1 ! (λ l4. alloc1 ! (λ l5. alloc1 ! (λ l6. alloc1 ! (λ l7. alloc1 ! (λ l8. alloc1 ! (λ l9. alloc1 ! (λ l10. alloc1 ! (λ l11. alloc1 ! (λ l12. alloc1 ! (λ l13. alloc1 ! (λ l14. alloc1 ! (λ l15. alloc1 ! (λ l16. alloc1 ! (λ l17. alloc1 ! (λ l18. alloc1 ! (λ l19. alloc1 ! (λ l20. alloc1 ! (λ l21. alloc1 ! (λ l22. alloc1 ! (λ l23. alloc1 ! (λ l24. alloc1 ! (λ l25. alloc1 ! (λ l26. alloc1 ! (λ l27. alloc1 ! (λ l28. alloc1 ! (λ l29. alloc1 ! (λ l30. alloc1 ! (λ l31. alloc1 ! (λ l32. alloc1 ! (λ l33. alloc1 ! (λ l34. alloc1 ! (λ l35. alloc1 ! (λ l36. alloc1 ! (λ l37. alloc1 ! (λ l38. alloc0 ! $ params1 ! $
-        pass1 ! (init ! 74 refl (typed-Y ms is-ms .0)) $ pass1 ! (init ! 72 refl (typed-B ts is-ts .0)) $ pass1 ! (init ! 70 refl (tt, (tt, (record { fits = room-xg .0 }, tt)))) $
+        pass1 ! (init ! 74 refl (typed-Y W ms is-ms .0)) $ pass1 ! (init ! 72 refl (typed-B W ts is-ts .0)) $ pass1 ! (init ! 70 refl (tt, (tt, (record { fits = room-xg .0 }, tt)))) $
         pass1 ! (init ! 68 refl (tt, tt)) $ pass1 ! (init ! 66 refl (tt, tt)) $ pass1 ! (init ! 64 refl (tt, (tt, (record { fits = room-bs .0 }, tt)))) $
         pass1 ! (init ! 62 refl (tt, (tt, (record { fits = room-cs .0 }, tt)))) $ pass1 ! (init ! 60 refl (tt, (tt, (record { fits = room-ks .0 }, tt)))) $
         pass1 ! (init ! 58 refl (EL.lawful P.the-type P′.the-laws 𝓤 H A W tt .typed op _ is-op .0)) $ pass0 ! $ move ! (78 ∷ []) $ split ! $ move ! (80 ∷ []) $ fsplit ! $ move ! (1 ∷ []) $ fsplit ! $

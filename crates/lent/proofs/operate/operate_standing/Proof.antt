@@ -1,11 +1,11 @@
 -- `lent::operate::operate_standing` meets its contract, by a walk of its code. Assumes nothing.
-use Rattle.lent.proofs.Walk.{_≡_, refl, ap, subst, [], _∷_, List, ℕ, length, fullShare, URA, named, Ty, tyRef, mut, erased, Val, Lft, Share, ftrue, fat, froom, fdies, flft, fobs, fauth, fbor, fobor, SProp, ent, emp, via, fst∗, id⊢, Routine, Heap, Calls, Loops, WpFn, Atoms, Fun, fact, givenOf, tables, FmC, Given, Item, Go, nth, Sq, runs, atRet, ‵, raw, _⊛_, some, later, ⋆, _$_, _∵_, !, qed, by, move, keep, drop, use1, group, split, join, pick, rewrite, fsplit, fsplit3, fjoin, fjoin3, feqL, feqI, suffices, frame, await, done, Reads, look, look-raw, init, store-raw, stop, hop, fld, from, load, addr, of-opd, and-then, no-more, assigns, land, returns, enter, alloc1, alloc0, params1, pass1, pass0, agg, whole, sub, look-in, Body, owns, Is, shows, Typed, mem, cellAt, u8, u64, RefT, MutRef, ptr-vals, mut-tells, sliceTy, slice-vals, MutSlice, Room, finally, mut-slice-tells, array-tells, array-lawful, array-makes, plain, only, opens, closes, owned, peeks, heard, nothing, spelt, yes, Contract, Triple, calls-at, ensured, lasts, onEntry, tripleOf, cited, says, Stays, stay-none, stay-ref, gave-slice, walkOf, AllGo, goes-none, goes-ref, goes-gave-slice, Walks, ends-at, walked, Mem, list-of, record-of, closes-walk, free-all, held}
+use Rattle.lent.proofs.Walk.{_≡_, refl, ap, subst, [], _∷_, List, ℕ, length, fullShare, URA, named, Ty, tyRef, mut, erased, Val, Lft, Share, ftrue, fat, froom, fdies, flft, fobs, fauth, fbor, fobor, SProp, ent, emp, via, fst∗, id⊢, Routine, Heap, Calls, Loops, WpFn, Atoms, Fun, fact, givenOf, tables, FmC, Given, Item, Go, nth, Sq, runs, atRet, ‵, raw, _⊛_, some, later, ⋆, _$_, _∵_, !, qed, by, move, keep, drop, use1, group, split, join, pick, rewrite, fsplit, fsplit3, fjoin, fjoin3, feqL, feqI, suffices, frame, await, done, Reads, look, look-raw, init, store-raw, stop, hop, fld, from, load, addr, of-opd, and-then, no-more, assigns, land, returns, enter, alloc1, alloc0, params1, pass1, pass0, agg, whole, sub, look-in, Body, owns, Is, shows, mem, cellAt, u8, u64, RefT, MutRef, ptr-vals, mut-tells, sliceTy, slice-vals, MutSlice, Room, finally, mut-slice-tells, array-tells, array-makes, plain, only, opens, closes, owned, peeks, heard, nothing, spelt, yes, Contract, Triple, calls-at, ensured, lasts, onEntry, tripleOf, cited, says, Stays, stay-none, stay-ref, gave-slice, walkOf, AllGo, goes-none, goes-ref, goes-gave-slice, Walks, ends-at, walked, Mem, list-of, record-of, closes-walk, free-all, held}
 use denote.Struct.Laws as LL
 use denote.Enum.Laws as EL
 use Rattle.types.specs.{Raw.rawBytes, declared.fuel.Fuel.Fuel}
 use Rattle.machine.specs.{declared.records.Machine.Machine, Machine.buffers, declared.operation.Operation.Operation}
 use Rattle.lent.specs.{Records.gathered, stages.Places.placing, stages.Places.place, declared.operate.Standing.Standing, declared.operate.Placed.Placed}
-use Rattle.lent.proofs.RecordParts.{AR-Y, Y-vals, Ys-vals, AR-B, B-vals, Bs-vals, AR-G, G-vals, Gs-vals, D-vals, F-vals, P-vals, name-of, fields-of, values-of, read-field}
+use Rattle.lent.proofs.RecordParts.{AR-Y, Y-vals, Ys-vals, AR-B, B-vals, Bs-vals, AR-G, G-vals, Gs-vals, D-vals, F-vals, P-vals, name-of, fields-of, values-of, read-field, typed-Y, typed-B, typed-G}
 use Rattle.memory.specs.declared.memory.Memory.{Memory}
 use Rattle.memory.proofs.memory.Memory as Y
 use Rattle.memory.proofs.memory.Memory.Laws as Y′
@@ -74,15 +74,6 @@ module _ {M : Type 1} (𝓤 : URA M) (H : Heap 𝓤) (A : Atoms 𝓤) (W : Given
 
     new-F : Is F.the-row (r .fuel) (F-vals (r .fuel))
     new-F = let p = LL.owed O.the-type O′.the-laws r (v ∷ []) is .1 .1 .1 .1 .1 .1 .1 .0 in subst (Is F.the-row (r .fuel)) (F′.lowers .val-is (r .fuel) _ p) p
-
-  typed-Y : (l : List Memory) → Is AR-Y l (Ys-vals l) → Typed (AR-Y .mir) (Ys-vals l)
-  typed-Y l is = array-lawful 𝓤 H A W Y.the-row (LL.lawful Y.the-type Y′.the-laws 𝓤 H A W) 8 .typed l _ is
-
-  typed-B : (l : List Table) → Is AR-B l (Bs-vals l) → Typed (AR-B .mir) (Bs-vals l)
-  typed-B l is = array-lawful 𝓤 H A W B.the-row (LL.lawful B.the-type B′.the-laws 𝓤 H A W) 8 .typed l _ is
-
-  typed-G : (l : List ElementSegment) → Is AR-G l (Gs-vals l) → Typed (AR-G .mir) (Gs-vals l)
-  typed-G l is = array-lawful 𝓤 H A W G.the-row (LL.lawful G.the-type G′.the-laws 𝓤 H A W) 8 .typed l _ is
 
   -- a field of what came back, as it lies in its local
   get-6 : (l : ℕ) (r : Placed) (Γ : List (Item 𝓤)) (n : ℕ) → nth 𝓤 H A n Γ ≡ ‵ (fat fullShare O′.mir l 0 (O′.lowered r)) → Reads (Go {0}) W Γ D′.mir l 168 (D′.lowered (r .standing))
@@ -169,7 +160,7 @@ module _ {M : Type 1} (𝓤 : URA M) (H : Heap 𝓤) (A : Atoms 𝓤) (W : Given
         qed W ((‵ (flft κ0 q0) ⊛ ‵ (flft κ1 q1) ⊛ ‵ (flft κ2 q2) ⊛ ‵ (flft κ3 q3) ⊛ ‵ (flft κ4 q4) ⊛ ‵ ftrue) ∷ ‵ (owns (AR-Y ∷ AR-B ∷ AR-G ∷ MutRef (named 0) κ0 D.the-row ∷ MutRef (named 1) κ1 F.the-row ∷ MutSlice (named 2) κ2 u8 ∷ MutSlice (named 3) κ3 u64 ∷ MutSlice (named 4) κ4 u64 ∷ P.the-row ∷ []) a at) ∷ []) ∵
         enter ! C Λ code.function (only (Ys-vals ms) ∷ only (Bs-vals ts) ∷ only (Gs-vals gs) ∷ (record-of yd) ∷ (record-of yf) ∷ (list-of bs) ∷ (list-of cs) ∷ (list-of ks) ∷ P′.lowered op ∷ []) _ $
         alloc1 ! (λ l0. alloc1 ! (λ l1. alloc1 ! (λ l2. alloc1 ! (λ l3. alloc1 ! (λ l4. alloc1 ! (λ l5. alloc1 ! (λ l6. alloc1 ! (λ l7. alloc1 ! (λ l8. alloc1 ! (λ l9. alloc1 ! (λ l10. alloc1 ! (λ l11. alloc1 ! (λ l12. alloc1 ! (λ l13. alloc1 ! (λ l14. alloc1 ! (λ l15. alloc1 ! (λ l16. alloc1 ! (λ l17. alloc1 ! (λ l18. alloc0 ! $ params1 ! $
-        pass1 ! (init ! 34 refl (typed-Y ms is-ms .0)) $ pass1 ! (init ! 32 refl (typed-B ts is-ts .0)) $ pass1 ! (init ! 30 refl (typed-G gs is-gs .0)) $ pass1 ! (init ! 28 refl (tt, tt)) $
+        pass1 ! (init ! 34 refl (typed-Y W ms is-ms .0)) $ pass1 ! (init ! 32 refl (typed-B W ts is-ts .0)) $ pass1 ! (init ! 30 refl (typed-G W gs is-gs .0)) $ pass1 ! (init ! 28 refl (tt, tt)) $
         pass1 ! (init ! 26 refl (tt, tt)) $ pass1 ! (init ! 24 refl (tt, (tt, (record { fits = room-bs .0 }, tt)))) $ pass1 ! (init ! 22 refl (tt, (tt, (record { fits = room-cs .0 }, tt)))) $
         pass1 ! (init ! 20 refl (tt, (tt, (record { fits = room-ks .0 }, tt)))) $ pass1 ! (init ! 18 refl (EL.lawful P.the-type P′.the-laws 𝓤 H A W tt .typed op _ is-op .0)) $ pass0 ! $ move ! (38 ∷ []) $
         split ! $ move ! (1 ∷ []) $ split ! $ move ! (41 ∷ []) $ fsplit ! $ move ! (1 ∷ []) $ fsplit ! $ move ! (1 ∷ []) $ fsplit ! $ move ! (1 ∷ []) $ fsplit ! $ move ! (1 ∷ []) $ fsplit ! $ move ! (1 ∷ []) $

@@ -1,5 +1,5 @@
 -- `lent::operate::operate_tables` meets its contract, by a walk of its code. Assumes nothing.
-use Rattle.lent.proofs.Walk.{_≡_, refl, ap, subst, sym, [], _∷_, List, map, ℕ, _≤_, _<_, _^_, _*_, arith, ltb, ltb→lt, length, set, getD, length-set, fullShare, URA, named, w64, Ty, tyInt, tyRef, mut, erased, tyPtr, tyArray, Val, vint, vptr, WT, hasTy, Lft, Share, ftrue, fat, froom, fdies, flft, fres, fobs, fauth, fbor, fobor, SProp, ent, id⊢, Routine, Heap, Calls, Loops, WpFn, Atoms, Fun, fact, givenOf, tables, FmC, Given, Item, Go, nth, Sq, runs, atRet, ‵, raw, _⊛_, some, later, ⋆, _$_, _∵_, !, qed, by, move, keep, drop, use1, group, split, join, pick, rewrite, fsplit, fjoin, feqL, suffices, frame, await, done, Reads, look, init, store-raw, stop, hop, fld, from, load, lit, addr, of-opd, bin, and-then, no-more, assigns, land, returns, enter, alloc1, alloc0, params1, pass1, pass0, agg, whole, sub, look-in, owns, Is, shows, Typed, u8, u64, RefT, MutRef, ptr-vals, mut-tells, sliceTy, sliceVal, slice-vals, MutSlice, Room, heres, finally, codedHoleys, at-slice, mut-slice-tells, Held, pureI, row, place-is, elem-out, elem-put, opens-slice, closes-slice, array-tells, array-lawful, array-makes, plain, only, owned, peeks, heard, nothing, yes, Contract, Triple, calls-at, ensured, lasts, onEntry, tripleOf, cited, says, needs, Stays, stay-none, gave-ref, stay-slice, gave-slice, walkOf, AllGo, goes-none, goes-gave-ref, goes-slice, goes-gave-slice, Walks, ends-at, walked, Holds, Mem, list-of, record-of, closes-walk, free-all, held}
+use Rattle.lent.proofs.Walk.{_≡_, refl, ap, subst, sym, [], _∷_, List, map, ℕ, _≤_, _<_, _^_, _*_, arith, ltb, ltb→lt, length, set, getD, length-set, fullShare, URA, named, w64, Ty, tyInt, tyRef, mut, erased, tyPtr, tyArray, Val, vint, vptr, WT, hasTy, Lft, Share, ftrue, fat, froom, fdies, flft, fres, fobs, fauth, fbor, fobor, SProp, ent, id⊢, Routine, Heap, Calls, Loops, WpFn, Atoms, Fun, fact, givenOf, tables, FmC, Given, Item, Go, nth, Sq, runs, atRet, ‵, raw, _⊛_, some, later, ⋆, _$_, _∵_, !, qed, by, move, keep, drop, use1, group, split, join, pick, rewrite, fsplit, fjoin, feqL, suffices, frame, await, done, Reads, look, init, store-raw, stop, hop, fld, from, load, lit, addr, of-opd, bin, and-then, no-more, assigns, land, returns, enter, alloc1, alloc0, params1, pass1, pass0, agg, whole, sub, look-in, owns, Is, shows, u8, u64, RefT, MutRef, ptr-vals, mut-tells, sliceTy, sliceVal, slice-vals, MutSlice, Room, heres, finally, codedHoleys, at-slice, mut-slice-tells, Held, pureI, row, place-is, elem-out, elem-put, opens-slice, closes-slice, array-tells, array-makes, plain, only, owned, peeks, heard, nothing, yes, Contract, Triple, calls-at, ensured, lasts, onEntry, tripleOf, cited, says, needs, Stays, stay-none, gave-ref, stay-slice, gave-slice, walkOf, AllGo, goes-none, goes-gave-ref, goes-slice, goes-gave-slice, Walks, ends-at, walked, Holds, Mem, list-of, record-of, closes-walk, free-all, held}
 use Rattle.lent.proofs.RowReads.{TablesKnown, read-table, know-tables}
 use denote.Struct.Laws as LL
 use denote.Enum.Laws as EL
@@ -9,7 +9,7 @@ use Rattle.machine.specs.{declared.operation.Operation.Operation}
 use Rattle.lent.specs.{Records.gathered, stages.Places.Placing, stages.Places.placing, stages.Places.place, stages.Places.eight}
 use Rattle.lent.specs.{declared.operate.Standing.Standing, declared.operate.Placed.Placed}
 use Rattle.lent.proofs.RecordLaws.{place-within}
-use Rattle.lent.proofs.RecordParts.{AR-Y, Y-vals, Ys-vals, AR-B, B-vals, Bs-vals, P-vals, name-of, fields-of, values-of, read-field}
+use Rattle.lent.proofs.RecordParts.{AR-Y, Y-vals, Ys-vals, AR-B, B-vals, Bs-vals, P-vals, name-of, fields-of, values-of, read-field, typed-Y, typed-B}
 use Rattle.memory.specs.declared.memory.Memory.{Memory}
 use Rattle.memory.proofs.memory.Memory as Y
 use Rattle.memory.proofs.memory.Memory.Laws as Y′
@@ -75,12 +75,6 @@ module _ {M : Type 1} (𝓤 : URA M) (H : Heap 𝓤) (A : Atoms 𝓤) (W : Given
 
     new : Is B.the-row (r .table) (B-vals (r .table))
     new = let p = LL.owed O.the-type O′.the-laws r (v ∷ []) is .1 .1 .1 .0 in subst (Is B.the-row (r .table)) (B′.lowers .val-is (r .table) _ p) p
-
-  typed-Y : (l : List Memory) → Is AR-Y l (Ys-vals l) → Typed (AR-Y .mir) (Ys-vals l)
-  typed-Y l is = array-lawful 𝓤 H A W Y.the-row (LL.lawful Y.the-type Y′.the-laws 𝓤 H A W) 8 .typed l _ is
-
-  typed-B : (l : List Table) → Is AR-B l (Bs-vals l) → Typed (AR-B .mir) (Bs-vals l)
-  typed-B l is = array-lawful 𝓤 H A W B.the-row (LL.lawful B.the-type B′.the-laws 𝓤 H A W) 8 .typed l _ is
 
   typed-one : (d : Table) → Is B.the-row d (B-vals d) → Holds (hasTy B′.mir (B′.lowered d)) × WT (B′.lowered d)
   typed-one d is = LL.lawful B.the-type B′.the-laws 𝓤 H A W .typed d _ is .0
@@ -200,7 +194,7 @@ module _ {M : Type 1} (𝓤 : URA M) (H : Heap 𝓤) (A : Atoms 𝓤) (W : Given
         assigns ! (of-opd ! (load ! (from ! (hop ! (look ! 41 refl) (stop !))) (read-table W (xt .now) (xt .ptr .0) (xt .ptr .1) _ 6 (within 6 big tt)))) (from ! (stop !)) (init ! 39 refl (typed-one (getD (xt .now) 6 noTable) (is .1 .1 .1 .1 .1 .1 .0))) $
         assigns ! (bin ! (load ! (from ! (fld ! refl (stop !))) (look-in ! 87 (sub ! 0 refl (whole !)))) (lit ! tt) tt) (from ! (stop !)) (init ! 37 refl (tt, tt)) $
         assigns ! (of-opd ! (load ! (from ! (hop ! (look ! 37 refl) (stop !))) (read-table W (xt .now) (xt .ptr .0) (xt .ptr .1) _ 7 (within 7 big tt)))) (from ! (stop !)) (init ! 35 refl (typed-one (getD (xt .now) 7 noTable) (is .1 .1 .1 .1 .1 .1 .1 .0))) $
-        assigns ! (agg ! (and-then ! (load ! (from ! (stop !)) (look ! 63 refl)) (and-then ! (load ! (from ! (stop !)) (look ! 59 refl)) (and-then ! (load ! (from ! (stop !)) (look ! 55 refl)) (and-then ! (load ! (from ! (stop !)) (look ! 51 refl)) (and-then ! (load ! (from ! (stop !)) (look ! 47 refl)) (and-then ! (load ! (from ! (stop !)) (look ! 43 refl)) (and-then ! (load ! (from ! (stop !)) (look ! 39 refl)) (and-then ! (load ! (from ! (stop !)) (look ! 35 refl)) (no-more !)))))))))) (from ! (stop !)) (init ! 71 refl (typed-B first (is-first is) .0)) $
+        assigns ! (agg ! (and-then ! (load ! (from ! (stop !)) (look ! 63 refl)) (and-then ! (load ! (from ! (stop !)) (look ! 59 refl)) (and-then ! (load ! (from ! (stop !)) (look ! 55 refl)) (and-then ! (load ! (from ! (stop !)) (look ! 51 refl)) (and-then ! (load ! (from ! (stop !)) (look ! 47 refl)) (and-then ! (load ! (from ! (stop !)) (look ! 43 refl)) (and-then ! (load ! (from ! (stop !)) (look ! 39 refl)) (and-then ! (load ! (from ! (stop !)) (look ! 35 refl)) (no-more !)))))))))) (from ! (stop !)) (init ! 71 refl (typed-B W first (is-first is) .0)) $
         middle l0 l1 l2 l3 l4 l5 l6 l7 l8 l9 l10 l11 l12 l13 l14 l15 l16 l17 l18 l19 l20 l21 l22 l23 l24 l25 l26 l27 l28 l29 l30 l31 l32 l33 l34 l35 l36 l37 l38 l39 l40 _ _ _ _ _ _ _ _ _ _ _ _ _ _ _ _ _ _ _ _ _ _ _ _ _ _ _ _ _ _ _ _ _ _ _ _ _ _ _ _ _ _ big bigs (is-first is))
 
     -- the whole function
@@ -209,7 +203,7 @@ module _ {M : Type 1} (𝓤 : URA M) (H : Heap 𝓤) (A : Atoms 𝓤) (W : Given
         qed W ((‵ (flft κ0 q0) ⊛ ‵ (flft κ1 q1) ⊛ ‵ (flft κ2 q2) ⊛ ‵ (flft κ3 q3) ⊛ ‵ (flft κ4 q4) ⊛ ‵ (flft κ5 q5) ⊛ ‵ (flft κ6 q6) ⊛ ‵ ftrue) ∷ ‵ (owns (AR-Y ∷ MutSlice (named 0) κ0 B.the-row ∷ MutSlice (named 1) κ1 G.the-row ∷ MutRef (named 2) κ2 D.the-row ∷ MutRef (named 3) κ3 F.the-row ∷ MutSlice (named 4) κ4 u8 ∷ MutSlice (named 5) κ5 u64 ∷ MutSlice (named 6) κ6 u64 ∷ P.the-row ∷ []) a at) ∷ []) ∵
         enter ! C Λ code.function (only (Ys-vals ms) ∷ (list-of xt) ∷ (list-of xg) ∷ (record-of yd) ∷ (record-of yf) ∷ (list-of bs) ∷ (list-of cs) ∷ (list-of ks) ∷ P′.lowered op ∷ []) _ $
         alloc1 ! (λ l0. alloc1 ! (λ l1. alloc1 ! (λ l2. alloc1 ! (λ l3. alloc1 ! (λ l4. alloc1 ! (λ l5. alloc1 ! (λ l6. alloc1 ! (λ l7. alloc1 ! (λ l8. alloc1 ! (λ l9. alloc1 ! (λ l10. alloc1 ! (λ l11. alloc1 ! (λ l12. alloc1 ! (λ l13. alloc1 ! (λ l14. alloc1 ! (λ l15. alloc1 ! (λ l16. alloc1 ! (λ l17. alloc1 ! (λ l18. alloc1 ! (λ l19. alloc1 ! (λ l20. alloc1 ! (λ l21. alloc1 ! (λ l22. alloc1 ! (λ l23. alloc1 ! (λ l24. alloc1 ! (λ l25. alloc1 ! (λ l26. alloc1 ! (λ l27. alloc1 ! (λ l28. alloc1 ! (λ l29. alloc1 ! (λ l30. alloc1 ! (λ l31. alloc1 ! (λ l32. alloc1 ! (λ l33. alloc1 ! (λ l34. alloc1 ! (λ l35. alloc1 ! (λ l36. alloc1 ! (λ l37. alloc1 ! (λ l38. alloc1 ! (λ l39. alloc1 ! (λ l40. alloc0 ! $ params1 ! $
-        pass1 ! (init ! 78 refl (typed-Y ms is-ms .0)) $ pass1 ! (init ! 76 refl (tt, (tt, (record { fits = room-xt .0 }, tt)))) $ pass1 ! (init ! 74 refl (tt, (tt, (record { fits = room-xg .0 }, tt)))) $
+        pass1 ! (init ! 78 refl (typed-Y W ms is-ms .0)) $ pass1 ! (init ! 76 refl (tt, (tt, (record { fits = room-xt .0 }, tt)))) $ pass1 ! (init ! 74 refl (tt, (tt, (record { fits = room-xg .0 }, tt)))) $
         pass1 ! (init ! 72 refl (tt, tt)) $ pass1 ! (init ! 70 refl (tt, tt)) $ pass1 ! (init ! 68 refl (tt, (tt, (record { fits = room-bs .0 }, tt)))) $
         pass1 ! (init ! 66 refl (tt, (tt, (record { fits = room-cs .0 }, tt)))) $ pass1 ! (init ! 64 refl (tt, (tt, (record { fits = room-ks .0 }, tt)))) $
         pass1 ! (init ! 62 refl (EL.lawful P.the-type P′.the-laws 𝓤 H A W tt .typed op _ is-op .0)) $ pass0 ! $ move ! (82 ∷ []) $ split ! $ move ! (84 ∷ []) $ fsplit ! $ move ! (1 ∷ []) $ fsplit ! $
