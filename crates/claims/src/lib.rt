@@ -1,1 +1,1 @@
-// No code: the claims over any list of operations, about the `step` that `operate` is proved equal to.
+// No code: the claims over any list of operations, about the `step` that `row::operate` is proved equal to.

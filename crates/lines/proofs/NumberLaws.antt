@@ -21,7 +21,7 @@ use Rattle.types.specs.declared.table_ty.WantedTable.{WantedTable}
 use Rattle.lines.specs.Fields.{binary, yes, kindOf, referenceOf, absentAsZero, limitRanges, memoryRanges, wantedMemory, tableRanges, wantedTable}
 use Rattle.lines.specs.Fields.{loadKinds, storeKinds, loadKindOf, storeKindOf, flag, kindNumber, loadNumber, storeNumber, referenceFields, memoryFields, tableFields}
 use Rattle.lines.specs.Sayable.{LimitsSaid, MemorySaid}
-use Rattle.lines.proofs.Entries.{every, at}
+use Rattle.lines.proofs.Entries.{at}
 
 -- a number that is none of the first ones
 up : (k n : ℕ) → k ≤ n → (n ≡ k → ⊥) → suc k ≤ n

@@ -1,6 +1,5 @@
 // The line of a case.
 use types::answer::Answer;
-ghost use mathlib.Core.Path.{_≡_};
 
 // The case and a number.
 pub(crate) fn number_line(name: &[u8], n: u64) {
