@@ -6,8 +6,9 @@ use mathlib.Core.List.{List, [], _∷_, _++_, append-assoc}
 use native.Mathlib.Omega.{arith}
 use lib.ListN.{length, take, drop, set, getD, length-take, take-append-drop}
 use lib.Seq.{take-add, drop-drop, drop-cons, drop-append-add}
+use Rattle.types.specs.Pick.{both}
 use Rattle.types.specs.Span.{over, cut}
-use Rattle.types.proofs.Picks.{both-1, both-2, both-left, both-then}
+use Rattle.types.proofs.Picks.{both-1, both-2}
 use Rattle.types.proofs.Spans.{length-over}
 use Rattle.machine.specs.Words.{rowsOf, recordsFrom, allAt}
 use Rattle.machine.proofs.Rows.{over-all}
@@ -30,22 +31,29 @@ module _ {A : Type 0} (f : List ℕ → ℕ → A) (w : ℕ) (l : List ℕ) wher
   records-length a (suc n) = ap suc (records-length (a + w) n)
 
 -- a test at each of some places: at the first, at the others
+both-join : (a b c : Bool) → both (both a b) c ≡ both a (both b c)
+unfolding both
+both-join true b c = refl
+both-join false b c = refl
+
+both-all : (a : Bool) → both a true ≡ a
+unfolding both
+both-all true = refl
+both-all false = refl
+
 module _ (t : List ℕ → ℕ → Bool) (w : ℕ) (l : List ℕ) where
-  pub all-off : (a n : ℕ) → 0 < n → t l a ≡ false → allAt t w l a n ≡ false
+  -- one more test, joined to what was found before it
+  pub all-next : (a n k b : ℕ) (fine here : Bool) → 0 < n → n ≡ k + 1 → b ≡ a + w → here ≡ t l a → both fine (allAt t w l a n) ≡ both (both fine here) (allAt t w l b k)
   unfolding allAt
-  all-off a zero h e = absurd (omega (arith, h))
-  all-off a (suc n) h e = both-left _ _ e
-
-  pub all-turn : (a n k b : ℕ) → 0 < n → n ≡ k + 1 → b ≡ a + w → t l a ≡ true → allAt t w l a n ≡ allAt t w l b k
-  unfolding allAt
-  all-turn a zero k b h q r e = absurd (omega (arith, h))
-  all-turn a (suc n) k b h q r e =
+  all-next a zero k b fine here h q r e = absurd (omega (arith, h))
+  all-next a (suc n) k b fine here h q r e =
       let m : n ≡ k = omega (arith, q) in
-      both-then _ _ e ∙ ap (λ (j : ℕ). allAt t w l (a + w) j) m ∙ ap (λ (c : ℕ). allAt t w l c k) (sym r)
+      sym (both-join fine (t l a) _) ∙ ap (λ (x : Bool). both (both fine x) (allAt t w l (a + w) n)) (sym e)
+      ∙ ap (λ (j : ℕ). both (both fine here) (allAt t w l (a + w) j)) m ∙ ap (λ (c : ℕ). both (both fine here) (allAt t w l c k)) (sym r)
 
-  pub all-none : (a n : ℕ) → n ≡ 0 → allAt t w l a n ≡ true
+  pub all-none : (a n : ℕ) (fine : Bool) → n ≡ 0 → fine ≡ both fine (allAt t w l a n)
   unfolding allAt
-  all-none a n e = ap (allAt t w l a) e
+  all-none a n fine e = sym (ap (λ (k : ℕ). both fine (allAt t w l a k)) e ∙ both-all fine)
 
 -- cuts
 pub cut-add : (l : List ℕ) (a i k : ℕ) → cut l a i ++ cut l (a + i) k ≡ cut l a (i + k)

@@ -1,4 +1,5 @@
 // When a row is in form: long enough, each flag 0 or 1, each cost below 2^32, each answer of the script at most 2.
+// No test hangs on another, so that all of them become one row of loads and a single branch.
 use super::words::FUEL;
 use super::words::RECORD;
 use super::words::ROW;
@@ -16,13 +17,10 @@ pub(crate) fn record_in_form(words: &[u64], at: usize) -> bool
     requires { ⌜ at + recordLength ≤ length (now words) ⌝ }
     ensures { λ r. ⌜ r ≡ recordInForm (now (words .entry)) at ⌝ }
 {
-    if 1 < words[at] {
-        return false;
-    }
-    if 1 < words[at + 1] {
-        return false;
-    }
-    words[at + 3] <= 1
+    let first = words[at] <= 1;
+    let second = words[at + 1] <= 1;
+    let third = words[at + 3] <= 1;
+    first & (second & third)
 }
 
 // Eight records from a place on.
@@ -32,14 +30,14 @@ fn records_in_form(words: &[u64], from: usize) -> bool
 {
     let mut at = from;
     let mut left: usize = 8;
+    let mut fine = true;
     while 0 < left {
-        if !record_in_form(words, at) {
-            return false;
-        }
+        let here = record_in_form(words, at);
+        fine = fine & here;
         at += RECORD;
         left -= 1;
     }
-    true
+    fine
 }
 
 fn segments_in_form(words: &[u64]) -> bool
@@ -48,14 +46,14 @@ fn segments_in_form(words: &[u64]) -> bool
 {
     let mut at: usize = SEGMENTS;
     let mut left: usize = 8;
+    let mut fine = true;
     while 0 < left {
-        if 1 < words[at] {
-            return false;
-        }
+        let here = words[at] <= 1;
+        fine = fine & here;
         at += SEGMENT;
         left -= 1;
     }
-    true
+    fine
 }
 
 fn script_in_form(words: &[u64]) -> bool
@@ -64,30 +62,25 @@ fn script_in_form(words: &[u64]) -> bool
 {
     let mut at: usize = SCRIPT;
     let mut left: usize = 16;
+    let mut fine = true;
     while 0 < left {
-        if 2 < words[at] {
-            return false;
-        }
+        let here = words[at] <= 2;
+        fine = fine & here;
         at += 1;
         left -= 1;
     }
-    true
+    fine
 }
 
 fn fuel_in_form(words: &[u64]) -> bool
     requires { ⌜ rowLength ≤ length (now words) ⌝ }
     ensures { λ r. ⌜ r ≡ fuelInForm (now (words .entry)) ⌝ }
 {
-    if 1 < words[FUEL + 1] {
-        return false;
-    }
-    if 4294967296 <= words[FUEL + 2] {
-        return false;
-    }
-    if 4294967296 <= words[FUEL + 3] {
-        return false;
-    }
-    words[FUEL + 4] < 4294967296
+    let enabled = words[FUEL + 1] <= 1;
+    let copied = words[FUEL + 2] < 4294967296;
+    let translated = words[FUEL + 3] < 4294967296;
+    let validated = words[FUEL + 4] < 4294967296;
+    enabled & (copied & (translated & validated))
 }
 
 // Whether a row is in form.
@@ -97,17 +90,10 @@ pub(crate) fn in_form(words: &[u64]) -> bool
     if words.len() < ROW {
         return false;
     }
-    if !records_in_form(words, 0) {
-        return false;
-    }
-    if !records_in_form(words, TABLES) {
-        return false;
-    }
-    if !segments_in_form(words) {
-        return false;
-    }
-    if !fuel_in_form(words) {
-        return false;
-    }
-    script_in_form(words)
+    let memories = records_in_form(words, 0);
+    let tables = records_in_form(words, TABLES);
+    let segments = segments_in_form(words);
+    let fuel = fuel_in_form(words);
+    let script = script_in_form(words);
+    memories & (tables & (segments & (fuel & script)))
 }

@@ -1,60 +1,48 @@
 -- `machine::form::record_in_form` meets its contract. Assumes nothing.
-use mathlib.Core.Path.{sym, _∙_}
-use borrow.Author.Tests.{lt-leb, le-leb}
-use Rattle.types.proofs.Picks.{both-left, both-right, both-then}
+use Rattle.types.specs.Pick.{both}
 use Rattle.machine.specs.Words.{recordInForm}
 use borrow.Author.Needs.{needs}
 use Rattle.machine.proofs.form.record_in_form.Statement.{statement}
 use Rattle.machine.proofs.form.record_in_form.Tie as tie
 
-mul-if1 : tie.Need-mul-if1
-mul-if1 c = search needs
+mul-first : tie.Need-mul-first
+mul-first c = search needs
 
-shared-slice-read-if1 : tie.Need-shared-slice-read-if1
-shared-slice-read-if1 c = search needs
+shared-slice-read-first : tie.Need-shared-slice-read-first
+shared-slice-read-first c = search needs
+
+add-second : tie.Need-add-second
+add-second c = search needs
+
+mul-second : tie.Need-mul-second
+mul-second c = search needs
+
+shared-slice-read-second : tie.Need-shared-slice-read-second
+shared-slice-read-second c = search needs
+
+add-third : tie.Need-add-third
+add-third c = search needs
+
+mul-third : tie.Need-mul-third
+mul-third c = search needs
+
+shared-slice-read-third : tie.Need-shared-slice-read-third
+shared-slice-read-third c = search needs
 
 returns : tie.Need-returns
-unfolding recordInForm
-returns c = sym (both-left _ _ (lt-leb _ _ (c .if1 .taken)))
-
-add-if2 : tie.Need-add-if2
-add-if2 c = search needs
-
-mul-if2 : tie.Need-mul-if2
-mul-if2 c = search needs
-
-shared-slice-read-if2 : tie.Need-shared-slice-read-if2
-shared-slice-read-if2 c = search needs
-
-returns-2 : tie.Need-returns-2
-unfolding recordInForm
-returns-2 c = sym (both-right _ _ (both-left _ _ (lt-leb _ _ (c .if2 .taken))))
-
-add-result : tie.Need-add-result
-add-result c = search needs
-
-mul-result : tie.Need-mul-result
-mul-result c = search needs
-
-shared-slice-read-result : tie.Need-shared-slice-read-result
-shared-slice-read-result c = search needs
-
-returns-3 : tie.Need-returns-3
-unfolding recordInForm
-returns-3 c = sym (both-then _ _ (le-leb _ _ (c .before .before .before .if1 .left)) ∙ both-then _ _ (le-leb _ _ (c .before .if2 .left)))
+unfolding recordInForm both
+returns c = search needs
 
 pub record-in-form-spec : {M : Type 1} → statement M
 record-in-form-spec =
     tie.close
     (tie.spec
-    mul-if1
-    shared-slice-read-if1
-    returns
-    add-if2
-    mul-if2
-    shared-slice-read-if2
-    returns-2
-    add-result
-    mul-result
-    shared-slice-read-result
-    returns-3)
+    mul-first
+    shared-slice-read-first
+    add-second
+    mul-second
+    shared-slice-read-second
+    add-third
+    mul-third
+    shared-slice-read-third
+    returns)

@@ -2,30 +2,26 @@
 use Prim.Native.Nat.{_+_, _*_}
 use mathlib.Core.Path.{_≡_, refl, sym, _∙_}
 use native.Mathlib.Omega.{arith}
-use borrow.Author.Needs.{needs}
-use borrow.Author.Tests.{not-true, not-false}
 use Rattle.machine.specs.Words.{recordLength, allAt, recordInForm}
-use Rattle.machine.proofs.Places.{all-off, all-turn, all-none}
+use borrow.Author.Needs.{needs}
+use Rattle.types.specs.Pick.{both}
+use Rattle.machine.proofs.Places.{all-next, all-none}
 use Rattle.machine.proofs.form.records_in_form.Statement.{statement}
 use Rattle.machine.proofs.form.records_in_form.Tie as tie
 
 abbrev Inv-loop : tie.InvT-loop
-Inv-loop words from at₀ left₀ at left =
-    (at + recordLength * left ≡ from + 8 * recordLength) × (allAt recordInForm recordLength words from 8 ≡ allAt recordInForm recordLength words at left)
+Inv-loop words from at₀ left₀ fine₀ at left fine =
+    (at + recordLength * left ≡ from + 8 * recordLength) × (allAt recordInForm recordLength words from 8 ≡ both fine (allAt recordInForm recordLength words at left))
 
 abbrev μ-loop : tie.MeasureT-loop
-μ-loop words from at₀ left₀ at left = left
+μ-loop words from at₀ left₀ fine₀ at left fine = left
 
 loop-holds : tie.Need-loop-holds Inv-loop μ-loop
+unfolding both
 loop-holds c = (omega arith, refl)
 
 record-in-form-requires : tie.Need-record-in-form-requires Inv-loop μ-loop
 record-in-form-requires c κs = search needs
-
-returns : tie.Need-returns Inv-loop μ-loop
-returns c =
-    let l = c .before .before .before .loop in
-    sym (l .inv .1 ∙ all-off recordInForm recordLength _ (l .at) (l .left) (c .before .before .loop-test .taken) (sym (c .before .record-in-form .ensures) ∙ not-true _ (c .if1 .taken)))
 
 add-at : tie.Need-add-at Inv-loop μ-loop
 add-at c = search needs
@@ -37,15 +33,16 @@ loop-less : tie.Need-loop-less Inv-loop μ-loop
 loop-less c = search needs
 
 loop-again : tie.Need-loop-again Inv-loop μ-loop
+unfolding both
 loop-again c =
-    let l = c .before .before .before .loop in
-    let more = c .before .before .loop-test .taken in
-    (omega (arith, l .inv .0, more), l .inv .1 ∙ all-turn recordInForm recordLength _ (l .at) (l .left) _ _ more (omega (arith, more)) refl (sym (c .before .record-in-form .ensures) ∙ not-false _ (c .if1 .left)))
+    let l = c .before .before .loop in
+    let more = c .before .loop-test .taken in
+    (omega (arith, l .inv .0, more), l .inv .1 ∙ all-next recordInForm recordLength _ (l .at) (l .left) _ _ (l .fine) _ more (omega (arith, more)) refl (c .record-in-form .ensures))
 
-returns-2 : tie.Need-returns-2 Inv-loop μ-loop
-returns-2 c =
+returns : tie.Need-returns Inv-loop μ-loop
+returns c =
     let l = c .before .loop in
-    sym (l .inv .1 ∙ all-none recordInForm recordLength _ (l .at) (l .left) (omega (arith, c .loop-test .left)))
+    all-none recordInForm recordLength _ (l .at) (l .left) (l .fine) (omega (arith, c .loop-test .left)) ∙ sym (l .inv .1)
 
 pub records-in-form-spec : {M : Type 1} → statement M
 records-in-form-spec =
@@ -55,9 +52,8 @@ records-in-form-spec =
     μ-loop
     loop-holds
     record-in-form-requires
-    returns
     add-at
     sub-left
     loop-less
     loop-again
-    returns-2)
+    returns)
