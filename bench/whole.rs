@@ -23,11 +23,11 @@ unsafe extern "C" {
         value: *mut u64,
         fuel: *mut u64,
     ) -> u8;
-    fn ysh_memory_pages(words: *const u64, words_len: usize, memory: u64, value: *mut u64) -> u8;
-    fn ysh_table_cells(words: *const u64, words_len: usize, table: u64, value: *mut u64) -> u8;
+    fn ysh_memory_pages(words: *const u64, words_len: usize, bytes_len: usize, cells_len: usize, items_len: usize, memory: u64, value: *mut u64) -> u8;
+    fn ysh_table_cells(words: *const u64, words_len: usize, bytes_len: usize, cells_len: usize, items_len: usize, table: u64, value: *mut u64) -> u8;
 }
 
-type Size = unsafe extern "C" fn(*const u64, usize, u64, *mut u64) -> u8;
+type Size = unsafe extern "C" fn(*const u64, usize, usize, usize, usize, u64, *mut u64) -> u8;
 
 /// So many bytes or cells of each instance's room are in use at first.
 const USED: u64 = 64;
@@ -106,7 +106,7 @@ impl Host {
         let size = std::hint::black_box(size);
         self.best(instances, |host| {
             let mut value = 0;
-            let number = unsafe { size(host.words.as_ptr(), host.words.len(), 0, &mut value) };
+            let number = unsafe { size(host.words.as_ptr(), host.words.len(), host.bytes.len(), host.cells.len(), host.items.len(), 0, &mut value) };
             number == 0 && value == USED
         })
     }

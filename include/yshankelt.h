@@ -153,16 +153,16 @@ uint8_t ysh_operate(uint64_t *words, size_t words_len, uint8_t *bytes, size_t by
                     uint64_t *items, size_t items_len, uint8_t code, const uint64_t *fields, size_t fields_len,
                     uint64_t *value, uint64_t *fuel);
 
-/* A memory's size in pages, by the row alone: the buffers are not needed, and are not looked at.
- * Of the records the memory's alone is read: 0 and the size in *value, or *value as it was and 19 for a row of fewer words, 16 for an
- * unknown number, 19 where the record's flags are above 1 or it is sound over no buffer (its type invalid, its size outside type or room or
- * no whole pages). That other records and the buffers are sound is tested by ysh_operate, with 12. */
-uint8_t ysh_memory_pages(const uint64_t *words, size_t words_len, uint64_t memory, uint64_t *value);
+/* A memory's size in pages; the lengths are those of the buffers that ysh_operate is given, whose content is not needed.
+ * On a row in form it is what 12 answers: 0 and the size in *value, or *value as it was and 19 for a row of fewer words or a machine that
+ * its buffers do not hold, 16 for an unknown number. Of the form that record's flags alone are tested, 19 where one is above 1; a word past
+ * what is said above elsewhere is 19 to 12 and not here. */
+uint8_t ysh_memory_pages(const uint64_t *words, size_t words_len, size_t bytes_len, size_t cells_len, size_t items_len, uint64_t memory,
+                         uint64_t *value);
 
-/* A table's size in cells, by the row alone: the buffers are not needed, and are not looked at.
- * Of the records the table's alone is read: 0 and the size in *value, or *value as it was and 19 for a row of fewer words, 16 for an
- * unknown number, 19 where the record's flags are above 1 or it is sound over no buffer. As for the rest, see there. */
-uint8_t ysh_table_cells(const uint64_t *words, size_t words_len, uint64_t table, uint64_t *value);
+/* A table's size in cells, likewise: what 22 answers. */
+uint8_t ysh_table_cells(const uint64_t *words, size_t words_len, size_t bytes_len, size_t cells_len, size_t items_len, uint64_t table,
+                        uint64_t *value);
 
 #ifdef __cplusplus
 }

@@ -35,6 +35,17 @@ static uint8_t operate(struct host *h, uint8_t code, size_t count, const uint64_
     return ysh_operate(h->words, W + 1, h->bytes, BYTES, h->cells, CELLS, h->items, ITEMS, code, fields, count, &h->value, &h->fuel);
 }
 
+/* The sizes, over the buffers that `operate` is given. */
+static uint8_t pages_of(const struct host *h, size_t len, uint64_t memory, uint64_t *value)
+{
+    return ysh_memory_pages(h->words, len, BYTES, CELLS, ITEMS, memory, value);
+}
+
+static uint8_t cells_of(const struct host *h, size_t len, uint64_t table, uint64_t *value)
+{
+    return ysh_table_cells(h->words, len, BYTES, CELLS, ITEMS, table, value);
+}
+
 static int edges_kept(const struct host *h)
 {
     return h->words[W] == MARK && h->bytes[BYTES] == 0x5a && h->cells[CELLS] == MARK && h->items[ITEMS] == MARK;
@@ -88,7 +99,7 @@ static void listing(void)
     for (unsigned i = 128; i < BYTES; i++)
         expect(h.bytes[i] == 0x5a, "bytes past the room", i, h.bytes[i], 0);
     uint64_t v = MARK;
-    expect(ysh_memory_pages(h.words, W + 1, 0, &v) == 0 && v == 128, "pages", v, 0, 0);
+    expect(pages_of(&h, W + 1, 0, &v) == 0 && v == 128, "pages", v, 0, 0);
     /* the words that the header names */
     static const uint64_t memory[8] = {0, 0, 1, 1, 128, 0, 128, 128};
     expect(memcmp(h.words, memory, sizeof memory) == 0, "the memory's words", 0, 0, 0);
@@ -135,7 +146,7 @@ static void every_kind(void)
     expect(ysh_machine_new(h.words, W + 1, true, 64) == 0, "new", 0, 0, 0);
     run(&h, "every kind", steps, sizeof steps / sizeof *steps);
     uint64_t v = MARK;
-    expect(ysh_table_cells(h.words, W, 0, &v) == 0 && v == 20, "cells", v, 0, 0);
+    expect(cells_of(&h, W, 0, &v) == 0 && v == 20, "cells", v, 0, 0);
     expect(h.cells[0] == 7 && h.cells[2] == 12 && h.cells[3] == 13 && h.cells[19] == 9 && h.items[2] == 13, "the buffers", 0, 0, 0);
     struct host copy = h;
     static const struct step more[] = {{0x11, 2, {0, 8}, 0, 8, 1}, {0x12, 1, {0}, 0, 16, 1}};
@@ -232,9 +243,9 @@ static void not_in_form(struct host *h, size_t len, const char *what, uint64_t a
 static void sizes(const struct host *h, size_t len, uint8_t pages, uint8_t cells, const char *what, uint64_t at)
 {
     uint64_t v = MARK;
-    expect(ysh_memory_pages(h->words, len, 0, &v) == pages && v == (pages == 0 ? 8 : MARK), what, at, pages, v);
+    expect(pages_of(h, len, 0, &v) == pages && v == (pages == 0 ? 8 : MARK), what, at, pages, v);
     v = MARK;
-    expect(ysh_table_cells(h->words, len, 0, &v) == cells && v == (cells == 0 ? 2 : MARK), what, at, cells, v);
+    expect(cells_of(h, len, 0, &v) == cells && v == (cells == 0 ? 2 : MARK), what, at, cells, v);
 }
 
 /* The largest word that a place of a row may hold; 2^64-1 where any will do. */
@@ -266,8 +277,8 @@ static void odd_rows(void)
         not_in_form(&h, len, "a row cut short", len);
         sizes(&h, len, 19, 19, "a row cut short", len);
     }
-    /* words that a machine cannot have, in any record, used or not: a flag above 1, a cost from 2^32 on, an answer above 2. A size reads
-     * one record's flags, and no other word of the row but the counts */
+    /* words that a machine cannot have, in any record, used or not: a flag above 1, a cost from 2^32 on, an answer above 2. A size
+     * tests one record's flags, and no other word for its form */
     for (unsigned i = 0; i < W; i++) {
         if (largest(i) == UINT64_MAX)
             continue;
@@ -278,11 +289,12 @@ static void odd_rows(void)
             not_in_form(&h, W, "a spoiled word", i);
             sizes(&h, W, i < 8 ? 19 : 0, i >= 64 && i < 72 ? 19 : 0, "a size beside a spoiled word", i);
         }
-        /* the largest word is in form: what is no operation is 18, and a size is told, but where it makes that record unsound: 8 bytes are
+        /* the largest word is in form: what is no operation is 18, and sizes are told, but where it makes a record unsound: 8 bytes are
          * no whole page of 64 KiB, and a maximum of 0 is below the minimum */
         h = made;
         h.words[i] = largest(i);
-        sizes(&h, W, i == 1 || i == 3 ? 19 : 0, i == 67 ? 19 : 0, "a size beside the largest word", i);
+        uint8_t number = i == 1 || i == 3 || i == 67 ? 19 : 0;
+        sizes(&h, W, number, number, "a size beside the largest word", i);
         stays(&h, W, 0xff, 0, 18, "the largest word", i);
     }
     /* any other word makes some machine, sound or not: the row is left as it was, and 19 leaves the out parameters */
@@ -300,50 +312,57 @@ static void odd_rows(void)
         expect((h.value == MARK) == (number == 19) && (h.fuel == MARK) == (number == 19), "19 tells nothing else", i, number, h.value);
         if (i >= 170)
             expect(number == 0, "an answer of at most 2", i, number, 0);
-        /* where 12 answers, the size is its answer; where the size is refused, 12 is too */
+        /* on a row in form the sizes are what 12 and 22 answer, refusals too */
         uint64_t v = MARK;
-        uint8_t size = ysh_memory_pages(h.words, W, 0, &v);
-        expect(number == 19 ? size == 0 || size == 19 : size == 0 && v == h.value, "a size as 12 tells it", i, number, size);
+        uint8_t size = pages_of(&h, W, 0, &v);
+        expect(size == number && v == h.value, "a size as 12 tells it", i, number, size);
+        h.value = v = MARK;
+        number = operate(&h, 0x22, 1, &zero);
+        size = cells_of(&h, W, 0, &v);
+        expect(size == number && v == h.value, "a size as 22 tells it", i, number, size);
     }
-    /* records that are not sound: 19 in an operation. A size reads its own record alone: 19 where that is sound over no buffer, as with a size above
-     * its room or below its minimum, or a room that passes 2^64-1 bytes or 2^32 cells */
+    /* records that are not sound: 19 in an operation and in both sizes */
     static const struct {
         unsigned at;
         uint64_t word;
-        uint8_t pages, cells;
-    } unsound[] = {{5, 1, 0, 0}, {6, 1000, 0, 0}, {7, 17, 19, 0}, {7, 7, 19, 0}, {5, UINT64_MAX, 19, 0}, {6, 7, 19, 0}, {69, 1, 0, 0}, {70, 1000, 0, 0},
-        {71, 9, 0, 19}, {71, 1, 0, 19}, {69, UINT64_C(0x100000000), 0, 19}, {160, 9, 0, 0}, {161, 9, 0, 0}, {162, 9, 0, 0}, {160, UINT64_MAX, 0, 0}};
+    } unsound[] = {{5, 1}, {6, 1000}, {7, 17}, {7, 7}, {5, UINT64_MAX}, {6, 7}, {69, 1}, {70, 1000}, {71, 9}, {71, 1}, {69, UINT64_C(0x100000000)},
+        {160, 9}, {161, 9}, {162, 9}, {160, UINT64_MAX}, {161, UINT64_MAX}};
     for (unsigned i = 0; i < sizeof unsound / sizeof *unsound; i++) {
         h = made;
         h.words[unsound[i].at] = unsound[i].word;
         stays(&h, W, 0x02, 0, 19, "unsound records", unsound[i].at);
         stays(&h, W, 0xff, 0, 18, "unsound records", unsound[i].at);
-        uint64_t v = MARK;
-        expect(ysh_memory_pages(h.words, W, 0, &v) == unsound[i].pages, "the size of an unsound record", unsound[i].at, v, 0);
-        expect(v == (unsound[i].pages == 0 ? h.words[7] : MARK), "the size of an unsound record", unsound[i].at, v, 0);
-        v = MARK;
-        expect(ysh_table_cells(h.words, W, 0, &v) == unsound[i].cells, "the size of an unsound record", unsound[i].at, v, 0);
-        expect(v == (unsound[i].cells == 0 ? h.words[71] : MARK), "the size of an unsound record", unsound[i].at, v, 0);
+        sizes(&h, W, 19, 19, "sizes of unsound records", unsound[i].at);
     }
-    /* sizes of unknown numbers, and of counts that no machine has */
+    /* buffers that do not hold the machine, of one kind or another, and more cells than a reference can say */
+    static const struct {
+        size_t bytes, cells, items;
+        uint8_t number;
+    } buffers[] = {{16, 8, 0, 0}, {15, 8, 0, 19}, {16, 7, 0, 19}, {16, (size_t)UINT64_C(0x100000000), 0, 0},
+        {16, (size_t)UINT64_C(0x100000001), 0, 19}, {16, 8, (size_t)UINT64_C(0x100000001), 19}, {SIZE_MAX, 8, 0, 0}};
+    for (unsigned i = 0; i < sizeof buffers / sizeof *buffers; i++) {
+        uint64_t v = MARK;
+        uint8_t number = ysh_memory_pages(made.words, W, buffers[i].bytes, buffers[i].cells, buffers[i].items, 0, &v);
+        expect(number == buffers[i].number && v == (number == 0 ? 8 : MARK), "pages over such buffers", i, number, v);
+        v = MARK;
+        number = ysh_table_cells(made.words, W, buffers[i].bytes, buffers[i].cells, buffers[i].items, 0, &v);
+        expect(number == buffers[i].number && v == (number == 0 ? 2 : MARK), "cells over such buffers", i, number, v);
+    }
+    /* sizes of unknown numbers */
     h = made;
     uint64_t v = MARK;
     static const uint64_t unknown[] = {1, 2, 7, 8, 9, UINT64_C(0x100000000), UINT64_MAX};
     for (unsigned i = 0; i < sizeof unknown / sizeof *unknown; i++) {
-        expect(ysh_memory_pages(h.words, W, unknown[i], &v) == 16 && v == MARK, "unknown memory", unknown[i], v, 0);
-        expect(ysh_table_cells(h.words, W, unknown[i], &v) == 16 && v == MARK, "unknown table", unknown[i], v, 0);
+        expect(pages_of(&h, W, unknown[i], &v) == 16 && v == MARK, "unknown memory", unknown[i], v, 0);
+        expect(cells_of(&h, W, unknown[i], &v) == 16 && v == MARK, "unknown table", unknown[i], v, 0);
     }
-    expect(ysh_memory_pages(h.words, W, 0, &v) == 0 && v == 8, "pages", v, 0, 0);
-    expect(ysh_table_cells(h.words, W + 1, 0, &v) == 0 && v == 2, "cells", v, 0, 0);
-    h.words[160] = h.words[161] = UINT64_MAX;
-    v = MARK;
-    expect(ysh_memory_pages(h.words, W, 8, &v) == 16 && v == MARK, "a memory past the places", v, 0, 0);
-    expect(ysh_table_cells(h.words, W, 8, &v) == 16 && v == MARK, "a table past the places", v, 0, 0);
+    expect(pages_of(&h, W, 0, &v) == 0 && v == 8, "pages", v, 0, 0);
+    expect(cells_of(&h, W + 1, 0, &v) == 0 && v == 2, "cells", v, 0, 0);
     /* a number is unknown before its record is looked at */
     h = made;
     h.words[8] = h.words[72] = 2;
-    expect(ysh_memory_pages(h.words, W, 1, &v) == 16 && v == MARK, "unknown before its record", v, 0, 0);
-    expect(ysh_table_cells(h.words, W, 1, &v) == 16 && v == MARK, "unknown before its record", v, 0, 0);
+    expect(pages_of(&h, W, 1, &v) == 16 && v == MARK, "unknown before its record", v, 0, 0);
+    expect(cells_of(&h, W, 1, &v) == 16 && v == MARK, "unknown before its record", v, 0, 0);
 }
 
 int main(void)

@@ -88,11 +88,11 @@ pub record Claims : Type 0 where
   pub form-holds : (l : List ℕ) → inForm l ≡ true → over l 0 (wordsOf (machineFrom l)) ≡ l
   -- A row in form is in form after every operation, whatever the operation and its answer.
   pub stays-in-form : (r : ℕ) (l : List ℕ) (b : Buffers) (op : Operation) → inForm l ≡ true → inForm (operateRow r l b op .words) ≡ true
-  -- On a row in form whose machine is sound the two sizes, which read one record, are what 12 and 22 answer.
-  pub pages-as-12 : (r : ℕ) (l : List ℕ) (b : Buffers) (i : ℕ) → inForm l ≡ true → soundOver (machineFrom l) b ≡ true → length (b .bytes) < 2 ^ 64
-      → rowPages l i ≡ step r (machineFrom l) b (Operation.Memory i MemoryOp.Size) .answer
-  pub cells-as-22 : (r : ℕ) (l : List ℕ) (b : Buffers) (i : ℕ) → inForm l ≡ true → soundOver (machineFrom l) b ≡ true
-      → rowCells l i ≡ step r (machineFrom l) b (Operation.Table i TableOp.Size) .answer
+  -- On a row in form the two sizes are what 12 and 22 answer, refusals too.
+  pub pages-as-12 : (r : ℕ) (l : List ℕ) (b : Buffers) (i : ℕ) → inForm l ≡ true
+      → rowPages l (length (b .bytes)) (length (b .cells)) (length (b .items)) i ≡ step r (machineFrom l) b (Operation.Memory i MemoryOp.Size) .answer
+  pub cells-as-22 : (r : ℕ) (l : List ℕ) (b : Buffers) (i : ℕ) → inForm l ≡ true
+      → rowCells l (length (b .bytes)) (length (b .cells)) (length (b .items)) i ≡ step r (machineFrom l) b (Operation.Table i TableOp.Size) .answer
   -- `operate_kept`, which runs an operation through records in lent lists and lent fuel, gives back and leaves what `step` does.
   pub lent-is-step : (κs : Lfts 3) (a : Dens κs lent-kinds.ps) (x : resT lent-kinds.r κs .Denot) (s : AtExit (endedOf 3 lent-kinds.ps lent-kinds.r) κs)
       → lent-reads.Post κs a x s

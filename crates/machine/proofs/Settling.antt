@@ -238,7 +238,7 @@ stops : (r : ℕ) (m : Machine) (b : Buffers) (o : Operation) → wellFormed o �
 unfolding step decide
 stops r m b o w = ap (after m) (pick-false _ _ _ w)
 
-unsound-stops : (r : ℕ) (m : Machine) (b : Buffers) (o : Operation) → wellFormed o ≡ true → soundOver m b ≡ false → step r m b o ≡ after m (onNone (keeps m (refuse 19 0)) b)
+pub unsound-stops : (r : ℕ) (m : Machine) (b : Buffers) (o : Operation) → wellFormed o ≡ true → soundOver m b ≡ false → step r m b o ≡ after m (onNone (keeps m (refuse 19 0)) b)
 unfolding step decide
 unsound-stops r m b o w e = ap (after m) (pick-true _ _ _ w ∙ pick-false _ _ _ e)
 

@@ -1,10 +1,9 @@
 -- Document 01, "First check wins", in place: one operation on the machine that a row says, whose words then stand in the row.
-use Rattle.types.specs.Prelude.{ℕ, _+_, _-_, _*_, Bool, false, List, leb, ltb, length}
-use Rattle.types.specs.Names.{word32, word64, unless, over, refuse, accept, newFuel, Answer, Fuel, FuelCosts}
-use Rattle.memory.specs.Names.{soundMemory, pagesOf}
-use Rattle.table.specs.Names.{soundTable}
+use Rattle.types.specs.Prelude.{ℕ, _+_, _*_, Bool, false, List, leb, ltb, length}
+use Rattle.types.specs.Names.{unless, over, refuse, accept, newFuel, Answer, Fuel, FuelCosts}
+use Rattle.memory.specs.Names.{pagesOf}
 use Rattle.machine.specs.{Machine.Buffers, Machine.buffers, Machine.memoryAt, Machine.tableAt, Machine.freshMachine, Operation.wellFormed}
-use Rattle.machine.specs.{Step.Stepped, Step.step}
+use Rattle.machine.specs.{Sound.soundMachine, Step.Stepped, Step.step}
 use Rattle.machine.specs.Words.{recordLength, tablesAt, rowLength, wordsOf, fuelFrom, machineFrom, recordInForm, inForm}
 use Rattle.machine.specs.declared.{operation.Operation.Operation}
 
@@ -49,26 +48,18 @@ operateRow r l b op =
 unfoldable pub fuelOf : List ℕ → Fuel
 fuelOf l = unless (leb rowLength (length l)) (newFuel false (record { copied = 0; translated = 0; validated = 0 })) (fuelFrom l)
 
--- a record's size: 19 where its flags are out of form, or where it is sound over no buffer, the longest neither
-unfoldable pub pagesAt : List ℕ → ℕ → Answer
-pagesAt l i =
-    unless (recordInForm l (recordLength * i)) (refuse 19 0)
-    (unless (soundMemory (memoryAt (machineFrom l) i) (word64 - 1)) (refuse 19 0) (accept (pagesOf (memoryAt (machineFrom l) i))))
-
-unfoldable pub cellsAt : List ℕ → ℕ → Answer
-cellsAt l i =
-    unless (recordInForm l (tablesAt + recordLength * i)) (refuse 19 0)
-    (unless (soundTable (tableAt (machineFrom l) i) word32) (refuse 19 0) (accept (tableAt (machineFrom l) i .size)))
-
--- sizes, which read one record and no buffer: 19 for a row that is too short, 16 for a number that no instance has
-unfoldable pub rowPages : List ℕ → ℕ → Answer
-rowPages l i =
+-- sizes, over buffers of these lengths: 19 for a row that is too short, for unsound records or buffers; 16 for a number that no instance has;
+-- 19 where that record's flags are out of form. The form of the rest is not tested
+unfoldable pub rowPages : List ℕ → ℕ → ℕ → ℕ → ℕ → Answer
+rowPages l bytes cells items i =
     unless (leb rowLength (length l)) (refuse 19 0)
+    (unless (soundMachine (machineFrom l) bytes cells items) (refuse 19 0)
     (unless (ltb i (machineFrom l .counts .memories)) (refuse 16 0)
-    (unless (ltb i 8) (refuse 16 0) (pagesAt l i)))
+    (unless (recordInForm l (recordLength * i)) (refuse 19 0) (accept (pagesOf (memoryAt (machineFrom l) i))))))
 
-unfoldable pub rowCells : List ℕ → ℕ → Answer
-rowCells l i =
+unfoldable pub rowCells : List ℕ → ℕ → ℕ → ℕ → ℕ → Answer
+rowCells l bytes cells items i =
     unless (leb rowLength (length l)) (refuse 19 0)
+    (unless (soundMachine (machineFrom l) bytes cells items) (refuse 19 0)
     (unless (ltb i (machineFrom l .counts .tables)) (refuse 16 0)
-    (unless (ltb i 8) (refuse 16 0) (cellsAt l i)))
+    (unless (recordInForm l (tablesAt + recordLength * i)) (refuse 19 0) (accept (tableAt (machineFrom l) i .size)))))

@@ -30,15 +30,10 @@ ghost use Rattle.types.specs.Pick.{both};
 ghost use Rattle.types.specs.Raw.{rawBytes};
 ghost use Rattle.machine.specs.Machine.{buffers, memoryAt, tableAt, segmentAt, nextByte, nextCell, nextItem};
 ghost use Rattle.machine.specs.Words.{rowLength, machineFrom, inForm};
-ghost use Rattle.machine.specs.Row.{rowed, freshRow, inRow, operateRow, fuelOf, pagesAt, cellsAt, rowPages, rowCells};
+ghost use Rattle.machine.specs.Row.{rowed, freshRow, inRow, operateRow, fuelOf, rowPages, rowCells};
 ghost use Rattle.machine.specs.Sound.{soundMachine};
 ghost use Rattle.machine.specs.declared.outcome.Change.the-variants as change;
 ghost use Rattle.machine.specs.stages.Rows.{Inside, endsInside, changedRow, Settles, Goes, Proceeds};
-
-// The longest buffers that a record can be sound over.
-const MOST_BYTES: usize = 18446744073709551615;
-
-const MOST_CELLS: usize = 4294967296;
 
 // The record of a memory.
 pub(crate) fn memory_at(words: &[u64], i: usize) -> Memory
@@ -342,64 +337,58 @@ pub fn fuel_of(words: &[u64]) -> Fuel
     words::fuel_from(words)
 }
 
-fn pages_at(words: &[u64], i: usize) -> Answer
-    requires { ⌜ (rowLength ≤ length (now words)) × (i < 8) ⌝ }
-    ensures { λ r. ⌜ r ≡ pagesAt (now (words .entry)) i ⌝ }
-{
-    if !form::record_in_form(words, RECORD * i) {
-        return refused(19);
-    }
-    let memory = memory_at(words, i);
-    if !memory.is_sound(MOST_BYTES) {
-        return refused(19);
-    }
-    Answer::Value(Value::Number(memory.pages()))
-}
-
-fn cells_at(words: &[u64], i: usize) -> Answer
-    requires { ⌜ (rowLength ≤ length (now words)) × (i < 8) ⌝ }
-    ensures { λ r. ⌜ r ≡ cellsAt (now (words .entry)) i ⌝ }
-{
-    if !form::record_in_form(words, TABLES + RECORD * i) {
-        return refused(19);
-    }
-    let table = table_at(words, i);
-    if !table.is_sound(MOST_CELLS) {
-        return refused(19);
-    }
-    Answer::Value(Value::Number(table.size))
-}
-
-// A memory's size in pages: one record is read, and 19 where that is sound over no buffer.
-pub fn memory_pages(words: &[u64], number: u64) -> Answer
-    ensures { λ r. ⌜ r ≡ rowPages (now (words .entry)) number ⌝ }
+// A memory's size in pages, over buffers of these lengths: 12's answer on a row in form, of which that record's flags alone are tested here.
+pub fn memory_pages(
+    words: &[u64],
+    bytes: usize,
+    cells: usize,
+    items: usize,
+    number: u64,
+) -> Answer
+    ensures { λ r. ⌜ r ≡ rowPages (now (words .entry)) bytes cells items number ⌝ }
 {
     if words.len() < ROW {
+        return refused(19);
+    }
+    if !sound::is_sound(words, bytes, cells, items) {
         return refused(19);
     }
     let counts = words::counts_from(words);
     if (counts.memories as u64) <= number {
         return refused(16);
     }
-    if 8 <= number {
-        return refused(16);
+    let i = number as usize;
+    if !form::record_in_form(words, RECORD * i) {
+        return refused(19);
     }
-    pages_at(words, number as usize)
+    let memory = memory_at(words, i);
+    Answer::Value(Value::Number(memory.pages()))
 }
 
-// A table's size in cells, likewise.
-pub fn table_cells(words: &[u64], number: u64) -> Answer
-    ensures { λ r. ⌜ r ≡ rowCells (now (words .entry)) number ⌝ }
+// A table's size in cells, likewise 22's.
+pub fn table_cells(
+    words: &[u64],
+    bytes: usize,
+    cells: usize,
+    items: usize,
+    number: u64,
+) -> Answer
+    ensures { λ r. ⌜ r ≡ rowCells (now (words .entry)) bytes cells items number ⌝ }
 {
     if words.len() < ROW {
+        return refused(19);
+    }
+    if !sound::is_sound(words, bytes, cells, items) {
         return refused(19);
     }
     let counts = words::counts_from(words);
     if (counts.tables as u64) <= number {
         return refused(16);
     }
-    if 8 <= number {
-        return refused(16);
+    let i = number as usize;
+    if !form::record_in_form(words, TABLES + RECORD * i) {
+        return refused(19);
     }
-    cells_at(words, number as usize)
+    let table = table_at(words, i);
+    Answer::Value(Value::Number(table.size))
 }

@@ -167,21 +167,34 @@ pub extern "C" fn ysh_operate(
     tell(words, answer, value, fuel)
 }
 
-// A memory's size in pages: of the row, one record alone is read. 16 for an unknown number; 19 for a short row, or that record out of form or
-// sound over no buffer.
+// A memory's size in pages, over buffers of these lengths: 12's answer on a row in form. Of the form that record's flags alone are tested.
 #[no_mangle]
-pub extern "C" fn ysh_memory_pages(words: &[u64], memory: u64, value: &mut u64) -> u8
-    ensures { λ r. ⌜ Given (rowPages (now (words .entry)) memory) (now (value .entry)) r (now (value .exit)) ⌝ }
+pub extern "C" fn ysh_memory_pages(
+    words: &[u64],
+    bytes: usize,
+    cells: usize,
+    items: usize,
+    memory: u64,
+    value: &mut u64,
+) -> u8
+    ensures { λ r. ⌜ Given (rowPages (now (words .entry)) bytes cells items memory) (now (value .entry)) r (now (value .exit)) ⌝ }
 {
-    let answer = row::memory_pages(words, memory);
+    let answer = row::memory_pages(words, bytes, cells, items, memory);
     deliver(answer, value)
 }
 
-// A table's size in cells, likewise.
+// A table's size in cells, likewise 22's.
 #[no_mangle]
-pub extern "C" fn ysh_table_cells(words: &[u64], table: u64, value: &mut u64) -> u8
-    ensures { λ r. ⌜ Given (rowCells (now (words .entry)) table) (now (value .entry)) r (now (value .exit)) ⌝ }
+pub extern "C" fn ysh_table_cells(
+    words: &[u64],
+    bytes: usize,
+    cells: usize,
+    items: usize,
+    table: u64,
+    value: &mut u64,
+) -> u8
+    ensures { λ r. ⌜ Given (rowCells (now (words .entry)) bytes cells items table) (now (value .entry)) r (now (value .exit)) ⌝ }
 {
-    let answer = row::table_cells(words, table);
+    let answer = row::table_cells(words, bytes, cells, items, table);
     deliver(answer, value)
 }

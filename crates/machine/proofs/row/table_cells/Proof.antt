@@ -1,12 +1,16 @@
 -- `machine::row::table_cells` meets its contract. Assumes nothing.
+use Prim.Native.Nat.{_<_}
 use mathlib.Core.Path.{sym, ap, _∙_}
 use native.Mathlib.Omega.{arith}
 use denote.Ref.{now}
-use Rattle.machine.specs.declared.records.Counts.{Counts}
-use borrow.Author.Tests.{le-leb, lt-leb, lt-ltb, le-ltb}
+use borrow.Author.Tests.{le-leb, lt-leb, lt-ltb, le-ltb, not-true, not-false}
+use Rattle.types.specs.Answer.{accept}
 use Rattle.types.proofs.Picks.{pick-true, pick-false}
+use Rattle.table.specs.declared.table.Table.{Table}
 use Rattle.machine.specs.Words.{machineFrom}
 use Rattle.machine.specs.Row.{rowCells}
+use Rattle.machine.specs.declared.records.Counts.{Counts}
+use Rattle.machine.proofs.Sizes.{table-place}
 use borrow.Author.Needs.{needs}
 use Rattle.machine.proofs.row.table_cells.Statement.{statement}
 use Rattle.machine.proofs.row.table_cells.Tie as tie
@@ -18,8 +22,8 @@ returns : tie.Need-returns
 unfolding rowCells
 returns c = c .refused .ensures ∙ sym (pick-false _ _ _ (lt-leb _ _ (c .before .if1 .taken)))
 
-counts-from-requires : tie.Need-counts-from-requires
-counts-from-requires c κs = search needs
+is-sound-requires : tie.Need-is-sound-requires
+is-sound-requires c κs = search needs
 
 refused-requires-2 : tie.Need-refused-requires-2
 refused-requires-2 c κs = search needs
@@ -27,8 +31,11 @@ refused-requires-2 c κs = search needs
 returns-2 : tie.Need-returns-2
 unfolding rowCells
 returns-2 c =
-    let a = c .before .before .before .before .before .args in
-    c .refused2 .ensures ∙ sym (pick-true _ _ _ (le-leb _ _ (c .before .before .before .if1 .left)) ∙ pick-false _ _ _ (le-ltb (a .number) (machineFrom (now (a .words)) .counts .tables) (omega (arith, ap (λ (k : Counts). k .tables) (c .before .before .counts-from .ensures), c .before .if2 .taken))))
+    c .refused2 .ensures
+    ∙ sym (pick-true _ _ _ (le-leb _ _ (c .before .before .before .if1 .left)) ∙ pick-false _ _ _ (sym (c .before .before .is-sound .ensures) ∙ not-true _ (c .before .if2 .taken)))
+
+counts-from-requires : tie.Need-counts-from-requires
+counts-from-requires c κs = search needs
 
 refused-requires-3 : tie.Need-refused-requires-3
 refused-requires-3 c κs = search needs
@@ -36,21 +43,62 @@ refused-requires-3 c κs = search needs
 returns-3 : tie.Need-returns-3
 unfolding rowCells
 returns-3 c =
-    let a = c .before .before .before .before .before .before .args in
+    let a = c .before .before .before .before .before .before .before .args in
+    let sound = sym (c .before .before .before .before .is-sound .ensures) ∙ not-false _ (c .before .before .before .if2 .left) in
+    let count = ap (λ (k : Counts). k .tables) (c .before .before .counts-from .ensures) in
     c .refused3 .ensures
-    ∙ sym (pick-true _ _ _ (le-leb _ _ (c .before .before .before .before .if1 .left)) ∙ pick-true _ _ _ (lt-ltb (a .number) (machineFrom (now (a .words)) .counts .tables) (omega (arith, ap (λ (k : Counts). k .tables) (c .before .before .before .counts-from .ensures), c .before .before .if2 .left)))
-    ∙ pick-false _ _ _ (le-ltb _ _ (c .before .if3 .taken)))
+    ∙ sym (pick-true _ _ _ (le-leb _ _ (c .before .before .before .before .before .if1 .left)) ∙ pick-true _ _ _ sound
+    ∙ pick-false _ _ _ (le-ltb (a .number) (machineFrom (now (a .words)) .counts .tables) (omega (arith, count, c .before .if3 .taken))))
 
-cells-at-requires : tie.Need-cells-at-requires
-cells-at-requires c κs = search needs
+mul-record-in-form : tie.Need-mul-record-in-form
+mul-record-in-form c =
+    let a = c .before .before .before .before .before .before .args in
+    let sound = sym (c .before .before .before .is-sound .ensures) ∙ not-false _ (c .before .before .if2 .left) in
+    let count = ap (λ (k : Counts). k .tables) (c .before .counts-from .ensures) in
+    let small : a .number < 8 = table-place (machineFrom (now (a .words))) _ _ _ (a .number) sound (omega (arith, count, c .if3 .left)) in
+    search needs
+
+add-record-in-form : tie.Need-add-record-in-form
+add-record-in-form c =
+    let a = c .before .before .before .before .before .before .args in
+    let sound = sym (c .before .before .before .is-sound .ensures) ∙ not-false _ (c .before .before .if2 .left) in
+    let count = ap (λ (k : Counts). k .tables) (c .before .counts-from .ensures) in
+    let small : a .number < 8 = table-place (machineFrom (now (a .words))) _ _ _ (a .number) sound (omega (arith, count, c .if3 .left)) in
+    search needs
+
+record-in-form-requires : tie.Need-record-in-form-requires
+record-in-form-requires c κs =
+    let a = c .before .before .before .before .before .before .args in
+    let sound = sym (c .before .before .before .is-sound .ensures) ∙ not-false _ (c .before .before .if2 .left) in
+    let count = ap (λ (k : Counts). k .tables) (c .before .counts-from .ensures) in
+    let small : a .number < 8 = table-place (machineFrom (now (a .words))) _ _ _ (a .number) sound (omega (arith, count, c .if3 .left)) in
+    search needs
+
+refused-requires-4 : tie.Need-refused-requires-4
+refused-requires-4 c κs = search needs
 
 returns-4 : tie.Need-returns-4
 unfolding rowCells
 returns-4 c =
-    let a = c .before .before .before .before .before .before .args in
-    c .cells-at .ensures
-    ∙ sym (pick-true _ _ _ (le-leb _ _ (c .before .before .before .before .if1 .left)) ∙ pick-true _ _ _ (lt-ltb (a .number) (machineFrom (now (a .words)) .counts .tables) (omega (arith, ap (λ (k : Counts). k .tables) (c .before .before .before .counts-from .ensures), c .before .before .if2 .left)))
-    ∙ pick-true _ _ _ (lt-ltb _ _ (c .before .if3 .left)))
+    let a = c .before .before .before .before .before .before .before .before .before .args in
+    let sound = sym (c .before .before .before .before .before .before .is-sound .ensures) ∙ not-false _ (c .before .before .before .before .before .if2 .left) in
+    let count = ap (λ (k : Counts). k .tables) (c .before .before .before .before .counts-from .ensures) in
+    c .refused4 .ensures
+    ∙ sym (pick-true _ _ _ (le-leb _ _ (c .before .before .before .before .before .before .before .if1 .left)) ∙ pick-true _ _ _ sound
+    ∙ pick-true _ _ _ (lt-ltb (a .number) (machineFrom (now (a .words)) .counts .tables) (omega (arith, count, c .before .before .before .if3 .left))) ∙ pick-false _ _ _ (sym (c .before .before .record-in-form .ensures) ∙ not-true _ (c .before .if4 .taken)))
+
+table-at-requires : tie.Need-table-at-requires
+table-at-requires c κs = search needs
+
+returns-5 : tie.Need-returns-5
+unfolding rowCells
+returns-5 c =
+    let a = c .before .before .before .before .before .before .before .before .before .args in
+    let sound = sym (c .before .before .before .before .before .before .is-sound .ensures) ∙ not-false _ (c .before .before .before .before .before .if2 .left) in
+    let count = ap (λ (k : Counts). k .tables) (c .before .before .before .before .counts-from .ensures) in
+    ap (λ (t : Table). accept (t .size)) (c .table-at .ensures)
+    ∙ sym (pick-true _ _ _ (le-leb _ _ (c .before .before .before .before .before .before .before .if1 .left)) ∙ pick-true _ _ _ sound
+    ∙ pick-true _ _ _ (lt-ltb (a .number) (machineFrom (now (a .words)) .counts .tables) (omega (arith, count, c .before .before .before .if3 .left))) ∙ pick-true _ _ _ (sym (c .before .before .record-in-form .ensures) ∙ not-false _ (c .before .if4 .left)))
 
 pub table-cells-spec : {M : Type 1} → statement M
 table-cells-spec =
@@ -58,10 +106,16 @@ table-cells-spec =
     (tie.spec
     refused-requires
     returns
-    counts-from-requires
+    is-sound-requires
     refused-requires-2
     returns-2
+    counts-from-requires
     refused-requires-3
     returns-3
-    cells-at-requires
-    returns-4)
+    mul-record-in-form
+    add-record-in-form
+    record-in-form-requires
+    refused-requires-4
+    returns-4
+    table-at-requires
+    returns-5)
