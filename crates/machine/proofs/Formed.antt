@@ -174,7 +174,7 @@ module _ (l : List ℕ) where
       let plac = place-cut (omega (arith, h)) in
       let scri = script-words scriptAt 16 (omega (arith, h)) (both-2 _ _ e4) in
       rw (mems, tabs, segs, cnts, fuel, plac, scri)
-      (rw (cut-add l 0 64 64, cut-add l 0 128 32, cut-add l 160 3 5, cut-add l 168 2 16, cut-add l 160 8 18, cut-add l 0 160 26) refl)
+      (rw (cut-add l 0 64 64, cut-add l 0 128 32, cut-add l 160 3 5, cut-add l 160 8 2, cut-add l 160 10 16, cut-add l 0 160 26) refl)
 
   -- a row in form holds the words of its machine: written again, they change nothing
   pub form-holds : inForm l ≡ true → Holds l

@@ -7,7 +7,7 @@ use Rattle.table.specs.declared.element.ElementSegment.{ElementSegment}
 use Rattle.types.specs.declared.fuel.Fuel.{Fuel}
 use Rattle.types.specs.declared.limiter.Limiter.{Limiter}
 use Rattle.machine.specs.declared.records.Counts.{Counts}
-use Rattle.machine.specs.Words.{memoryWords, tableWords, segmentWords, countWords, fuelWords, placeWords}
+use Rattle.machine.specs.Words.{memoryWords, tableWords, segmentWords, countWords, fuelWords, placeWords, standingWords}
 
 pub length-memory : (r : Memory) → length (memoryWords r) ≡ 8
 unfolding memoryWords
@@ -32,3 +32,7 @@ length-fuel f = refl
 pub length-place : (k : Limiter) → length (placeWords k) ≡ 2
 unfolding placeWords
 length-place k = refl
+
+pub length-standing : (k : Counts) (f : Fuel) (p : Limiter) → length (standingWords k f p) ≡ 10
+unfolding countWords fuelWords placeWords
+length-standing k f p = refl

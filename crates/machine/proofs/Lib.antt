@@ -11,6 +11,7 @@ pub mod Rows
 pub mod Places
 pub mod Back
 pub mod Formed
+pub mod Scripts
 pub mod Forming
 pub mod Settling
 pub mod Sizes

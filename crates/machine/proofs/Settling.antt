@@ -23,27 +23,26 @@ use Rattle.machine.specs.Operation.{wellFormed}
 use Rattle.machine.specs.Outcome.{keeps, withMemories, withTables, withSegments, changed, settled}
 use Rattle.machine.specs.Step.{Stepped, onNone, after, perform, decide, step}
 use Rattle.machine.specs.Words.{recordLength, segmentLength, tablesAt, segmentsAt, countsAt, rowLength}
-use Rattle.machine.specs.Words.{memoryWords, tableWords, segmentWords, countWords, fuelWords, placeWords, rowsOf, instanceWords, limiterWords, stateWords, wordsOf, machineFrom, inForm}
+use Rattle.machine.specs.Words.{memoryWords, tableWords, segmentWords, countWords, fuelWords, placeWords, rowsOf, instanceWords, standingWords, stateWords, wordsOf, machineFrom, inForm}
 use Rattle.machine.specs.Row.{InRow, rowKeeps, rowAfter, operateRow}
-use Rattle.machine.specs.stages.Rows.{Inside, endsInside, Fits, Shaped, changedRow, settledRow, rowSettled, Goes, Holds, proceedRow, Steps, Proceeds}
+use Rattle.machine.specs.stages.Rows.{Inside, endsInside, Fits, Shaped, changedRow, handsOver, settledRow, rowSettled, Goes, Holds, proceedRow, Steps, Proceeds}
 use Rattle.machine.specs.declared.records.Machine.{Machine}
 use Rattle.machine.specs.declared.records.Counts.{Counts}
 use Rattle.machine.specs.declared.outcome.Outcome.{Outcome}
 use Rattle.machine.specs.declared.outcome.Change.{Change}
 use Rattle.machine.specs.declared.outcome.Change.the-variants as change
 use Rattle.machine.specs.declared.operation.Operation.{Operation}
-use Rattle.machine.proofs.Lengths.{length-memory, length-table, length-segment, length-count, length-fuel, length-place}
+use Rattle.machine.proofs.Lengths.{length-memory, length-table, length-segment, length-standing}
 use Rattle.machine.proofs.Rows.{rows-length, length-both, over-all}
 use Rattle.machine.proofs.Places.{over-left, over-right, over-in, rows-set}
 use Rattle.machine.proofs.Back.{row-back, shaped-from}
 use Rattle.machine.proofs.Formed.{form-holds}
+use Rattle.machine.proofs.Scripts.{script-kept}
 use Rattle.machine.proofs.Rooms.{next-byte-inside, next-cell-inside, next-item-inside}
 
 -- how long the parts are
 state-long : (k : Counts) (f : Fuel) (p : Limiter) → length (p .script) ≡ 16 → length (stateWords k f p) ≡ 26
-state-long k f p e =
-    length-both (countWords k ++ fuelWords f) (limiterWords p) 8 18 26 (length-both (countWords k) (fuelWords f) 3 5 8 (length-count k) (length-fuel f) refl)
-    (length-both (placeWords p) (p .script) 2 16 18 (length-place p) e refl) refl
+state-long k f p e = length-both (standingWords k f p) (p .script) 10 16 26 (length-standing k f p) e refl
 
 -- a machine whose lists have 8 places
 pub record Eights (m : Machine) : Type 0 where
@@ -122,6 +121,13 @@ module _ (m : Machine) (h : Eights m) where
       let e : 160 ≡ length (instanceWords m) + 0 = omega (arith, instances-long) in
       over-right (instanceWords m) s 0 160 t e ∙ ap (λ (z : List ℕ). instanceWords m ++ z) (over-all s t 26 p q)
 
+  -- the same without the script's answers
+  standing-among : (s t u : List ℕ) → length s ≡ 10 → length t ≡ 10 → over (instanceWords m ++ (s ++ u)) countsAt t ≡ instanceWords m ++ (t ++ u)
+  standing-among s t u p q =
+      let e : 160 ≡ length (instanceWords m) + 0 = omega (arith, instances-long) in
+      over-right (instanceWords m) (s ++ u) 0 160 t e
+      ∙ ap (λ (z : List ℕ). instanceWords m ++ z) (over-left s u 0 t (omega (arith, p, q)) ∙ ap (λ (z : List ℕ). z ++ u) (over-all s t 10 p q))
+
 -- a change keeps the lists' lengths
 pub changed-eights : (x : Change) (m : Machine) → Eights m → Eights (changed x m)
 unfolding changed
@@ -175,9 +181,10 @@ settled-shaped m o h f =
     record { memories = e .memories; tables = e .tables; segments = e .segments; fits = f }
 
 -- what settling writes are the words of the machine after it
-settle-words : (l : List ℕ) (o : Outcome) → Holds l → Fits (o .fuel) (o .limiter) → settledRow l o ≡ over l 0 (wordsOf (settled (machineFrom l) o))
+settle-words : (l : List ℕ) (handed : Bool) (o : Outcome) → Holds l → Fits (o .fuel) (o .limiter)
+    → (handed ≡ false → o .limiter .script ≡ machineFrom l .limiter .script) → settledRow l handed o ≡ over l 0 (wordsOf (settled (machineFrom l) o))
 unfolding settledRow settled wordsOf
-settle-words l o h f =
+settle-words l handed o h f same =
     let m = machineFrom l in
     let s = stateWords (m .counts) (m .fuel) (m .limiter) in
     let t = stateWords (o .counts) (o .fuel) (o .limiter) in
@@ -188,10 +195,19 @@ settle-words l o h f =
     let x = changed (o .change) m in
     let d = changed-eights (o .change) m e in
     let row : length (instanceWords x ++ s) ≡ 186 = row-long l s x d n in
-    ap (λ (z : List ℕ). over (changedRow z (o .change)) 160 t) h
-    ∙ ap (λ (z : List ℕ). over z 160 t) (change-row l s m e n (o .change))
-    ∙ over-in l (instanceWords x ++ s) 160 t (omega (arith, k, row))
-    ∙ ap (over l 0) (state-among x d s t n k)
+    let after : changedRow l (o .change) ≡ over l 0 (instanceWords x ++ s) = ap (λ (z : List ℕ). changedRow z (o .change)) h ∙ change-row l s m e n (o .change) in
+    let u = standingWords (o .counts) (o .fuel) (o .limiter) in
+    let v : length u ≡ 10 = length-standing (o .counts) (o .fuel) (o .limiter) in
+    either handed
+    (λ y.
+    pick-true _ _ _ y ∙ ap (λ (z : List ℕ). over z 160 t) after
+    ∙ over-in l (instanceWords x ++ s) 160 t (omega (arith, k, row)) ∙ ap (over l 0) (state-among x d s t n k))
+    (λ y.
+    pick-false _ _ _ y ∙ ap (λ (z : List ℕ). over z 160 u) after
+    ∙ over-in l (instanceWords x ++ s) 160 u (omega (arith, v, row))
+    ∙ ap (over l 0)
+    (standing-among x d (standingWords (m .counts) (m .fuel) (m .limiter)) u (m .limiter .script) (length-standing (m .counts) (m .fuel) (m .limiter)) v
+    ∙ ap (λ (z : List ℕ). instanceWords x ++ (u ++ z)) (sym (same y))))
 
 -- the step of a well-formed operation on a sound machine
 pub goes : (r : ℕ) (m : Machine) (b : Buffers) (o : Operation) → wellFormed o ≡ true → soundOver m b ≡ true → step r m b o ≡ after m (perform r m b o)
@@ -201,13 +217,13 @@ goes r m b o w e = ap (after m) (pick-true _ _ _ w ∙ pick-true _ _ _ e)
 -- an operation that goes on a row which holds a sound machine's words is the step in place
 pub goes-steps : (l : List ℕ) (b : Buffers) (op : Operation) {x : InRow} → Holds l → wellFormed op ≡ true → soundOver (machineFrom l) b ≡ true
     → Fits (perform rawBytes (machineFrom l) b op .out .fuel) (perform rawBytes (machineFrom l) b op .out .limiter)
-    → x ≡ rowSettled l (perform rawBytes (machineFrom l) b op) → Steps l x (step rawBytes (machineFrom l) b op)
+    → x ≡ rowSettled l (handsOver op) (perform rawBytes (machineFrom l) b op) → Steps l x (step rawBytes (machineFrom l) b op)
 goes-steps l b op h w e f q =
     let m = machineFrom l in
     let p = perform rawBytes m b op in
     let g = goes rawBytes m b op w e in
-    let words = settle-words l (p .out) h f in
-    let row : rowSettled l p ≡ rowAfter l (after m p) = ap (λ (z : List ℕ). record { answer = p .out .answer; words = z; buffers = p .buffers }) words in
+    let words = settle-words l (handsOver op) (p .out) h f (script-kept rawBytes m b op) in
+    let row : rowSettled l (handsOver op) p ≡ rowAfter l (after m p) = ap (λ (z : List ℕ). record { answer = p .out .answer; words = z; buffers = p .buffers }) words in
     let back : machineFrom (over l 0 (wordsOf (settled m (p .out)))) ≡ settled m (p .out) = row-back (settled m (p .out)) l (settled-shaped m (p .out) (eights m (shaped-from l)) f) in
     record {
       row = q ∙ row ∙ ap (rowAfter l) (sym g);

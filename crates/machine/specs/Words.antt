@@ -91,11 +91,11 @@ rowsOf f (x ∷ xs) = f x ++ rowsOf f xs
 abbrev pub instanceWords : Machine → List ℕ
 instanceWords m = (rowsOf memoryWords (m .memories) ++ rowsOf tableWords (m .tables)) ++ rowsOf segmentWords (m .segments)
 
-abbrev pub limiterWords : Limiter → List ℕ
-limiterWords k = placeWords k ++ k .script
+abbrev pub standingWords : Counts → Fuel → Limiter → List ℕ
+standingWords k f p = (countWords k ++ fuelWords f) ++ placeWords p
 
 abbrev pub stateWords : Counts → Fuel → Limiter → List ℕ
-stateWords k f p = (countWords k ++ fuelWords f) ++ limiterWords p
+stateWords k f p = standingWords k f p ++ p .script
 
 unfoldable pub wordsOf : Machine → List ℕ
 wordsOf m = instanceWords m ++ stateWords (m .counts) (m .fuel) (m .limiter)

@@ -9,6 +9,7 @@ use types::span::CopySpan;
 use types::table_ty::WantedTable;
 ghost use mathlib.Core.Path.{_≡_};
 ghost use Rattle.machine.specs.Operation.{fuelWellFormed, memoryWellFormed, wellFormed};
+ghost use Rattle.machine.specs.stages.Rows.{fuelHandsOver, handsOver};
 
 // The limiter's answers: so many, as leading digits.
 pub struct Script {
@@ -159,7 +160,35 @@ fn memory_well_formed(op: MemoryOp) -> bool
     }
 }
 
+fn fuel_hands_over(op: FuelOp) -> bool
+    ensures { λ r. ⌜ r ≡ fuelHandsOver op ⌝ }
+{
+    match op {
+        FuelOp::SetFuel { .. } => false,
+        FuelOp::GetFuel => false,
+        FuelOp::Charge { .. } => false,
+        FuelOp::SetLimiter { .. } => true,
+    }
+}
+
 impl Operation {
+    // Whether a script is handed over: no other operation changes the script's answers.
+    pub(crate) fn hands_over(self) -> bool
+        ensures { λ r. ⌜ r ≡ handsOver self ⌝ }
+    {
+        match self {
+            Operation::Fuel { op } => fuel_hands_over(op),
+            Operation::NewMemory { .. } => false,
+            Operation::Memory { .. } => false,
+            Operation::NewTable { .. } => false,
+            Operation::Table { .. } => false,
+            Operation::TableCopy { .. } => false,
+            Operation::TableInit { .. } => false,
+            Operation::DropSegment { .. } => false,
+            Operation::NewSegment { .. } => false,
+        }
+    }
+
     // Whether the operation says nothing wrong that its types let it say.
     pub fn is_well_formed(self) -> bool
         ensures { λ r. ⌜ r ≡ wellFormed self ⌝ }

@@ -216,17 +216,21 @@ fn put_change(words: &mut [u64], change: Change)
     }
 }
 
-// The row after an operation.
-fn settle(words: &mut [u64], outcome: Outcome)
+// The row after an operation; the script's answers are written where one was handed over.
+fn settle(words: &mut [u64], outcome: Outcome, handed: bool)
     requires { ⌜ rowLength ≤ length (now words) ⌝ }
-    ensures { λ _. ⌜ Settles (now (words .entry)) outcome (now (words .exit)) ⌝ }
+    ensures { λ _. ⌜ Settles (now (words .entry)) handed outcome (now (words .exit)) ⌝ }
 {
     let change = outcome.change;
     let counts = outcome.counts;
     let fuel = outcome.fuel;
     let limiter = outcome.limiter;
     put_change(words, change);
-    words::put_state(words, counts, fuel, limiter);
+    if handed {
+        words::put_state(words, counts, fuel, limiter);
+        return;
+    }
+    words::put_standing(words, counts, fuel, limiter);
 }
 
 // The operation's own checks, and what it changed.
@@ -243,7 +247,7 @@ fn go(
 {
     let outcome = operate::perform(words, bytes, cells, items, op);
     let answer = outcome.answer;
-    settle(words, outcome);
+    settle(words, outcome, op.hands_over());
     answer
 }
 
@@ -338,13 +342,7 @@ pub fn fuel_of(words: &[u64]) -> Fuel
 }
 
 // A memory's size in pages, over buffers of these lengths: 12's answer on a row in form, of which that record's flags alone are tested here.
-pub fn memory_pages(
-    words: &[u64],
-    bytes: usize,
-    cells: usize,
-    items: usize,
-    number: u64,
-) -> Answer
+pub fn memory_pages(words: &[u64], bytes: usize, cells: usize, items: usize, number: u64) -> Answer
     ensures { λ r. ⌜ r ≡ rowPages (now (words .entry)) bytes cells items number ⌝ }
 {
     if words.len() < ROW {
@@ -366,13 +364,7 @@ pub fn memory_pages(
 }
 
 // A table's size in cells, likewise 22's.
-pub fn table_cells(
-    words: &[u64],
-    bytes: usize,
-    cells: usize,
-    items: usize,
-    number: u64,
-) -> Answer
+pub fn table_cells(words: &[u64], bytes: usize, cells: usize, items: usize, number: u64) -> Answer
     ensures { λ r. ⌜ r ≡ rowCells (now (words .entry)) bytes cells items number ⌝ }
 {
     if words.len() < ROW {

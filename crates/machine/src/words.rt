@@ -18,7 +18,7 @@ ghost use Prim.Native.Nat.{_+_, _≤_};
 ghost use lib.ListN.{length, replicate};
 ghost use Rattle.types.specs.Span.{over};
 ghost use Rattle.machine.specs.Words.{rowLength, yesWord, isWasm, pageOf, isExtern, elementOf, memoryWords, tableWords, segmentWords};
-ghost use Rattle.machine.specs.Words.{countWords, fuelWords, placeWords, rowsOf, instanceWords, limiterWords, stateWords, wordsOf};
+ghost use Rattle.machine.specs.Words.{countWords, fuelWords, placeWords, rowsOf, instanceWords, standingWords, stateWords, wordsOf};
 ghost use Rattle.machine.specs.Words.{limitsFrom, memoryFrom, tableFrom, segmentFrom, countsFrom, costFrom, answerFrom, fuelFrom, limiterFrom, machineFrom};
 
 // The words of a memory's or table's record, and of a segment's.
@@ -245,26 +245,27 @@ fn put_instances(words: &mut [u64], machine: Machine)
     put_segments(words, SEGMENTS, segments);
 }
 
-fn put_limiter(words: &mut [u64], limiter: Limiter)
+// The numbers in use, fuel and the script's place.
+pub(crate) fn put_standing(words: &mut [u64], counts: Counts, fuel: Fuel, limiter: Limiter)
     requires { ⌜ rowLength ≤ length (now words) ⌝ }
-    ensures { λ _. ⌜ (now (words .exit) ≡ over (now (words .entry)) 168 (limiterWords limiter)) × (length (limiterWords limiter) ≡ 18) ⌝ }
+    ensures { λ _. ⌜ now (words .exit) ≡ over (now (words .entry)) 160 (standingWords counts fuel limiter) ⌝ }
 {
-    let script = limiter.script;
-    let row = place_words(limiter);
-    put(words, LIMITER, &row);
-    put_bytes(words, SCRIPT, &script);
+    let first = count_words(counts);
+    let next = fuel_words(fuel);
+    let place = place_words(limiter);
+    put(words, COUNTS, &first);
+    put(words, FUEL, &next);
+    put(words, LIMITER, &place);
 }
 
-// The numbers in use, fuel and limiter.
+// The same with the script's answers.
 pub(crate) fn put_state(words: &mut [u64], counts: Counts, fuel: Fuel, limiter: Limiter)
     requires { ⌜ rowLength ≤ length (now words) ⌝ }
     ensures { λ _. ⌜ (now (words .exit) ≡ over (now (words .entry)) 160 (stateWords counts fuel limiter)) × (length (stateWords counts fuel limiter) ≡ 26) ⌝ }
 {
-    let first = count_words(counts);
-    let next = fuel_words(fuel);
-    put(words, COUNTS, &first);
-    put(words, FUEL, &next);
-    put_limiter(words, limiter);
+    let script = limiter.script;
+    put_standing(words, counts, fuel, limiter);
+    put_bytes(words, SCRIPT, &script);
 }
 
 // The first words of a row become a machine's.

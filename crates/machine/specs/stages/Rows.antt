@@ -1,7 +1,7 @@
 -- For the code alone: what is written to a row, and an operation on a row whose form and soundness its caller carries.
 use Prim.Native.Nat.{ℕ, _+_, _*_, _≤_, _<_}
 use mathlib.Core.Path.{_≡_}
-use mathlib.Core.Bool.{Bool, true}
+use mathlib.Core.Bool.{Bool, true, false}
 use mathlib.Core.List.{List}
 use lib.Dec.{leb, ltb}
 use lib.ListN.{length, getD}
@@ -14,13 +14,16 @@ use Rattle.machine.specs.Machine.{Buffers, nextByte, nextCell, nextItem}
 use Rattle.machine.specs.Sound.{soundOver}
 use Rattle.machine.specs.Operation.{wellFormed}
 use Rattle.machine.specs.Step.{Performed, Stepped, perform, step}
-use Rattle.machine.specs.Words.{recordLength, segmentLength, tablesAt, segmentsAt, countsAt, rowLength, memoryWords, tableWords, segmentWords, stateWords, wordsOf, machineFrom}
+use Rattle.machine.specs.Words.{recordLength, segmentLength, tablesAt, segmentsAt, countsAt, rowLength, memoryWords, tableWords, segmentWords, standingWords, stateWords, wordsOf, machineFrom}
 use Rattle.machine.specs.Row.{InRow, rowKeeps, rowAfter}
 use Rattle.machine.specs.declared.records.Machine.{Machine}
 use Rattle.machine.specs.declared.outcome.Outcome.{Outcome}
 use Rattle.machine.specs.declared.outcome.Change.{Change}
 use Rattle.machine.specs.declared.outcome.Change.the-variants as change
+use Rattle.machine.specs.declared.operation.FuelOp.{FuelOp}
+use Rattle.machine.specs.declared.operation.FuelOp.the-variants as fuel
 use Rattle.machine.specs.declared.operation.Operation.{Operation}
+use Rattle.machine.specs.declared.operation.Operation.the-variants as op
 
 -- the next rooms start inside their buffers
 pub record Inside (m : Machine) (bytes cells items : ℕ) : Type 0 where
@@ -53,22 +56,42 @@ changedRow l (change.Memory i r) = pick (ltb i 8) (over l (recordLength * i) (me
 changedRow l (change.Table i r) = pick (ltb i 8) (over l (tablesAt + recordLength * i) (tableWords r)) l
 changedRow l (change.Segment i r) = pick (ltb i 8) (over l (segmentsAt + segmentLength * i) (segmentWords r)) l
 
--- the row after an operation: the record that changed, the numbers in use, fuel and limiter
-unfoldable pub settledRow : List ℕ → Outcome → List ℕ
-settledRow l o = over (changedRow l (o .change)) countsAt (stateWords (o .counts) (o .fuel) (o .limiter))
+-- a script is handed over by 04 alone
+unfoldable pub fuelHandsOver : FuelOp → Bool
+fuelHandsOver (fuel.SetFuel amount) = false
+fuelHandsOver fuel.GetFuel = false
+fuelHandsOver (fuel.Charge units) = false
+fuelHandsOver (fuel.SetLimiter script) = true
+
+unfoldable pub handsOver : Operation → Bool
+handsOver (op.Fuel o) = fuelHandsOver o
+handsOver (op.NewMemory room wanted) = false
+handsOver (op.Memory number o) = false
+handsOver (op.NewTable room wanted initial) = false
+handsOver (op.Table number o) = false
+handsOver (op.TableCopy into source span) = false
+handsOver (op.TableInit table segment span) = false
+handsOver (op.DropSegment segment) = false
+handsOver (op.NewSegment element items) = false
+
+-- the row after an operation: the record that changed, the numbers in use, fuel, the script's place, and its answers where a script was handed over
+unfoldable pub settledRow : List ℕ → Bool → Outcome → List ℕ
+settledRow l handed o =
+    pick handed (over (changedRow l (o .change)) countsAt (stateWords (o .counts) (o .fuel) (o .limiter)))
+    (over (changedRow l (o .change)) countsAt (standingWords (o .counts) (o .fuel) (o .limiter)))
 
 -- what settling a row leaves
-pub record Settles (l : List ℕ) (o : Outcome) (after : List ℕ) : Type 0 where
-  pub row : after ≡ settledRow l o
+pub record Settles (l : List ℕ) (handed : Bool) (o : Outcome) (after : List ℕ) : Type 0 where
+  pub row : after ≡ settledRow l handed o
   pub fits : Fits (o .fuel) (o .limiter)
 
 -- an operation's answer, row and buffers
-abbrev pub rowSettled : List ℕ → Performed → InRow
-rowSettled l p = record { answer = p .out .answer; words = settledRow l (p .out); buffers = p .buffers }
+abbrev pub rowSettled : List ℕ → Bool → Performed → InRow
+rowSettled l handed p = record { answer = p .out .answer; words = settledRow l handed (p .out); buffers = p .buffers }
 
 -- what an operation leaves, of which only the next rooms' starts were tested
 pub record Goes (l : List ℕ) (b : Buffers) (op : Operation) (x : InRow) : Type 0 where
-  pub is : x ≡ rowSettled l (perform rawBytes (machineFrom l) b op)
+  pub is : x ≡ rowSettled l (handsOver op) (perform rawBytes (machineFrom l) b op)
   pub fits : Fits (perform rawBytes (machineFrom l) b op .out .fuel) (perform rawBytes (machineFrom l) b op .out .limiter)
 
 -- a row holds the words of the machine that it says
@@ -80,7 +103,7 @@ unfoldable pub proceedRow : ℕ → List ℕ → Buffers → Operation → InRow
 proceedRow r l b op =
     unless (wellFormed op) (rowKeeps l b 18)
     (unless (both (leb rowLength (length l)) (endsInside (machineFrom l) (length (b .bytes)) (length (b .cells)) (length (b .items)))) (rowKeeps l b 19)
-    (rowSettled l (perform r (machineFrom l) b op)))
+    (rowSettled l (handsOver op) (perform r (machineFrom l) b op)))
 
 -- what a step in place leaves, and that the row says the machine after it
 pub record Steps (l : List ℕ) (x : InRow) (s : Stepped) : Type 0 where

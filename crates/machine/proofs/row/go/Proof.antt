@@ -1,17 +1,21 @@
 -- `machine::row::go` meets its contract. Assumes nothing.
 use mathlib.Core.Path.{ap, subst, _∙_}
+use mathlib.Core.Bool.{Bool}
 use mathlib.Core.List.{List}
 use Prim.Native.Nat.{ℕ}
 use denote.Ref.{now}
 use Rattle.machine.specs.Step.{Performed}
 use Rattle.machine.specs.Row.{inRow}
-use Rattle.machine.specs.stages.Rows.{Fits, rowSettled}
+use Rattle.machine.specs.stages.Rows.{Fits, handsOver, settledRow, rowSettled}
 use borrow.Author.Needs.{needs}
 use Rattle.machine.proofs.row.go.Statement.{statement}
 use Rattle.machine.proofs.row.go.Tie as tie
 
 perform-requires : tie.Need-perform-requires
 perform-requires c κs = search needs
+
+hands-over-requires : tie.Need-hands-over-requires
+hands-over-requires c κs = search needs
 
 settle-requires : tie.Need-settle-requires
 settle-requires c κs = search needs
@@ -30,11 +34,13 @@ same-length-4 c = search needs
 
 returns : tie.Need-returns
 returns c =
-    let a = c .before .before .before .before .before .before .before .before .before .before .before .before .before .before .before .before .before .before .before .args in
-    let p = c .before .before .before .before .before .before .before .before .before .before .perform in
+    let a = c .before .before .before .before .before .before .before .before .before .before .before .before .before .before .before .before .before .before .before .before .args in
+    let p = c .before .before .before .before .before .before .before .before .before .before .before .perform in
     let s = c .before .before .settle in
+    let handed = c .before .before .before .hands-over .ensures in
     record {
-      is = ap (λ (z : List ℕ). inRow (p .result .answer) z (p .last .1 .0) (p .last .1 .1 .0) (p .last .1 .1 .1 .0)) (s .ensures .row) ∙ ap (rowSettled (now (a .words))) (p .ensures);
+      is = ap (λ (z : List ℕ). inRow (p .result .answer) z (p .last .1 .0) (p .last .1 .1 .0) (p .last .1 .1 .1 .0)) (s .ensures .row ∙ ap (λ (h : Bool). settledRow (now (a .words)) h (p .result)) handed)
+          ∙ ap (rowSettled (now (a .words)) (handsOver (a .op))) (p .ensures);
       fits = subst (λ (x : Performed). Fits (x .out .fuel) (x .out .limiter)) (p .ensures) (s .ensures .fits);
     }
 
@@ -43,6 +49,7 @@ go-spec =
     tie.close
     (tie.spec
     perform-requires
+    hands-over-requires
     settle-requires
     same-length
     same-length-2
