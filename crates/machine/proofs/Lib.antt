@@ -11,7 +11,7 @@ pub mod Rows
 pub mod Places
 pub mod Back
 pub mod Formed
-pub mod Scripts
+pub mod Written
 pub mod Forming
 pub mod Settling
 pub mod Sizes

@@ -25,7 +25,7 @@ use Rattle.machine.specs.Step.{Stepped, onNone, after, perform, decide, 
 use Rattle.machine.specs.Words.{recordLength, segmentLength, tablesAt, segmentsAt, countsAt, rowLength}
 use Rattle.machine.specs.Words.{memoryWords, tableWords, segmentWords, countWords, fuelWords, placeWords, rowsOf, instanceWords, standingWords, stateWords, wordsOf, machineFrom, inForm}
 use Rattle.machine.specs.Row.{InRow, rowKeeps, rowAfter, operateRow}
-use Rattle.machine.specs.stages.Rows.{Inside, endsInside, Fits, Shaped, changedRow, handsOver, settledRow, rowSettled, Goes, Holds, proceedRow, Steps, Proceeds}
+use Rattle.machine.specs.stages.Rows.{Inside, endsInside, Fits, Shaped, changedRow, changesRecord, handsOver, standingRow, settledRow, rowSettled, Goes, Holds, proceedRow, Steps, Proceeds}
 use Rattle.machine.specs.declared.records.Machine.{Machine}
 use Rattle.machine.specs.declared.records.Counts.{Counts}
 use Rattle.machine.specs.declared.outcome.Outcome.{Outcome}
@@ -37,7 +37,7 @@ use Rattle.machine.proofs.Rows.{rows-length, length-both, over-all}
 use Rattle.machine.proofs.Places.{over-left, over-right, over-in, rows-set}
 use Rattle.machine.proofs.Back.{row-back, shaped-from}
 use Rattle.machine.proofs.Formed.{form-holds}
-use Rattle.machine.proofs.Scripts.{script-kept}
+use Rattle.machine.proofs.Written.{records-kept, script-kept}
 use Rattle.machine.proofs.Rooms.{next-byte-inside, next-cell-inside, next-item-inside}
 
 -- how long the parts are
@@ -181,10 +181,11 @@ settled-shaped m o h f =
     record { memories = e .memories; tables = e .tables; segments = e .segments; fits = f }
 
 -- what settling writes are the words of the machine after it
-settle-words : (l : List ℕ) (handed : Bool) (o : Outcome) → Holds l → Fits (o .fuel) (o .limiter)
-    → (handed ≡ false → o .limiter .script ≡ machineFrom l .limiter .script) → settledRow l handed o ≡ over l 0 (wordsOf (settled (machineFrom l) o))
-unfolding settledRow settled wordsOf
-settle-words l handed o h f same =
+settle-words : (l : List ℕ) (changes handed : Bool) (o : Outcome) → Holds l → Fits (o .fuel) (o .limiter)
+    → (changes ≡ false → changed (o .change) (machineFrom l) ≡ machineFrom l)
+    → (handed ≡ false → o .limiter .script ≡ machineFrom l .limiter .script) → settledRow l changes handed o ≡ over l 0 (wordsOf (settled (machineFrom l) o))
+unfolding settledRow standingRow settled wordsOf
+settle-words l changes handed o h f kept same =
     let m = machineFrom l in
     let s = stateWords (m .counts) (m .fuel) (m .limiter) in
     let t = stateWords (o .counts) (o .fuel) (o .limiter) in
@@ -195,7 +196,10 @@ settle-words l handed o h f same =
     let x = changed (o .change) m in
     let d = changed-eights (o .change) m e in
     let row : length (instanceWords x ++ s) ≡ 186 = row-long l s x d n in
-    let after : changedRow l (o .change) ≡ over l 0 (instanceWords x ++ s) = ap (λ (z : List ℕ). changedRow z (o .change)) h ∙ change-row l s m e n (o .change) in
+    let after : pick changes (changedRow l (o .change)) l ≡ over l 0 (instanceWords x ++ s) =
+    either changes
+    (λ y. pick-true _ _ _ y ∙ ap (λ (z : List ℕ). changedRow z (o .change)) h ∙ change-row l s m e n (o .change))
+    (λ y. pick-false _ _ _ y ∙ h ∙ ap (λ (k : Machine). over l 0 (instanceWords k ++ s)) (sym (kept y))) in
     let u = standingWords (o .counts) (o .fuel) (o .limiter) in
     let v : length u ≡ 10 = length-standing (o .counts) (o .fuel) (o .limiter) in
     either handed
@@ -217,13 +221,13 @@ goes r m b o w e = ap (after m) (pick-true _ _ _ w ∙ pick-true _ _ _ e)
 -- an operation that goes on a row which holds a sound machine's words is the step in place
 pub goes-steps : (l : List ℕ) (b : Buffers) (op : Operation) {x : InRow} → Holds l → wellFormed op ≡ true → soundOver (machineFrom l) b ≡ true
     → Fits (perform rawBytes (machineFrom l) b op .out .fuel) (perform rawBytes (machineFrom l) b op .out .limiter)
-    → x ≡ rowSettled l (handsOver op) (perform rawBytes (machineFrom l) b op) → Steps l x (step rawBytes (machineFrom l) b op)
+    → x ≡ rowSettled l op (perform rawBytes (machineFrom l) b op) → Steps l x (step rawBytes (machineFrom l) b op)
 goes-steps l b op h w e f q =
     let m = machineFrom l in
     let p = perform rawBytes m b op in
     let g = goes rawBytes m b op w e in
-    let words = settle-words l (handsOver op) (p .out) h f (script-kept rawBytes m b op) in
-    let row : rowSettled l (handsOver op) p ≡ rowAfter l (after m p) = ap (λ (z : List ℕ). record { answer = p .out .answer; words = z; buffers = p .buffers }) words in
+    let words = settle-words l (changesRecord op) (handsOver op) (p .out) h f (records-kept rawBytes m b op) (script-kept rawBytes m b op) in
+    let row : rowSettled l op p ≡ rowAfter l (after m p) = ap (λ (z : List ℕ). record { answer = p .out .answer; words = z; buffers = p .buffers }) words in
     let back : machineFrom (over l 0 (wordsOf (settled m (p .out)))) ≡ settled m (p .out) = row-back (settled m (p .out)) l (settled-shaped m (p .out) (eights m (shaped-from l)) f) in
     record {
       row = q ∙ row ∙ ap (rowAfter l) (sym g);

@@ -9,7 +9,7 @@ use types::span::CopySpan;
 use types::table_ty::WantedTable;
 ghost use mathlib.Core.Path.{_≡_};
 ghost use Rattle.machine.specs.Operation.{fuelWellFormed, memoryWellFormed, wellFormed};
-ghost use Rattle.machine.specs.stages.Rows.{fuelHandsOver, handsOver};
+ghost use Rattle.machine.specs.stages.Rows.{memoryChanges, tableChanges, changesRecord, fuelHandsOver, handsOver};
 
 // The limiter's answers: so many, as leading digits.
 pub struct Script {
@@ -160,6 +160,30 @@ fn memory_well_formed(op: MemoryOp) -> bool
     }
 }
 
+fn memory_changes(op: MemoryOp) -> bool
+    ensures { λ r. ⌜ r ≡ memoryChanges op ⌝ }
+{
+    match op {
+        MemoryOp::Grow { .. } => true,
+        MemoryOp::Size => false,
+        MemoryOp::Load { .. } => false,
+        MemoryOp::Store { .. } => false,
+        MemoryOp::LinkCheck { .. } => false,
+    }
+}
+
+fn table_changes(op: TableOp) -> bool
+    ensures { λ r. ⌜ r ≡ tableChanges op ⌝ }
+{
+    match op {
+        TableOp::Grow { .. } => true,
+        TableOp::Size => false,
+        TableOp::Get { .. } => false,
+        TableOp::Set { .. } => false,
+        TableOp::Fill { .. } => false,
+    }
+}
+
 fn fuel_hands_over(op: FuelOp) -> bool
     ensures { λ r. ⌜ r ≡ fuelHandsOver op ⌝ }
 {
@@ -172,6 +196,23 @@ fn fuel_hands_over(op: FuelOp) -> bool
 }
 
 impl Operation {
+    // Whether a record may change: of a memory or table only its size does, and only by a growth.
+    pub(crate) fn changes(self) -> bool
+        ensures { λ r. ⌜ r ≡ changesRecord self ⌝ }
+    {
+        match self {
+            Operation::Fuel { .. } => false,
+            Operation::NewMemory { .. } => true,
+            Operation::Memory { number: _, op } => memory_changes(op),
+            Operation::NewTable { .. } => true,
+            Operation::Table { number: _, op } => table_changes(op),
+            Operation::TableCopy { .. } => false,
+            Operation::TableInit { .. } => false,
+            Operation::DropSegment { .. } => true,
+            Operation::NewSegment { .. } => true,
+        }
+    }
+
     // Whether a script is handed over: no other operation changes the script's answers.
     pub(crate) fn hands_over(self) -> bool
         ensures { λ r. ⌜ r ≡ handsOver self ⌝ }

@@ -26,7 +26,7 @@ ghost use Prim.Native.Nat.{_+_, _≤_, _<_, _^_};
 ghost use lib.Dec.{leb};
 ghost use lib.ListN.{length};
 ghost use Rattle.types.specs.Answer.{refuse};
-ghost use Rattle.types.specs.Pick.{both};
+ghost use Rattle.types.specs.Pick.{pick, both};
 ghost use Rattle.types.specs.Raw.{rawBytes};
 ghost use Rattle.machine.specs.Machine.{buffers, memoryAt, tableAt, segmentAt, nextByte, nextCell, nextItem};
 ghost use Rattle.machine.specs.Words.{rowLength, machineFrom, inForm};
@@ -216,16 +216,27 @@ fn put_change(words: &mut [u64], change: Change)
     }
 }
 
-// The row after an operation; the script's answers are written where one was handed over.
-fn settle(words: &mut [u64], outcome: Outcome, handed: bool)
+// Where an operation may change a record, what it says goes back.
+fn put_record(words: &mut [u64], change: Change, changes: bool)
     requires { ⌜ rowLength ≤ length (now words) ⌝ }
-    ensures { λ _. ⌜ Settles (now (words .entry)) handed outcome (now (words .exit)) ⌝ }
+    ensures { λ _. ⌜ now (words .exit) ≡ pick changes (changedRow (now (words .entry)) change) (now (words .entry)) ⌝ }
+{
+    if !changes {
+        return;
+    }
+    put_change(words, change);
+}
+
+// The row after an operation: the record is written where it may have changed, the script's answers where a script was handed over.
+fn settle(words: &mut [u64], outcome: Outcome, changes: bool, handed: bool)
+    requires { ⌜ rowLength ≤ length (now words) ⌝ }
+    ensures { λ _. ⌜ Settles (now (words .entry)) changes handed outcome (now (words .exit)) ⌝ }
 {
     let change = outcome.change;
     let counts = outcome.counts;
     let fuel = outcome.fuel;
     let limiter = outcome.limiter;
-    put_change(words, change);
+    put_record(words, change, changes);
     if handed {
         words::put_state(words, counts, fuel, limiter);
         return;
@@ -247,7 +258,9 @@ fn go(
 {
     let outcome = operate::perform(words, bytes, cells, items, op);
     let answer = outcome.answer;
-    settle(words, outcome, op.hands_over());
+    let changes = op.changes();
+    let handed = op.hands_over();
+    settle(words, outcome, changes, handed);
     answer
 }
 

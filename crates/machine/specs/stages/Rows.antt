@@ -22,6 +22,10 @@ use Rattle.machine.specs.declared.outcome.Change.{Change}
 use Rattle.machine.specs.declared.outcome.Change.the-variants as change
 use Rattle.machine.specs.declared.operation.FuelOp.{FuelOp}
 use Rattle.machine.specs.declared.operation.FuelOp.the-variants as fuel
+use Rattle.machine.specs.declared.operation.MemoryOp.{MemoryOp}
+use Rattle.machine.specs.declared.operation.MemoryOp.the-variants as memory
+use Rattle.machine.specs.declared.operation.TableOp.{TableOp}
+use Rattle.machine.specs.declared.operation.TableOp.the-variants as table
 use Rattle.machine.specs.declared.operation.Operation.{Operation}
 use Rattle.machine.specs.declared.operation.Operation.the-variants as op
 
@@ -56,6 +60,32 @@ changedRow l (change.Memory i r) = pick (ltb i 8) (over l (recordLength * i) (me
 changedRow l (change.Table i r) = pick (ltb i 8) (over l (tablesAt + recordLength * i) (tableWords r)) l
 changedRow l (change.Segment i r) = pick (ltb i 8) (over l (segmentsAt + segmentLength * i) (segmentWords r)) l
 
+-- a record changes by a creation, a growth or a drop
+unfoldable pub memoryChanges : MemoryOp → Bool
+memoryChanges (memory.Grow pages) = true
+memoryChanges memory.Size = false
+memoryChanges (memory.Load kind pointer offset) = false
+memoryChanges (memory.Store kind pointer offset bits) = false
+memoryChanges (memory.LinkCheck wanted) = false
+
+unfoldable pub tableChanges : TableOp → Bool
+tableChanges (table.Grow cells value) = true
+tableChanges table.Size = false
+tableChanges (table.Get index) = false
+tableChanges (table.Set index value) = false
+tableChanges (table.Fill start value len) = false
+
+unfoldable pub changesRecord : Operation → Bool
+changesRecord (op.Fuel o) = false
+changesRecord (op.NewMemory room wanted) = true
+changesRecord (op.Memory number o) = memoryChanges o
+changesRecord (op.NewTable room wanted initial) = true
+changesRecord (op.Table number o) = tableChanges o
+changesRecord (op.TableCopy into source span) = false
+changesRecord (op.TableInit into segment span) = false
+changesRecord (op.DropSegment segment) = true
+changesRecord (op.NewSegment element items) = true
+
 -- a script is handed over by 04 alone
 unfoldable pub fuelHandsOver : FuelOp → Bool
 fuelHandsOver (fuel.SetFuel amount) = false
@@ -70,28 +100,31 @@ handsOver (op.Memory number o) = false
 handsOver (op.NewTable room wanted initial) = false
 handsOver (op.Table number o) = false
 handsOver (op.TableCopy into source span) = false
-handsOver (op.TableInit table segment span) = false
+handsOver (op.TableInit into segment span) = false
 handsOver (op.DropSegment segment) = false
 handsOver (op.NewSegment element items) = false
 
--- the row after an operation: the record that changed, the numbers in use, fuel, the script's place, and its answers where a script was handed over
-unfoldable pub settledRow : List ℕ → Bool → Outcome → List ℕ
-settledRow l handed o =
-    pick handed (over (changedRow l (o .change)) countsAt (stateWords (o .counts) (o .fuel) (o .limiter)))
-    (over (changedRow l (o .change)) countsAt (standingWords (o .counts) (o .fuel) (o .limiter)))
+-- the numbers in use, fuel and the script's place, and its answers where a script was handed over
+unfoldable pub standingRow : List ℕ → Bool → Outcome → List ℕ
+standingRow l handed o =
+    pick handed (over l countsAt (stateWords (o .counts) (o .fuel) (o .limiter))) (over l countsAt (standingWords (o .counts) (o .fuel) (o .limiter)))
+
+-- the row after an operation: before that the record, where it may have changed
+unfoldable pub settledRow : List ℕ → Bool → Bool → Outcome → List ℕ
+settledRow l changes handed o = standingRow (pick changes (changedRow l (o .change)) l) handed o
 
 -- what settling a row leaves
-pub record Settles (l : List ℕ) (handed : Bool) (o : Outcome) (after : List ℕ) : Type 0 where
-  pub row : after ≡ settledRow l handed o
+pub record Settles (l : List ℕ) (changes handed : Bool) (o : Outcome) (after : List ℕ) : Type 0 where
+  pub row : after ≡ settledRow l changes handed o
   pub fits : Fits (o .fuel) (o .limiter)
 
 -- an operation's answer, row and buffers
-abbrev pub rowSettled : List ℕ → Bool → Performed → InRow
-rowSettled l handed p = record { answer = p .out .answer; words = settledRow l handed (p .out); buffers = p .buffers }
+abbrev pub rowSettled : List ℕ → Operation → Performed → InRow
+rowSettled l o p = record { answer = p .out .answer; words = settledRow l (changesRecord o) (handsOver o) (p .out); buffers = p .buffers }
 
 -- what an operation leaves, of which only the next rooms' starts were tested
 pub record Goes (l : List ℕ) (b : Buffers) (op : Operation) (x : InRow) : Type 0 where
-  pub is : x ≡ rowSettled l (handsOver op) (perform rawBytes (machineFrom l) b op)
+  pub is : x ≡ rowSettled l op (perform rawBytes (machineFrom l) b op)
   pub fits : Fits (perform rawBytes (machineFrom l) b op .out .fuel) (perform rawBytes (machineFrom l) b op .out .limiter)
 
 -- a row holds the words of the machine that it says
@@ -103,7 +136,7 @@ unfoldable pub proceedRow : ℕ → List ℕ → Buffers → Operation → InRow
 proceedRow r l b op =
     unless (wellFormed op) (rowKeeps l b 18)
     (unless (both (leb rowLength (length l)) (endsInside (machineFrom l) (length (b .bytes)) (length (b .cells)) (length (b .items)))) (rowKeeps l b 19)
-    (rowSettled l (handsOver op) (perform r (machineFrom l) b op)))
+    (rowSettled l op (perform r (machineFrom l) b op)))
 
 -- what a step in place leaves, and that the row says the machine after it
 pub record Steps (l : List ℕ) (x : InRow) (s : Stepped) : Type 0 where

@@ -1,8 +1,10 @@
--- No operation but the handing over of a script changes the script's answers. Assumes nothing.
+-- Which words an operation leaves: no record changes but by a creation, a growth or a drop, no answer of the script but by handing one over. Assumes nothing.
 use Prim.Native.Nat.{ℕ}
-use mathlib.Core.Path.{_≡_, refl, sym, _∙_}
+use mathlib.Core.Path.{_≡_, refl, sym, ap}
 use mathlib.Core.Bool.{Bool, true, false, false≢true}
 use mathlib.Core.List.{List}
+use lib.Dec.{ltb}
+use lib.Seq.{set-getD}
 use Rattle.types.specs.Pick.{pick}
 use Rattle.types.specs.Done.{Done}
 use Rattle.types.specs.Limiter.{moved}
@@ -29,15 +31,17 @@ use Rattle.table.specs.declared.new.MadeTable.the-variants as made-table
 use Rattle.table.specs.declared.new.CreatedTable.{CreatedTable}
 use Rattle.table.specs.declared.element.MadeSegment.{MadeSegment}
 use Rattle.table.specs.declared.element.MadeSegment.the-variants as made-segment
-use Rattle.machine.specs.Machine.{Buffers}
+use Rattle.machine.specs.Machine.{Buffers, memoryAt, tableAt, noMemory, noTable}
+use Rattle.machine.specs.Outcome.{withMemories, withTables, changed}
 use Rattle.machine.specs.Fueling.{setBy, chargedBy, performFuel, onFuel}
 use Rattle.machine.specs.Memories.{performMemory, onMemory, madeMemory, newMemoryOn}
 use Rattle.machine.specs.Tables.{performTable, onTable, copyKnown, copyOn, madeTable, newTableOn}
 use Rattle.machine.specs.Segments.{initOn, dropOn, madeSegment, newSegmentOn}
 use Rattle.machine.specs.Step.{perform}
-use Rattle.machine.specs.stages.Rows.{fuelHandsOver, handsOver}
+use Rattle.machine.specs.stages.Rows.{memoryChanges, tableChanges, changesRecord, fuelHandsOver, handsOver}
 use Rattle.machine.specs.declared.records.Machine.{Machine}
 use Rattle.machine.specs.declared.outcome.Outcome.{Outcome}
+use Rattle.machine.specs.declared.outcome.Change.the-variants as change
 use Rattle.machine.specs.declared.operation.FuelOp.{FuelOp}
 use Rattle.machine.specs.declared.operation.FuelOp.the-variants as fuel
 use Rattle.machine.specs.declared.operation.MemoryOp.{MemoryOp}
@@ -52,6 +56,51 @@ either-way : {A : Type 0} (P : A → Type 0) (t : Bool) (x y : A) → P x → P 
 unfolding pick
 either-way P true x y p q = p
 either-way P false x y p q = q
+
+-- a record that is put back at its place leaves the machine
+pub memory-put-back : (m : Machine) (i : ℕ) → changed (change.Memory i (memoryAt m i)) m ≡ m
+unfolding changed
+memory-put-back m i = either-way (λ (x : Machine). x ≡ m) (ltb i 8) _ _ (ap (λ (rs : List Memory). withMemories m rs) (set-getD (m .memories) i noMemory)) refl
+
+pub table-put-back : (m : Machine) (i : ℕ) → changed (change.Table i (tableAt m i)) m ≡ m
+unfolding changed
+table-put-back m i = either-way (λ (x : Machine). x ≡ m) (ltb i 8) _ _ (ap (λ (rs : List Table). withTables m rs) (set-getD (m .tables) i noTable)) refl
+
+-- what changes no record leaves them all
+module _ (r : ℕ) (m : Machine) where
+  abbrev Stays : Outcome → Type 0
+  Stays o = changed (o .change) m ≡ m
+
+  abbrev StaysDone : Done Outcome → Type 0
+  StaysDone d = Stays (d .out)
+
+  on-one-memory : (i : ℕ) (bs : List ℕ) (o : MemoryOp) → memoryChanges o ≡ false → StaysDone (onMemory m bs i o)
+  unfolding onMemory performMemory memoryChanges changed
+  on-one-memory i bs (memory.Grow pages) e = absurd (false≢true (sym e))
+  on-one-memory i bs memory.Size e = either-way StaysDone _ _ _ (memory-put-back m i) refl
+  on-one-memory i bs (memory.Load kind pointer offset) e = either-way StaysDone _ _ _ (memory-put-back m i) refl
+  on-one-memory i bs (memory.Store kind pointer offset bits) e = either-way StaysDone _ _ _ (memory-put-back m i) refl
+  on-one-memory i bs (memory.LinkCheck wanted) e = either-way StaysDone _ _ _ (memory-put-back m i) refl
+
+  on-one-table : (i : ℕ) (cs : List ℕ) (o : TableOp) → tableChanges o ≡ false → StaysDone (onTable r m cs i o)
+  unfolding onTable performTable tableChanges changed
+  on-one-table i cs (table.Grow cells value) e = absurd (false≢true (sym e))
+  on-one-table i cs table.Size e = either-way StaysDone _ _ _ (table-put-back m i) refl
+  on-one-table i cs (table.Get index) e = either-way StaysDone _ _ _ (table-put-back m i) refl
+  on-one-table i cs (table.Set index value) e = either-way StaysDone _ _ _ (table-put-back m i) refl
+  on-one-table i cs (table.Fill start value len) e = either-way StaysDone _ _ _ (table-put-back m i) refl
+
+  pub records-kept : (b : Buffers) (o : Operation) → changesRecord o ≡ false → Stays (perform r m b o .out)
+  unfolding perform changesRecord onFuel copyOn copyKnown initOn changed
+  records-kept b (op.Fuel o) e = refl
+  records-kept b (op.NewMemory room wanted) e = absurd (false≢true (sym e))
+  records-kept b (op.Memory number o) e = on-one-memory number (b .bytes) o e
+  records-kept b (op.NewTable room wanted initial) e = absurd (false≢true (sym e))
+  records-kept b (op.Table number o) e = on-one-table number (b .cells) o e
+  records-kept b (op.TableCopy into source span) e = either-way StaysDone _ _ _ (either-way StaysDone _ _ _ refl refl) refl
+  records-kept b (op.TableInit into segment span) e = either-way StaysDone _ _ _ refl refl
+  records-kept b (op.DropSegment segment) e = absurd (false≢true (sym e))
+  records-kept b (op.NewSegment element items) e = absurd (false≢true (sym e))
 
 -- creations and growths only move the script on
 module _ (l : Limiter) where
@@ -168,6 +217,6 @@ module _ (r : ℕ) (m : Machine) where
   script-kept b (op.NewTable room wanted initial) e = either-way KeptDone _ _ _ (made-table-kept _ _ (new-table (m .limiter) wanted initial _ room (b .cells))) refl
   script-kept b (op.Table number o) e = either-way KeptDone _ _ _ (one-table _ (b .cells) o) refl
   script-kept b (op.TableCopy into source span) e = either-way KeptDone _ _ _ (either-way KeptDone _ _ _ refl refl) refl
-  script-kept b (op.TableInit table segment span) e = either-way KeptDone _ _ _ refl refl
+  script-kept b (op.TableInit into segment span) e = either-way KeptDone _ _ _ refl refl
   script-kept b (op.DropSegment segment) e = either-way Kept _ _ _ refl refl
   script-kept b (op.NewSegment element items) e = either-way KeptDone _ _ _ (made-segment-kept _) refl
