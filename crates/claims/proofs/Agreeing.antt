@@ -44,9 +44,9 @@ use Rattle.machine.specs.declared.operation.TableOp.the-variants as table
 use Rattle.machine.proofs.Laws.{along}
 use Rattle.machine.proofs.Rooms.{memory-sound, table-sound, next-byte-inside, next-cell-inside}
 use Rattle.claims.specs.Answers.{accepted}
-use Rattle.claims.specs.Occasions.{reaches, memoryOccasion, tableOccasion, copies, inits, occasion}
-use Rattle.claims.specs.Spans.{memorySpan, tableSpan, spanOf, put}
-use Rattle.claims.specs.Effects.{written, memorySizeAfter, tableSizeAfter, changeOf, countsAfter, acceptedStep}
+use Rattle.claims.specs.Occasions.{given, holds, reaches, memoryChecks, tableChecks, copies, inits, checksOf}
+use Rattle.claims.specs.Spans.{put}
+use Rattle.claims.specs.Effects.{memoryEffect, tableEffect, effectOf, effects, acceptedStep}
 use Rattle.claims.specs.Alike.{SameMemory, SameTable, Watched, namesOnly, Agree}
 use Rattle.claims.proofs.Cuts.{cut-short, part-alike, first-alike, inside-alike, more-alike, made-alike}
 use Rattle.claims.proofs.Left.{on-occasion, others, byte-room, cell-room, byte-room-less, cell-room-less}
@@ -140,21 +140,21 @@ module _ (r : ℕ) (m : Machine) (b : Buffers) (ms : List Memory) (ts : List Tab
   -- the room left and the watched instances of each kind
   pub record Memories (op : Operation) : Type 0 where
     pub room : length (left op .buffers .bytes) - nextByte (left op .machine) ≡ length (left′ op .buffers .bytes) - nextByte (left′ op .machine)
-    pub each : (i : ℕ) → w .memory i ≡ true → i < countsAfter (m .counts) op .memories → MemoryAfter op i
+    pub each : (i : ℕ) → w .memory i ≡ true → i < effects r m b op .counts .memories → MemoryAfter op i
 
   pub record Tables (op : Operation) : Type 0 where
     pub room : length (left op .buffers .cells) - nextCell (left op .machine) ≡ length (left′ op .buffers .cells) - nextCell (left′ op .machine)
-    pub each : (i : ℕ) → w .table i ≡ true → i < countsAfter (m .counts) op .tables → TableAfter op i
+    pub each : (i : ℕ) → w .table i ≡ true → i < effects r m b op .counts .tables → TableAfter op i
 
   module _ (op : Operation) (a : Taken op) where
     -- as many instances in use: as much room is left
-    same-bytes : countsAfter (m .counts) op .memories ≡ m .counts .memories
+    same-bytes : effects r m b op .counts .memories ≡ m .counts .memories → effects r m′ b′ op .counts .memories ≡ m .counts .memories
         → length (left op .buffers .bytes) - nextByte (left op .machine) ≡ length (left′ op .buffers .bytes) - nextByte (left′ op .machine)
-    same-bytes q = byte-room r m b op e (a .0) q ∙ g .rest .bytes ∙ sym (byte-room r m′ b′ op e′ (a .1) q)
+    same-bytes q q′ = byte-room r m b op e (a .0) q ∙ g .rest .bytes ∙ sym (byte-room r m′ b′ op e′ (a .1) q′)
 
-    same-cells : countsAfter (m .counts) op .tables ≡ m .counts .tables
+    same-cells : effects r m b op .counts .tables ≡ m .counts .tables → effects r m′ b′ op .counts .tables ≡ m .counts .tables
         → length (left op .buffers .cells) - nextCell (left op .machine) ≡ length (left′ op .buffers .cells) - nextCell (left′ op .machine)
-    same-cells q = cell-room r m b op e (a .0) q ∙ g .rest .cells ∙ sym (cell-room r m′ b′ op e′ (a .1) q)
+    same-cells q q′ = cell-room r m b op e (a .0) q ∙ g .rest .cells ∙ sym (cell-room r m′ b′ op e′ (a .1) q′)
 
     -- an instance that is not the target
     memory-other : (i : ℕ) → w .memory i ≡ true → i < m .counts .memories
@@ -181,16 +181,16 @@ module _ (r : ℕ) (m : Machine) (b : Buffers) (ms : List Memory) (ts : List Tab
 
     -- the target is of another kind
     memories-stay : eqb (kindOf (targetOf m op)) 1 ≡ false → eqb (kindOf (targetOf m′ op)) 1 ≡ false
-        → countsAfter (m .counts) op .memories ≡ m .counts .memories → Memories op
+        → effects r m b op .counts .memories ≡ m .counts .memories → effects r m′ b′ op .counts .memories ≡ m .counts .memories → Memories op
     unfolding kindOf
-    memories-stay t t′ q =
-        record { room = same-bytes q; each = λ i v h. memory-other i v (omega arith) (unlike {u = InMemory i} t) (unlike {u = InMemory i} t′) }
+    memories-stay t t′ q q′ =
+        record { room = same-bytes q q′; each = λ i v h. memory-other i v (omega arith) (unlike {u = InMemory i} t) (unlike {u = InMemory i} t′) }
 
     tables-stay : eqb (kindOf (targetOf m op)) 2 ≡ false → eqb (kindOf (targetOf m′ op)) 2 ≡ false
-        → countsAfter (m .counts) op .tables ≡ m .counts .tables → Tables op
+        → effects r m b op .counts .tables ≡ m .counts .tables → effects r m′ b′ op .counts .tables ≡ m .counts .tables → Tables op
     unfolding kindOf
-    tables-stay t t′ q =
-        record { room = same-cells q; each = λ i v h. table-other i v (omega arith) (unlike {u = InTable i} t) (unlike {u = InTable i} t′) }
+    tables-stay t t′ q q′ =
+        record { room = same-cells q q′; each = λ i v h. table-other i v (omega arith) (unlike {u = InTable i} t) (unlike {u = InTable i} t′) }
 
     items-stay : eqb (kindOf (targetOf m op)) 4 ≡ false → eqb (kindOf (targetOf m′ op)) 4 ≡ false → left op .buffers .items ≡ left′ op .buffers .items
     unfolding kindOf
@@ -199,9 +199,9 @@ module _ (r : ℕ) (m : Machine) (b : Buffers) (ms : List Memory) (ts : List Tab
 
     -- the target, and the others
     memories-but : (k : ℕ) → targetOf m op ≡ InMemory k → targetOf m′ op ≡ InMemory k
-        → ((i : ℕ) → i < countsAfter (m .counts) op .memories → (i ≡ k → ⊥) → i < m .counts .memories)
-        → (k < countsAfter (m .counts) op .memories → MemoryAfter op k)
-        → (i : ℕ) → w .memory i ≡ true → i < countsAfter (m .counts) op .memories → MemoryAfter op i
+        → ((i : ℕ) → i < effects r m b op .counts .memories → (i ≡ k → ⊥) → i < m .counts .memories)
+        → (k < effects r m b op .counts .memories → MemoryAfter op k)
+        → (i : ℕ) → w .memory i ≡ true → i < effects r m b op .counts .memories → MemoryAfter op i
     unfolding numberIn
     memories-but k t t′ u f i v h =
         at-place k i (MemoryAfter op)
@@ -209,9 +209,9 @@ module _ (r : ℕ) (m : Machine) (b : Buffers) (ms : List Memory) (ts : List Tab
         (λ z. memory-other i v (u i h z) (λ y. z (ap numberIn (sym y ∙ t))) (λ y. z (ap numberIn (sym y ∙ t′))))
 
     tables-but : (k : ℕ) → targetOf m op ≡ InTable k → targetOf m′ op ≡ InTable k
-        → ((i : ℕ) → i < countsAfter (m .counts) op .tables → (i ≡ k → ⊥) → i < m .counts .tables)
-        → (k < countsAfter (m .counts) op .tables → TableAfter op k)
-        → (i : ℕ) → w .table i ≡ true → i < countsAfter (m .counts) op .tables → TableAfter op i
+        → ((i : ℕ) → i < effects r m b op .counts .tables → (i ≡ k → ⊥) → i < m .counts .tables)
+        → (k < effects r m b op .counts .tables → TableAfter op k)
+        → (i : ℕ) → w .table i ≡ true → i < effects r m b op .counts .tables → TableAfter op i
     unfolding numberIn
     tables-but k t t′ u f i v h =
         at-place k i (TableAfter op)
@@ -220,7 +220,7 @@ module _ (r : ℕ) (m : Machine) (b : Buffers) (ms : List Memory) (ts : List Tab
 
   -- 10: the memory made
   memory-made : (room : ℕ) (q : WantedMemory) → Taken (op.NewMemory room q) → Memories (op.NewMemory room q)
-  unfolding acceptedStep countsAfter targetOf put spanOf
+  unfolding acceptedStep effectOf targetOf put
   memory-made room q a =
       let o = op.NewMemory room q in
       let p = made-memory m b e r room q (a .0) in
@@ -235,7 +235,7 @@ module _ (r : ℕ) (m : Machine) (b : Buffers) (ms : List Memory) (ts : List Tab
 
   -- 20: the table made
   table-made : (room : ℕ) (q : WantedTable) (x : TypedRawRef) → Taken (op.NewTable room q x) → Tables (op.NewTable room q x)
-  unfolding acceptedStep countsAfter targetOf put spanOf
+  unfolding acceptedStep effectOf targetOf put
   table-made room q x a =
       let o = op.NewTable room q x in
       let p = made-table m b e r room q x (a .0) in
@@ -249,8 +249,8 @@ module _ (r : ℕ) (m : Machine) (b : Buffers) (ms : List Memory) (ts : List Tab
       }
 
   -- the size of the memory named
-  memory-sizes : (i : ℕ) (o : MemoryOp) → SameMemory m b m′ b′ i → memorySizeAfter (memoryAt m i) o ≡ memorySizeAfter (memoryAt m′ i) o
-  unfolding memorySizeAfter pagesOf
+  memory-sizes : (i : ℕ) (o : MemoryOp) → SameMemory m b m′ b′ i → memoryEffect (memoryAt m i) (b .bytes) o .size ≡ memoryEffect (memoryAt m′ i) bs o .size
+  unfolding memoryEffect pagesOf
   memory-sizes i (memory.Grow pages) v =
       along (λ (t : MemoryType) (z : ℕ). (z / pageBytes (t .page) + pages) * pageBytes (t .page)) (v .ty) (v .size)
   memory-sizes i memory.Size v = v .size
@@ -260,9 +260,9 @@ module _ (r : ℕ) (m : Machine) (b : Buffers) (ms : List Memory) (ts : List Tab
 
   -- its bytes
   memory-bytes : (i : ℕ) (o : MemoryOp) → Taken (op.Memory i o) → i < m .counts .memories → SameMemory m b m′ b′ i
-      → cut (put b (memorySpan m i o) .bytes) (memoryAt m i .start) (memorySizeAfter (memoryAt m i) o)
-      ≡ cut (put b′ (memorySpan m′ i o) .bytes) (memoryAt m′ i .start) (memorySizeAfter (memoryAt m′ i) o)
-  unfolding put memorySpan memorySizeAfter occasion memoryOccasion reaches
+      → cut (put b (memoryEffect (memoryAt m i) (b .bytes) o .span) .bytes) (memoryAt m i .start) (memoryEffect (memoryAt m i) (b .bytes) o .size)
+      ≡ cut (put b′ (memoryEffect (memoryAt m′ i) bs o .span) .bytes) (memoryAt m′ i .start) (memoryEffect (memoryAt m′ i) bs o .size)
+  unfolding put memoryEffect holds checksOf given memoryChecks reaches
   memory-bytes i (memory.Grow pages) a h v =
       let x = memoryAt m i in
       let x′ = memoryAt m′ i in
@@ -288,10 +288,10 @@ module _ (r : ℕ) (m : Machine) (b : Buffers) (ms : List Memory) (ts : List Tab
 
   -- 11 to 14, 30: the memory named
   memory-named : (k : ℕ) (o : MemoryOp) → w .memory k ≡ true → Taken (op.Memory k o) → Memories (op.Memory k o)
-  unfolding acceptedStep countsAfter targetOf put spanOf
+  unfolding acceptedStep effectOf targetOf put
   memory-named k o n a =
       record {
-        room = same-bytes (op.Memory k o) a refl;
+        room = same-bytes (op.Memory k o) a refl refl;
         each = memories-but (op.Memory k o) a k refl refl (λ i h z. h)
             (λ h.
             let p = g .memory k n h in
@@ -300,8 +300,8 @@ module _ (r : ℕ) (m : Machine) (b : Buffers) (ms : List Memory) (ts : List Tab
       }
 
   -- the size of the table named
-  table-sizes : (i : ℕ) (o : TableOp) → SameTable m b m′ b′ i → tableSizeAfter (tableAt m i) o ≡ tableSizeAfter (tableAt m′ i) o
-  unfolding tableSizeAfter
+  table-sizes : (i : ℕ) (o : TableOp) → SameTable m b m′ b′ i → tableEffect (tableAt m i) (b .cells) o .size ≡ tableEffect (tableAt m′ i) cs o .size
+  unfolding tableEffect
   table-sizes i (table.Grow cells value) v = ap (λ (z : ℕ). z + cells) (v .size)
   table-sizes i table.Size v = v .size
   table-sizes i (table.Get index) v = v .size
@@ -318,9 +318,9 @@ module _ (r : ℕ) (m : Machine) (b : Buffers) (ms : List Memory) (ts : List Tab
 
   -- its cells
   table-cells : (i : ℕ) (o : TableOp) → Taken (op.Table i o) → i < m .counts .tables → SameTable m b m′ b′ i
-      → cut (put b (tableSpan m i o) .cells) (tableAt m i .start) (tableSizeAfter (tableAt m i) o)
-      ≡ cut (put b′ (tableSpan m′ i o) .cells) (tableAt m′ i .start) (tableSizeAfter (tableAt m′ i) o)
-  unfolding put tableSpan tableSizeAfter occasion tableOccasion
+      → cut (put b (tableEffect (tableAt m i) (b .cells) o .span) .cells) (tableAt m i .start) (tableEffect (tableAt m i) (b .cells) o .size)
+      ≡ cut (put b′ (tableEffect (tableAt m′ i) cs o .span) .cells) (tableAt m′ i .start) (tableEffect (tableAt m′ i) cs o .size)
+  unfolding put tableEffect holds checksOf given tableChecks
   table-cells i (table.Grow cells value) a h v =
       let f = table-held m b e r i (table.Grow cells value) h (a .0) in
       let f′ = table-held m′ b′ e′ r i (table.Grow cells value) h (a .1) in
@@ -340,10 +340,10 @@ module _ (r : ℕ) (m : Machine) (b : Buffers) (ms : List Memory) (ts : List Tab
 
   -- 21 to 25: the table named
   table-named : (k : ℕ) (o : TableOp) → w .table k ≡ true → Taken (op.Table k o) → Tables (op.Table k o)
-  unfolding acceptedStep countsAfter targetOf put spanOf
+  unfolding acceptedStep effectOf targetOf put
   table-named k o n a =
       record {
-        room = same-cells (op.Table k o) a refl;
+        room = same-cells (op.Table k o) a refl refl;
         each = tables-but (op.Table k o) a k refl refl (λ i h z. h)
             (λ h.
             let p = g .table k n h in
@@ -353,7 +353,7 @@ module _ (r : ℕ) (m : Machine) (b : Buffers) (ms : List Memory) (ts : List Tab
 
   -- 26: the destination, by cells of a source that is the same in both
   table-copied : (k j : ℕ) (s : CopySpan) → w .table k ≡ true → w .table j ≡ true → Taken (op.TableCopy k j s) → Tables (op.TableCopy k j s)
-  unfolding acceptedStep countsAfter targetOf put spanOf changeOf changed occasion copies
+  unfolding acceptedStep effectOf targetOf put changed holds checksOf given copies
   table-copied k j s n u a =
       let c = on-occasion r m b (op.TableCopy k j s) e (a .0) in
       let y : j < m .counts .tables = ltb-true _ _ (both-2 _ _ (both-1 _ _ c)) in
@@ -362,7 +362,7 @@ module _ (r : ℕ) (m : Machine) (b : Buffers) (ms : List Memory) (ts : List Tab
       let f : s .from + s .len ≤ tableAt m j .size = within-is _ _ _ (both-2 _ _ within) in
       let q = g .table j u y in
       record {
-        room = same-cells (op.TableCopy k j s) a refl;
+        room = same-cells (op.TableCopy k j s) a refl refl;
         each = tables-but (op.TableCopy k j s) a k refl refl (λ i h z. h)
             (λ h.
             let p = g .table k n h in
@@ -374,12 +374,12 @@ module _ (r : ℕ) (m : Machine) (b : Buffers) (ms : List Memory) (ts : List Tab
 
   -- 27: the table named, by the same items
   table-inited : (k j : ℕ) (s : CopySpan) → w .table k ≡ true → Taken (op.TableInit k j s) → Tables (op.TableInit k j s)
-  unfolding acceptedStep countsAfter targetOf put spanOf changeOf changed occasion inits
+  unfolding acceptedStep effectOf targetOf put changed holds checksOf given inits
   table-inited k j s n a =
       let c = on-occasion r m b (op.TableInit k j s) e (a .0) in
       let t : s .to + s .len ≤ tableAt m k .size = within-is _ _ _ (both-1 _ _ (both-1 _ _ (both-2 _ _ (both-2 _ _ c)))) in
       record {
-        room = same-cells (op.TableInit k j s) a refl;
+        room = same-cells (op.TableInit k j s) a refl refl;
         each = tables-but (op.TableInit k j s) a k refl refl (λ i h z. h)
             (λ h.
             let p = g .table k n h in
@@ -397,8 +397,8 @@ module _ (r : ℕ) (m : Machine) (b : Buffers) (ms : List Memory) (ts : List Tab
   segment-put i x = pick-ap (λ (y : Machine). y .segments) (ltb i 8) _ _ ∙ sym (pick-ap (λ (y : Machine). y .segments) (ltb i 8) _ _)
 
   -- the segments after each operation
-  pub segments-after : (op : Operation) → changed (changeOf m op) m .segments ≡ changed (changeOf m′ op) m′ .segments
-  unfolding changeOf nextItem
+  pub segments-after : (op : Operation) → changed (effects r m b op .change) m .segments ≡ changed (effects r m′ b′ op .change) m′ .segments
+  unfolding effectOf nextItem
   segments-after (op.Fuel o) = none-put
   segments-after (op.NewMemory room wanted) = memory-segments m _ _ ∙ sym (memory-segments m′ _ _)
   segments-after (op.Memory number o) = memory-segments m _ _ ∙ sym (memory-segments m′ _ _)
@@ -409,9 +409,22 @@ module _ (r : ℕ) (m : Machine) (b : Buffers) (ms : List Memory) (ts : List Tab
   segments-after (op.DropSegment segment) = segment-put _ _
   segments-after (op.NewSegment element items) = segment-put _ _
 
+  -- the numbers
+  pub counts-after : (op : Operation) → effects r m b op .counts ≡ effects r m′ b′ op .counts
+  unfolding effectOf
+  counts-after (op.Fuel o) = refl
+  counts-after (op.NewMemory room wanted) = refl
+  counts-after (op.Memory number o) = refl
+  counts-after (op.NewTable room wanted initial) = refl
+  counts-after (op.Table number o) = refl
+  counts-after (op.TableCopy into source span) = refl
+  counts-after (op.TableInit table segment span) = refl
+  counts-after (op.DropSegment segment) = refl
+  counts-after (op.NewSegment element items) = refl
+
   -- the items
-  pub items-after : (op : Operation) → Taken op → written m b op .items ≡ written m′ b′ op .items
-  unfolding put spanOf acceptedStep targetOf kindOf nextItem
+  pub items-after : (op : Operation) → Taken op → put b (effects r m b op .span) .items ≡ put b′ (effects r m′ b′ op .span) .items
+  unfolding put effectOf acceptedStep targetOf kindOf nextItem
   items-after (op.Fuel o) a = refl
   items-after (op.NewMemory room wanted) a = refl
   items-after (op.Memory number o) a = items-stay (op.Memory number o) a refl refl
@@ -424,26 +437,26 @@ module _ (r : ℕ) (m : Machine) (b : Buffers) (ms : List Memory) (ts : List Tab
 
   -- the memories
   pub memories-after : (op : Operation) → namesOnly w op ≡ true → Taken op → Memories op
-  unfolding namesOnly targetOf countsAfter kindOf
-  memories-after (op.Fuel o) n a = memories-stay (op.Fuel o) a refl refl refl
+  unfolding namesOnly targetOf effectOf kindOf
+  memories-after (op.Fuel o) n a = memories-stay (op.Fuel o) a refl refl refl refl
   memories-after (op.NewMemory room wanted) n a = memory-made room wanted a
   memories-after (op.Memory number o) n a = memory-named number o n a
-  memories-after (op.NewTable room wanted initial) n a = memories-stay (op.NewTable room wanted initial) a refl refl refl
-  memories-after (op.Table number o) n a = memories-stay (op.Table number o) a refl refl refl
-  memories-after (op.TableCopy into source span) n a = memories-stay (op.TableCopy into source span) a refl refl refl
-  memories-after (op.TableInit table segment span) n a = memories-stay (op.TableInit table segment span) a refl refl refl
-  memories-after (op.DropSegment segment) n a = memories-stay (op.DropSegment segment) a refl refl refl
-  memories-after (op.NewSegment element items) n a = memories-stay (op.NewSegment element items) a refl refl refl
+  memories-after (op.NewTable room wanted initial) n a = memories-stay (op.NewTable room wanted initial) a refl refl refl refl
+  memories-after (op.Table number o) n a = memories-stay (op.Table number o) a refl refl refl refl
+  memories-after (op.TableCopy into source span) n a = memories-stay (op.TableCopy into source span) a refl refl refl refl
+  memories-after (op.TableInit table segment span) n a = memories-stay (op.TableInit table segment span) a refl refl refl refl
+  memories-after (op.DropSegment segment) n a = memories-stay (op.DropSegment segment) a refl refl refl refl
+  memories-after (op.NewSegment element items) n a = memories-stay (op.NewSegment element items) a refl refl refl refl
 
   -- the tables
   pub tables-after : (op : Operation) → namesOnly w op ≡ true → Taken op → Tables op
-  unfolding namesOnly targetOf countsAfter kindOf
-  tables-after (op.Fuel o) n a = tables-stay (op.Fuel o) a refl refl refl
-  tables-after (op.NewMemory room wanted) n a = tables-stay (op.NewMemory room wanted) a refl refl refl
-  tables-after (op.Memory number o) n a = tables-stay (op.Memory number o) a refl refl refl
+  unfolding namesOnly targetOf effectOf kindOf
+  tables-after (op.Fuel o) n a = tables-stay (op.Fuel o) a refl refl refl refl
+  tables-after (op.NewMemory room wanted) n a = tables-stay (op.NewMemory room wanted) a refl refl refl refl
+  tables-after (op.Memory number o) n a = tables-stay (op.Memory number o) a refl refl refl refl
   tables-after (op.NewTable room wanted initial) n a = table-made room wanted initial a
   tables-after (op.Table number o) n a = table-named number o n a
   tables-after (op.TableCopy into source span) n a = table-copied into source span (both-1 _ _ n) (both-2 _ _ n) a
   tables-after (op.TableInit table segment span) n a = table-inited table segment span n a
-  tables-after (op.DropSegment segment) n a = tables-stay (op.DropSegment segment) a refl refl refl
-  tables-after (op.NewSegment element items) n a = tables-stay (op.NewSegment element items) a refl refl refl
+  tables-after (op.DropSegment segment) n a = tables-stay (op.DropSegment segment) a refl refl refl refl
+  tables-after (op.NewSegment element items) n a = tables-stay (op.NewSegment element items) a refl refl refl refl

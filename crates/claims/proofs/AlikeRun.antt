@@ -23,7 +23,7 @@ use Rattle.claims.specs.Alike.{Watched, namesOnly, allNameOnly, Agree, S
 use Rattle.claims.proofs.Exits.{accepted-does}
 use Rattle.claims.proofs.Left.{refused-keeps}
 use Rattle.claims.proofs.Alike.{beside, ofStep, step-alike}
-use Rattle.claims.proofs.Agreeing.{segments-after, items-after, memories-after, tables-after}
+use Rattle.claims.proofs.Agreeing.{segments-after, counts-after, items-after, memories-after, tables-after}
 
 -- what two steps leave agrees
 abbrev AgreeAfter : Watched → Stepped → Stepped → Type 0
@@ -56,7 +56,7 @@ module _ (r : ℕ) (m : Machine) (b : Buffers) (ms : List Memory) (ts : List Tab
         rest = record {
           fuel = f;
           limiter = l;
-          counts = refl;
+          counts = counts-after r m b ms ts bs cs e e′ w g op;
           bytes = p .room;
           cells = q .room;
           segments = segments-after r m b ms ts bs cs e e′ w g op;

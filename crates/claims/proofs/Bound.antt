@@ -36,9 +36,10 @@ use Rattle.machine.specs.declared.operation.TableOp.the-variants as table
 use Rattle.machine.proofs.Rooms.{parts, table-sound}
 use Rattle.claims.specs.Answers.{accepted}
 use Rattle.claims.specs.Metered.{Metering, Free, Sets, Charges, GrowsPages, GrowsCells, Spans, Inits, fuelMetering, memoryMetering, tableMetering, meteringOf, meets, lengthOf, bytesOf, priceFor, priceOf, affords, passes}
-use Rattle.claims.specs.Occasions.{growsMemory, memoryOccasion, growsTable, tableOccasion, copies, inits, occasion}
+use Rattle.claims.specs.Occasions.{holds, granted, memoryChecks, tableChecks, copies, inits, checksOf, occasion}
 use Rattle.claims.specs.Effects.{fuelBy, fuelAfter, acceptedStep}
 use Rattle.claims.specs.Bound.{wrote, pays, totals, mostR, mostBytes}
+use Rattle.claims.proofs.Checks.{given-1, given-2, growing-some}
 use Rattle.claims.proofs.Exiting.{branch}
 use Rattle.claims.proofs.Exits.{refusal-leaves, accepted-when, accepted-does}
 
@@ -81,10 +82,10 @@ by-meeting f p (Spans len) e = refl
 by-meeting f p (Inits len) e = pick-true _ _ _ e
 
 -- where the length is not 0
-not-none : (n : ℕ) {t : Bool} → ltb 0 n ≡ true → pick (eqb n 0) true t ≡ true → t ≡ true
-not-none n e k =
+not-none : (n : ℕ) → ltb 0 n ≡ true → eqb n 0 ≡ false
+not-none n e =
     let h : 0 < n = ltb-true 0 n e in
-    sym (pick-false _ _ _ (ne-eqb n 0 (λ z. absurd (omega (arith, z))))) ∙ k
+    ne-eqb n 0 (λ z. absurd (omega (arith, z)))
 
 -- one pass: what is paid covers its bytes but for less than a unit
 covered : (b n : ℕ) → 1 ≤ b → n < 2 ^ 64 → n ≤ mostBytes b (price b n) 1
@@ -116,10 +117,10 @@ module _ (r : ℕ) (m : Machine) (b : Buffers) where
       cells-short i n k (omega (arith, within-is start n _ h)) small s
 
   -- 11 to 14, 30: a growth of a memory
-  payable-memory : (i : ℕ) (o : MemoryOp) → meets (memoryMetering i o) ≡ true → memoryOccasion r m i o ≡ true → Payable (memoryMetering i o)
-  unfolding memoryMetering meets memoryOccasion growsMemory mayHave lengthOf
+  payable-memory : (i : ℕ) (o : MemoryOp) → meets (memoryMetering i o) ≡ true → holds (granted m) (memoryChecks r m i o) ≡ true → Payable (memoryMetering i o)
+  unfolding memoryMetering meets holds memoryChecks mayHave lengthOf
   payable-memory i (memory.Grow pages) p e =
-      let tests = not-none pages p e in
+      let tests = growing-some _ pages _ _ (not-none pages p) e in
       let below : (pagesOf (memoryAt m i) + pages) * pageBytes (memoryAt m i .ty .page) < 2 ^ 64 = ltb-true _ _ (both-2 _ _ (both-2 _ _ (both-1 _ _ tests))) in
       let fewer : pages ≤ pagesOf (memoryAt m i) + pages = omega arith in
       record {
@@ -132,11 +133,11 @@ module _ (r : ℕ) (m : Machine) (b : Buffers) where
   payable-memory i (memory.LinkCheck wanted) p e = absurd (false≢true p)
 
   -- 21 to 25: a growth of a table, and a fill
-  payable-table : (i : ℕ) (o : TableOp) → meets (tableMetering i o) ≡ true → ltb i (m .counts .tables) ≡ true → tableOccasion r m i o ≡ true
+  payable-table : (i : ℕ) (o : TableOp) → meets (tableMetering i o) ≡ true → ltb i (m .counts .tables) ≡ true → holds (granted m) (tableChecks r m i o) ≡ true
       → Payable (tableMetering i o)
-  unfolding tableMetering meets tableOccasion growsTable lengthOf
+  unfolding tableMetering meets holds tableChecks lengthOf
   payable-table i (table.Grow cells value) p k e =
-      let last = both-2 _ _ (both-2 _ _ (both-2 _ _ (not-none cells p (both-2 _ _ e)))) in
+      let last = both-2 _ _ (both-2 _ _ (both-2 _ _ (growing-some _ cells _ _ (not-none cells p) (given-2 _ _ _ e)))) in
       let held : tableAt m i .size + cells ≤ tableAt m i .room = leb-true _ _ (both-2 _ _ last) in
       record { affordable = both-1 _ _ last; short = cells-short i cells k (omega arith) }
   payable-table i table.Size p k e = absurd (false≢true p)
@@ -156,19 +157,19 @@ module _ (r : ℕ) (m : Machine) (b : Buffers) where
 
   -- every operation that meets the fuel step
   pub payable : (op : Operation) → meets (meteringOf op) ≡ true → occasion r m b op ≡ true → Payable (meteringOf op)
-  unfolding meteringOf meets occasion copies inits lengthOf
+  unfolding meteringOf meets holds checksOf copies inits lengthOf
   payable (op.Fuel o) p e = absurd (false≢true (sym (fuel-free o) ∙ p))
   payable (op.NewMemory room wanted) p e = absurd (false≢true p)
-  payable (op.Memory number o) p e = payable-memory number o p (both-2 _ _ e)
+  payable (op.Memory number o) p e = payable-memory number o p (given-2 _ _ _ e)
   payable (op.NewTable room wanted initial) p e = absurd (false≢true p)
-  payable (op.Table number o) p e = payable-table number o p (both-1 _ _ e) (both-2 _ _ e)
+  payable (op.Table number o) p e = payable-table number o p (given-1 _ _ _ e) (given-2 _ _ _ e)
   payable (op.TableCopy into source span) p e =
       let last = both-2 _ _ (both-2 _ _ e) in
       record { affordable = both-2 _ _ last; short = cells-inside into (span .to) (span .len) (both-1 _ _ (both-1 _ _ e)) (both-1 _ _ (both-1 _ _ last)) }
   payable (op.TableInit table segment span) p e =
       let last = both-2 _ _ (both-2 _ _ e) in
       record {
-        affordable = not-none (span .len) p (both-2 _ _ last);
+        affordable = sym (pick-false _ _ _ (not-none (span .len) p)) ∙ both-2 _ _ last;
         short = cells-inside table (span .to) (span .len) (both-1 _ _ (both-1 _ _ e)) (both-1 _ _ (both-1 _ _ last));
       }
   payable (op.DropSegment segment) p e = absurd (false≢true p)

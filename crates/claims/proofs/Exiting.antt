@@ -33,10 +33,10 @@ use Rattle.machine.specs.declared.outcome.Change.{Change}
 use Rattle.machine.specs.declared.outcome.Change.the-variants as change
 use Rattle.machine.specs.declared.operation.Operation.{Operation}
 use Rattle.claims.specs.Answers.{accepted, listed}
-use Rattle.claims.specs.Metered.{Metering, meteringOf, grows, priceOf, affords, grants, unlimited, erredAfter8, paidRefusal}
-use Rattle.claims.specs.Occasions.{granted, occasion}
-use Rattle.claims.specs.Effects.{answerOf, changeOf, countsAfter, fuelAfter, askedBy, limiterAfter, written, acceptedStep}
-use Rattle.claims.specs.Script.{question}
+use Rattle.claims.specs.Metered.{meteringOf, grows, priceOf, affords, grants, unlimited, erredAfter8, paidRefusal}
+use Rattle.claims.specs.Occasions.{granted, occasion, question}
+use Rattle.claims.specs.Spans.{put}
+use Rattle.claims.specs.Effects.{effectOf, fuelAfter, askedOf, effects, acceptedStep}
 use Rattle.claims.proofs.Heard.{Onward, no-question, heard-no, heard-told, moved-once, moved-twice}
 use Rattle.claims.proofs.Exit.{stays, Exit, accepts, refuses}
 
@@ -137,10 +137,6 @@ pub put-back-stays : (m : Machine) (b : Buffers) (c : Change) → changed c m �
 unfolding settled
 put-back-stays m b c k x f l = ap (λ (n : Machine). record { answer = answer.Refusal x; machine = standing n (m .counts) f l; buffers = b }) k
 
--- what does not grow asks the limiter nothing
-pub asks-none : (l : Limiter) (x : Metering) → grows x ≡ false → l ≡ askedBy l x
-asks-none l x g = sym (pick-false _ _ _ (both-left _ _ g))
-
 -- what is shown of a step that came to these checks
 abbrev pub Ends : ℕ → Machine → Buffers → Operation → Performed → Type 0
 Ends r m b op p = step r m b op ≡ after m p → Exit r m b op (occasion r m b op)
@@ -150,6 +146,12 @@ abbrev pub spans : Machine → Change → Done Spanned → Done Outcome
 spans m c s =
     done (record { answer = s .out .answer; change = c; counts = m .counts; fuel = s .out .fuel; limiter = m .limiter }) (s .cells)
 
+-- what an accepted operation leaves, with such fuel and limiter
+abbrev pub doing : Machine → Buffers → Operation → Fuel → Limiter → Performed
+doing m b op f l =
+    let e = effectOf m b l op in
+    onNone (record { answer = e .answer; change = e .change; counts = e .counts; fuel = f; limiter = e .limiter }) (put b (e .span))
+
 module _ (r : ℕ) (m : Machine) (b : Buffers) (op : Operation) where
   -- on a sound machine a well-formed operation comes to its own checks
   pub step-is : soundOver m b ≡ true → wellFormed op ≡ true → step r m b op ≡ after m (perform r m b op)
@@ -158,8 +160,8 @@ module _ (r : ℕ) (m : Machine) (b : Buffers) (op : Operation) where
 
   -- answer, change, numbers, fuel, limiter and buffers are the ones described
   pub accepted-is : {a : Answer} {c : Change} {k : Counts} {f : Fuel} {l : Limiter} {b′ : Buffers}
-      → a ≡ answerOf m b op → c ≡ changeOf m op → k ≡ countsAfter (m .counts) op → f ≡ fuelAfter r m op → l ≡ limiterAfter (m .limiter) op
-      → b′ ≡ written m b op
+      → a ≡ effects r m b op .answer → c ≡ effects r m b op .change → k ≡ effects r m b op .counts → f ≡ fuelAfter r m op → l ≡ effects r m b op .limiter
+      → b′ ≡ put b (effects r m b op .span)
       → after m (onNone (record { answer = a; change = c; counts = k; fuel = f; limiter = l }) b′) ≡ acceptedStep r m b op
   unfolding acceptedStep settled
   accepted-is ea ec ek ef el eb =
@@ -200,33 +202,22 @@ module _ {r : ℕ} {m : Machine} {b : Buffers} {op : Operation} where
       let a = ap (λ (y : Stepped). accepted (y .answer)) s in
       refuses x f l (record { none = o; same = s; known = h .known; sound = λ e. h .sound; fuel = p; script = t a })
 
-  -- accepted, with fuel and limiter as they come
-  pub accepting-by : {f : Fuel} {l : Limiter} → f ≡ fuelAfter r m op → l ≡ limiterAfter (m .limiter) op → occasion r m b op ≡ true
-      → accepted (answerOf m b op) ≡ true
-      → Ends r m b op
-      (onNone (record { answer = answerOf m b op; change = changeOf m op; counts = countsAfter (m .counts) op; fuel = f; limiter = l }) (written m b op))
-  accepting-by p h o v q = accepts o v (q ∙ accepted-is r m b op refl refl refl p h refl)
+  -- accepted, with the fuel as it comes, asked or not
+  pub accepting-by : {f : Fuel} (l : Limiter) → f ≡ fuelAfter r m op → l ≡ askedOf r m b op → occasion r m b op ≡ true
+      → accepted (effects r m b op .answer) ≡ true → Ends r m b op (doing m b op f l)
+  unfolding acceptedStep settled
+  accepting-by l p h o v q = accepts o v (q ∙ (λ i. after m (doing m b op (p i) (h i))))
 
-  -- accepted
-  pub accepting : occasion r m b op ≡ true → accepted (answerOf m b op) ≡ true
-      → Ends r m b op
-      (onNone
-      (record {
-        answer = answerOf m b op;
-        change = changeOf m op;
-        counts = countsAfter (m .counts) op;
-        fuel = fuelAfter r m op;
-        limiter = limiterAfter (m .limiter) op;
-      })
-      (written m b op))
-  accepting o v = accepting-by refl refl o v
+  pub accepting : {f : Fuel} → f ≡ fuelAfter r m op → question r m b op ≡ false → occasion r m b op ≡ true
+      → accepted (effects r m b op .answer) ≡ true → Ends r m b op (doing m b op f (m .limiter))
+  accepting p u = accepting-by (m .limiter) p (sym (pick-false _ _ _ u))
 
   -- the checks of a creation in sound room: 1, one more, limiter 3 or 4, 5 with notice
   pub creating : {X : Type 0} (out : X → Performed) (kept : Limiter → Refusal → X) (made : X) (sound valid more fits : Bool) (number : ℕ)
       → soundOver m b ≡ true → wellFormed op ≡ true → sound ≡ true → Named (refusal number 0)
       → ((x : Refusal) (l : Limiter) → Named x → occasion r m b op ≡ false → Onward r m b op l → Ends r m b op (out (kept l x)))
-      → question m b op ≡ both valid more → occasion r m b op ≡ both (question m b op) (both (granted m) fits)
-      → (occasion r m b op ≡ true → Ends r m b op (out made))
+      → question r m b op ≡ both valid more → occasion r m b op ≡ both (question r m b op) (both (granted m) fits)
+      → (question r m b op ≡ true → occasion r m b op ≡ true → Ends r m b op (out made))
       → Ends r m b op
       (out
       (unless sound (kept (m .limiter) (refusal 19 0))
@@ -250,7 +241,7 @@ module _ {r : ℕ} {m : Machine} {b : Buffers} {op : Operation} where
       (λ z.
       let g = grants-yes _ t z in
       branch To _ _ _
-      (λ i. f (o ∙ both-true _ _ q (both-true _ _ g i)))
+      (λ i. f q (o ∙ both-true _ _ q (both-true _ _ g i)))
       (λ i.
       refused _ _ (heard-named _ _ (named 5 refl refl)) (o ∙ both-right _ _ (both-right _ _ i))
       (λ n. moved-twice r m b op (heard-told r m b op e w q g n))))))
@@ -261,10 +252,10 @@ module _ {r : ℕ} {m : Machine} {b : Buffers} {op : Operation} where
       To x = Ends r m b op (out x)
 
       -- before the limiter's question, and at it
-      early : (x : Refusal) → Named x → question m b op ≡ false → To (kept (m .limiter) x)
+      early : (x : Refusal) → Named x → question r m b op ≡ false → To (kept (m .limiter) x)
       early x k q = refused x _ k (o ∙ both-left _ _ q) (λ p. no-question r m b op q)
 
-      denied : (k : ℕ) → Named (refusal k 0) → question m b op ≡ true → granted m ≡ false → To (kept (moved (m .limiter)) (refusal k 0))
+      denied : (k : ℕ) → Named (refusal k 0) → question r m b op ≡ true → granted m ≡ false → To (kept (moved (m .limiter)) (refusal k 0))
       denied k n q g = refused _ _ n (o ∙ both-right _ _ (both-left _ _ g)) (λ p. moved-once r m b op (heard-no r m b op e w q g))
 
   module _ (c : Change) (k : changed c m ≡ m) (g : grows (meteringOf op) ≡ false) where
@@ -274,7 +265,7 @@ module _ {r : ℕ} {m : Machine} {b : Buffers} {op : Operation} where
     unfolding paidRefusal
     refusing-by x l h o t q = refused-with h o (q ∙ put-back-stays m b c k x (m .fuel) l) (sym (pick-false _ _ _ (both-left _ _ g))) t
 
-    module _ (u : question m b op ≡ false) where
+    module _ (u : question r m b op ≡ false) where
       -- that asks the limiter nothing
       pub refusing : (x : Refusal) → Named x → occasion r m b op ≡ false
           → Ends r m b op (onNone (record { answer = answer.Refusal x; change = c; counts = m .counts; fuel = m .fuel; limiter = m .limiter }) b)
@@ -318,12 +309,12 @@ module _ {r : ℕ} {m : Machine} {b : Buffers} {op : Operation} where
   leaving-by x l h g o t = refusing-by change.Nothing (nothing-put m) g x l h o t
 
   -- that asks the limiter nothing
-  pub leaving : (x : Refusal) → Named x → grows (meteringOf op) ≡ false → question m b op ≡ false → occasion r m b op ≡ false
+  pub leaving : (x : Refusal) → Named x → grows (meteringOf op) ≡ false → question r m b op ≡ false → occasion r m b op ≡ false
       → Ends r m b op (onNone (keeps m (answer.Refusal x)) b)
   leaving x h g u o = leaving-by x (m .limiter) h g o (λ n. no-question r m b op u)
 
   -- 16, whatever is not in use
-  pub unknown : question m b op ≡ false → occasion r m b op ≡ false → Ends r m b op (onNone (keeps m (refuse 16 0)) b)
+  pub unknown : question r m b op ≡ false → occasion r m b op ≡ false → Ends r m b op (onNone (keeps m (refuse 16 0)) b)
   unfolding settled changed
   unknown u o q =
       refused-with (named 16 refl refl) o q (sym (pick-false _ _ _ (unpaid r m b op 16 (stays-number r m b op q) refl refl))) (λ n. no-question r m b op u)

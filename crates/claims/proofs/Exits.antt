@@ -55,7 +55,7 @@ exit r m b (op.NewSegment element items) s w = new-segment-exit r m b element it
 module _ (r : ℕ) (m : Machine) (b : Buffers) (op : Operation) where
   -- 18 and 19 leave everything
   first : (n : ℕ) → decide r m b op ≡ onNone (keeps m (refuse n 0)) b → acceptedWhen r m b op ≡ false → listed (refusal n 0) ≡ true
-      → eqb n 8 ≡ false → eqb n 4 ≡ false → asks m b op ≡ false → (soundOver m b ≡ true → n ≡ 19 → ⊥) → Exit r m b op (acceptedWhen r m b op)
+      → eqb n 8 ≡ false → eqb n 4 ≡ false → asks r m b op ≡ false → (soundOver m b ≡ true → n ≡ 19 → ⊥) → Exit r m b op (acceptedWhen r m b op)
   unfolding step settled changed numberOf
   first n e w k p q a h =
       refuses (refusal n 0) (m .fuel) (m .limiter)

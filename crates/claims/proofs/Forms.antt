@@ -31,8 +31,8 @@ use Rattle.machine.proofs.Forming.{put-form}
 use Rattle.machine.proofs.Settling.{Eights, eights, changed-eights}
 use Rattle.claims.specs.Answers.{accepted}
 use Rattle.claims.specs.Metered.{Metering, Free, Sets, Charges, GrowsPages, GrowsCells, Spans, Inits, meteringOf, priceOf}
-use Rattle.claims.specs.Occasions.{fuelOccasion, occasion}
-use Rattle.claims.specs.Effects.{changeOf, fuelBy, handedTo, acceptedStep}
+use Rattle.claims.specs.Occasions.{holds, fuelOccasion, checksOf, occasion}
+use Rattle.claims.specs.Effects.{handedTo, effectOf, fuelBy, effects, acceptedStep}
 use Rattle.claims.specs.Script.{heard, movedBy, replaced, scriptAfter}
 use Rattle.claims.proofs.Exiting.{branch}
 use Rattle.claims.proofs.Exits.{refusal-leaves, accepted-when, accepted-does}
@@ -99,8 +99,8 @@ by-costs f p (Inits len) = branch (λ (g : Fuel). g .costs ≡ f .costs) _ _ _ (
 
 -- a script that another takes the place of
 module _ (r : ℕ) (m : Machine) (b : Buffers) where
-  replaced-answers : (l : Limiter) (o : Operation) → occasion r m b o ≡ true → Answers l → Answers (replaced l o)
-  unfolding occasion replaced
+  replaced-answers : (l : Limiter) (o : Operation) → occasion r m b o ≡ true → Answers l → Answers (replaced m b l o)
+  unfolding holds checksOf effectOf
   replaced-answers l (op.Fuel o) e h = handed-answers m l o e h
   replaced-answers l (op.NewMemory room wanted) e h = h
   replaced-answers l (op.Memory number o) e h = h
@@ -133,7 +133,7 @@ module _ (r : ℕ) (m : Machine) (b : Buffers) (op : Operation) where
   step-eights h =
       either (accepted (step r m b op .answer))
       (λ a.
-      let d = changed-eights (changeOf m op) m h in
+      let d = changed-eights (effects r m b op .change) m h in
       subst (λ (s : Stepped). Eights (s .machine)) (sym (accepted-does r m b op a)) (record { memories = d .memories; tables = d .tables; segments = d .segments }))
       (λ a. subst Eights (sym (refusal-leaves r m b op a .records)) (record { memories = h .memories; tables = h .tables; segments = h .segments }))
 

@@ -24,9 +24,9 @@ use Rattle.machine.specs.declared.records.Machine.{Machine}
 use Rattle.machine.specs.declared.operation.Operation.{Operation}
 use Rattle.claims.specs.Answers.{accepted}
 use Rattle.claims.specs.Metered.{meteringOf, grows, priceOf, affords, unlimited, paidRefusal}
-use Rattle.claims.specs.Occasions.{granted, occasion}
-use Rattle.claims.specs.Effects.{answerOf, acceptedStep}
-use Rattle.claims.specs.Script.{question, heard}
+use Rattle.claims.specs.Occasions.{granted, occasion, question}
+use Rattle.claims.specs.Effects.{effects, acceptedStep}
+use Rattle.claims.specs.Script.{heard}
 use Rattle.claims.proofs.Heard.{onward, no-question, heard-no, heard-told, moved-once, moved-twice}
 use Rattle.claims.proofs.Exit.{stays, Exit, accepts}
 use Rattle.claims.proofs.Exiting.{branch, Named, named, named-7, heard-named, grants-no, grants-error, grants-yes, short-not, affords-all, step-is, number, quiet, stays-number, paid-is, unpaid, refused-with}
@@ -82,7 +82,7 @@ module _ (r : ℕ) (m : Machine) (b : Buffers) (op : Operation) where
           → step r m b op
           ≡ stays m b (heardOf (saysOf (moved (m .limiter))) (refusal k a)) (pick (eqb k 8) (paid (m .fuel) (priceOf r m op)) (m .fuel)) (moved (moved (m .limiter)))
           → Grew
-      grown : occasion r m b op ≡ true → accepted (answerOf m b op) ≡ true → step r m b op ≡ acceptedStep r m b op → Grew
+      grown : occasion r m b op ≡ true → accepted (effects r m b op .answer) ≡ true → step r m b op ≡ acceptedStep r m b op → Grew
 
     -- each way is an exit
     pub grew-exit : grows (meteringOf op) ≡ true → Grew → Exit r m b op (occasion r m b op)
@@ -122,18 +122,18 @@ module _ (r : ℕ) (m : Machine) (b : Buffers) (op : Operation) where
         pub stop : (l : Limiter) (x : Refusal) (f : Fuel) (l′ : Limiter) → after (metered m (m .fuel) l) (out (kept x f l′)) ≡ stays m b x f l′
         pub when : occasion r m b op
             ≡ both used (both kind (pick (eqb n 0) true (both may (both (granted m) (both admits (both (affords m (priceOf r m op)) fits))))))
-        pub asks : question m b op ≡ both used (both kind (both (ltb 0 n) may))
-        pub value : accepted (answerOf m b op) ≡ true
-        pub by-none : used ≡ true → n ≡ 0 → after m (out (none (m .limiter))) ≡ acceptedStep r m b op
-        pub by-some : used ≡ true → ltb 0 n ≡ true → after m (out (all (m .limiter))) ≡ acceptedStep r m b op
+        pub asks : question r m b op ≡ both used (both kind (pick (eqb n 0) false may))
+        pub value : accepted (effects r m b op .answer) ≡ true
+        pub by-none : used ≡ true → n ≡ 0 → question r m b op ≡ false → after m (out (none (m .limiter))) ≡ acceptedStep r m b op
+        pub by-some : used ≡ true → ltb 0 n ≡ true → question r m b op ≡ true → after m (out (all (m .limiter))) ≡ acceptedStep r m b op
 
       module _ (c : Checks (priceOf r m op)) (u : used ≡ true) where
         abbrev To : X → Type 0
         To x = step r m b op ≡ after m (out x) → Grew
 
         -- it comes to these checks, with any limiter
-        comes : (l : Limiter) → step r (metered m (m .fuel) l) b op ≡ after (metered m (m .fuel) l) (out (chain (priceOf r m op) l))
-        comes l = step-is r (metered m (m .fuel) l) b op (limiter-sound m b l (c .sound)) (c .formed) ∙ ap (after (metered m (m .fuel) l)) (c .known u l)
+        comes-to : (l : Limiter) → step r (metered m (m .fuel) l) b op ≡ after (metered m (m .fuel) l) (out (chain (priceOf r m op) l))
+        comes-to l = step-is r (metered m (m .fuel) l) b op (limiter-sound m b l (c .sound)) (c .formed) ∙ ap (after (metered m (m .fuel) l)) (c .known u l)
 
         -- a refusal before the limiter grants it
         early : (k : ℕ) (l : Limiter) → l ≡ onward r m b op → Named (refusal k 0) → eqb k 8 ≡ false → eqb k 4 ≡ false → occasion r m b op ≡ false
@@ -141,7 +141,7 @@ module _ (r : ℕ) (m : Machine) (b : Buffers) (op : Operation) where
         early k l t h p q o s = before k l t h p q o (s ∙ c .stop (m .limiter) _ _ _)
 
         -- before its question
-        unasked : both kind (both (ltb 0 n) may) ≡ false → m .limiter ≡ onward r m b op
+        unasked : both kind (pick (eqb n 0) false may) ≡ false → m .limiter ≡ onward r m b op
         unasked q = no-question r m b op (c .asks ∙ both-right _ _ q)
 
         module _ (k : kind ≡ true) (z : eqb n 0 ≡ false) (y : may ≡ true) where
@@ -152,8 +152,8 @@ module _ (r : ℕ) (m : Machine) (b : Buffers) (op : Operation) where
               lt-ltb 0 n (omega arith)
 
           -- it comes to the limiter's question
-          asking : question m b op ≡ true
-          asking = c .asks ∙ both-true _ _ u (both-true _ _ k (both-true _ _ some y))
+          asking : question r m b op ≡ true
+          asking = c .asks ∙ both-true _ _ u (both-true _ _ k (pick-false _ _ _ z ∙ y))
 
           -- the occasion from the limiter's question on
           after-question : occasion r m b op ≡ both (granted m) (both admits (both (affords m (priceOf r m op)) fits))
@@ -170,7 +170,7 @@ module _ (r : ℕ) (m : Machine) (b : Buffers) (op : Operation) where
               let h = heard-told r m b op (c .sound) (c .formed) asking g (ap (λ (s : Stepped). accepted (s .answer)) t) in
               told j a h u some g (after-question ∙ both-right _ _ o) x d p
               (ap (λ (s : Stepped). numberOf (s .answer))
-              (comes noLimiter
+              (comes-to noLimiter
               ∙ ap (λ (x : X). after (unlimited m) (out x))
               (pick-true _ _ _ k ∙ pick-false _ _ _ z ∙ pick-true _ _ _ y ∙ pick-false _ _ _ (ap (λ (t : ℕ). eqb t 1) none-says)
               ∙ pick-false _ _ _ (ap (λ (t : ℕ). eqb t 2) none-says) ∙ q noLimiter)
@@ -191,7 +191,7 @@ module _ (r : ℕ) (m : Machine) (b : Buffers) (op : Operation) where
               (λ p.
               let d = affords-all m (priceOf r m op) p in
               branch To fits _ _
-              (λ f s. grown (after-question ∙ both-true _ _ g (both-true _ _ a (both-true _ _ d f))) (c .value) (s ∙ c .by-some u some))
+              (λ f s. grown (after-question ∙ both-true _ _ g (both-true _ _ a (both-true _ _ d f))) (c .value) (s ∙ c .by-some u some asking))
               (λ f.
               notice 8 0 (paid (m .fuel) (priceOf r m op)) g (both-right _ _ (both-right _ _ f)) (named 8 refl refl) refl (sym (both-true _ _ a d))
               (sym (pick-true _ _ _ refl)) (λ l. pick-true _ _ _ a ∙ pick-false _ _ _ p ∙ pick-false _ _ _ f))))
@@ -226,14 +226,15 @@ module _ (r : ℕ) (m : Machine) (b : Buffers) (op : Operation) where
             (λ k.
             branch To (eqb n 0) _ _
             (λ z s.
-            grown (c .when ∙ both-true _ _ u (both-true _ _ k (pick-true _ _ _ z))) (c .value) (s ∙ c .by-none u (eqb-true n 0 z)))
+            grown (c .when ∙ both-true _ _ u (both-true _ _ k (pick-true _ _ _ z))) (c .value)
+            (s ∙ c .by-none u (eqb-true n 0 z) (c .asks ∙ both-right _ _ (both-right _ _ (pick-true _ _ _ z)))))
             (λ z.
             branch To may _ _ (asked-grew k z)
             (λ y.
-            early 6 _ (unasked (both-right _ _ (both-right _ _ y))) (named 6 refl refl) refl refl
+            early 6 _ (unasked (both-right _ _ (pick-false _ _ _ z ∙ y))) (named 6 refl refl) refl refl
             (c .when ∙ both-right _ _ (both-right _ _ (pick-false _ _ _ z ∙ both-left _ _ y))))))
             (λ k. early 14 _ (unasked (both-left _ _ k)) (named 14 refl refl) refl refl (c .when ∙ both-right _ _ (both-left _ _ k)))
-            (comes (m .limiter))
+            (comes-to (m .limiter))
 
       -- a growth with these checks ends in one of the ways
       pub grew : (p : ℕ) → (used ≡ true → p ≡ priceOf r m op) → Checks p → Grew

@@ -12,8 +12,8 @@ use Rattle.machine.specs.Step.{step}
 use Rattle.machine.specs.declared.records.Machine.{Machine}
 use Rattle.machine.specs.declared.operation.Operation.{Operation}
 use Rattle.claims.specs.Answers.{accepted}
-use Rattle.claims.specs.Occasions.{granted}
-use Rattle.claims.specs.Script.{question, asks, heard, movedBy, scriptAfter}
+use Rattle.claims.specs.Occasions.{granted, question}
+use Rattle.claims.specs.Script.{asks, heard, movedBy, scriptAfter}
 
 module _ (r : ℕ) (m : Machine) (b : Buffers) (op : Operation) where
   -- the script moved on by what was heard
@@ -30,16 +30,16 @@ module _ (r : ℕ) (m : Machine) (b : Buffers) (op : Operation) where
   refused-leaves n = pick-false _ _ _ n
 
   -- none unasked: the script stays
-  pub unasked : asks m b op ≡ false → m .limiter ≡ onward
+  pub unasked : asks r m b op ≡ false → m .limiter ≡ onward
   unfolding heard movedBy
   unasked a = ap (λ (n : ℕ). movedBy n (m .limiter)) (sym (pick-false _ _ _ a))
 
-  pub no-question : question m b op ≡ false → m .limiter ≡ onward
+  pub no-question : question r m b op ≡ false → m .limiter ≡ onward
   no-question q = unasked (both-right _ _ (both-right _ _ q))
 
-  module _ (e : soundOver m b ≡ true) (w : wellFormed op ≡ true) (q : question m b op ≡ true) where
+  module _ (e : soundOver m b ≡ true) (w : wellFormed op ≡ true) (q : question r m b op ≡ true) where
     -- it is asked
-    asked : asks m b op ≡ true
+    asked : asks r m b op ≡ true
     asked = both-true _ _ w (both-true _ _ e q)
 
     -- no notice follows the limiter's own refusal

@@ -49,10 +49,11 @@ use Rattle.machine.proofs.Rooms.{parts}
 use Rattle.machine.proofs.ListLaws.{few}
 use Rattle.claims.specs.Answers.{accepted}
 use Rattle.claims.specs.Metered.{Metering, Free, Sets, Charges, GrowsPages, GrowsCells, Spans, Inits, fuelMetering, memoryMetering, tableMetering, meteringOf, meets, grows, lengthOf, priceFor, priceOf, affords, paidRefusal}
-use Rattle.claims.specs.Occasions.{validWanted, fuelOccasion, makesMemory, makesTable, occasion}
-use Rattle.claims.specs.Effects.{answerOf, tableSizeAfter, changeOf, countsAfter, fuelBy, fuelAfter, limiterAfter, acceptedStep}
-use Rattle.claims.specs.Ledger.{Row, Book, blank, left, withPages, withTables, rowAt, erred, growthCharge, grown, entryBy, entry, limiterSays, book}
+use Rattle.claims.specs.Occasions.{given, holds, validWanted, fuelOccasion, checksOf, occasion}
+use Rattle.claims.specs.Effects.{tableEffect, effectOf, fuelBy, fuelAfter, effects, acceptedStep}
 use Rattle.claims.specs.Script.{heard, saysTo}
+use Rattle.claims.specs.Ledger.{Row, Book, blank, left, withPages, withTables, rowAt, erred, growthCharge, grown, entryBy, entry, limiterSays, book}
+use Rattle.claims.proofs.Checks.{given-1}
 use Rattle.claims.proofs.Exit.{stays}
 use Rattle.claims.proofs.Exiting.{branch, surely}
 use Rattle.claims.proofs.Growth as growth
@@ -237,7 +238,7 @@ module _ (r c : ℕ) (m : Machine) (b : Buffers) (k : Book) (w : Balanced c m k)
         subst (Fair said n admits p) (sym s)
         (record {
           some = λ t.
-              subst (λ (x : Fuel). Even c x (k .set) (k .since + noted k said admits p (answerOf m b op))) (sym (after-it ∙ pick-true _ _ _ t))
+              subst (λ (x : Fuel). Even c x (k .set) (k .since + noted k said admits p (effects r m b op .answer))) (sym (after-it ∙ pick-true _ _ _ t))
               (spend (w .fuel) (affords-is m _ (w .fuel .on) (payable r m b op (metered ∙ t) o .affordable)) (pick-true _ _ _ v ∙ same (in-use o) .0));
           none = λ t. subst (λ (x : Fuel). Even c x (k .set) (k .since)) (sym (after-it ∙ pick-false _ _ _ t)) (w .fuel);
         })
@@ -254,20 +255,20 @@ module _ (r c : ℕ) (m : Machine) (b : Buffers) (k : Book) (w : Balanced c m k)
   -- 11: a growth of a memory is fair
   memory-fair : (i n : ℕ) → let grow = op.Memory i (memory.Grow n) in
       Fair (saysTo (heard r m b grow) (m .limiter)) n true (price c (n * getD (k .pages) i 0)) (step r m b grow)
-  unfolding wellFormed memoryWellFormed occasion meteringOf memoryMetering lengthOf fuelBy meets
+  unfolding wellFormed memoryWellFormed checksOf meteringOf memoryMetering lengthOf fuelBy meets
   memory-fair i n =
       any-fair (op.Memory i (memory.Grow n)) (ltb i (m .counts .memories)) n true true _
       (λ u. (by-rate _ _ (ap (λ (x : ℕ). n * x) (w .pages .each i (ltb-true _ _ u))), refl))
-      refl refl (both-1 _ _) refl (memory-grew r m b i n)
+      refl refl (given-1 _ _ _) refl (memory-grew r m b i n)
 
   -- 21: and one of a table
   table-fair : (i n : ℕ) (v : TypedRawRef) → let grow = op.Table i (table.Grow n v) in
       Fair (saysTo (heard r m b grow) (m .limiter)) n (admitsOf (rowAt k i .limits) (rowAt k i .size + n)) (price c (n * r)) (step r m b grow)
-  unfolding wellFormed occasion meteringOf tableMetering lengthOf fuelBy meets
+  unfolding wellFormed checksOf meteringOf tableMetering lengthOf fuelBy meets
   table-fair i n v =
       any-fair (op.Table i (table.Grow n v)) (ltb i (m .counts .tables)) n _ _ _
       (λ u. (by-rate _ _ refl, ap (λ (y : Row). admitsOf (y .limits) (y .size + n)) (sym (w .rows .each i (ltb-true _ _ u)))))
-      refl refl (both-1 _ _) refl (table-grew r m b i n v)
+      refl refl (given-1 _ _ _) refl (table-grew r m b i n v)
 
   -- of an accepted operation, by what it does
   taken : (op : Operation) (P : Stepped → Type 0) → accepted (step r m b op .answer) ≡ true
@@ -288,16 +289,16 @@ module _ (r c : ℕ) (m : Machine) (b : Buffers) (k : Book) (w : Balanced c m k)
   refused-free op g t = refusal-leaves r m b op t .fuel ∙ pick-false _ _ _ (both-left _ _ g)
 
   -- the records after an operation that makes no memory or table and changes no entry
-  settles : (op : Operation) (segments : ℕ) → countsAfter (m .counts) op ≡ record { memories = m .counts .memories; tables = m .counts .tables; segments = segments }
-      → Alike (changeOf m op) → (s n : ℕ) → Even c (step r m b op .machine .fuel) s n → Balanced c (step r m b op .machine) (amounts s n)
+  settles : (op : Operation) (segments : ℕ) → effects r m b op .counts ≡ record { memories = m .counts .memories; tables = m .counts .tables; segments = segments }
+      → Alike (effects r m b op .change) → (s n : ℕ) → Even c (step r m b op .machine .fuel) s n → Balanced c (step r m b op .machine) (amounts s n)
   unfolding acceptedStep
   settles op g q like s n e =
       either (accepted (step r m b op .answer))
       (λ t.
       taken op (λ (x : Stepped). Even c (x .machine .fuel) s n → Balanced c (x .machine) (amounts s n)) t
       (λ sound o v.
-      subst (λ (y : Counts). Balanced c (standing (changed (changeOf m op) m) y (fuelAfter r m op) (limiterAfter (m .limiter) op)) (amounts s n)) (sym q)
-      (stands sound g _ _ s n v (changeOf m op) like))
+      subst (λ (y : Counts). Balanced c (standing (changed (effects r m b op .change) m) y (fuelAfter r m op) (effects r m b op .limiter)) (amounts s n)) (sym q)
+      (stands sound g _ _ s n v (effects r m b op .change) like))
       e)
       (λ t. left-alone op t s n e)
 
@@ -356,8 +357,8 @@ module _ (r c : ℕ) (m : Machine) (b : Buffers) (k : Book) (w : Balanced c m k)
   Kept op = Balanced c (step r m b op .machine) (entry r c k op (step r m b op .answer) (saysTo (heard r m b op) (m .limiter)))
 
   -- an operation that is no growth and makes no memory or table
-  steady : (op : Operation) (segments : ℕ) → countsAfter (m .counts) op ≡ record { memories = m .counts .memories; tables = m .counts .tables; segments = segments }
-      → Alike (changeOf m op) → grows (meteringOf op) ≡ false → (occasion r m b op ≡ true → Due (meteringOf op))
+  steady : (op : Operation) (segments : ℕ) → effects r m b op .counts ≡ record { memories = m .counts .memories; tables = m .counts .tables; segments = segments }
+      → Alike (effects r m b op .change) → grows (meteringOf op) ≡ false → (occasion r m b op ≡ true → Due (meteringOf op))
       → Balanced c (step r m b op .machine) (entryBy r c k (meteringOf op) (step r m b op .answer) (saysTo (heard r m b op) (m .limiter)))
   steady op g q like flat due =
       entered _ (step r m b op .answer) _ (Balanced c (step r m b op .machine)) (settles op g q like) (refused-free op flat) (meteringOf op) flat
@@ -368,7 +369,7 @@ module _ (r c : ℕ) (m : Machine) (b : Buffers) (k : Book) (w : Balanced c m k)
 
   -- 01 to 04
   fuel-kept : (o : FuelOp) → Kept (op.Fuel o)
-  unfolding entry meteringOf fuelMetering grows changeOf countsAfter occasion fuelOccasion
+  unfolding entry meteringOf fuelMetering grows effectOf holds checksOf given fuelOccasion
   fuel-kept (fuel.SetFuel amount) = steady _ _ refl tt refl (λ o. tt)
   fuel-kept fuel.GetFuel = steady _ _ refl tt refl (λ o. tt)
   fuel-kept (fuel.Charge units) = steady _ _ refl tt refl (λ o. both-2 _ _ o)
@@ -385,7 +386,7 @@ module _ (r c : ℕ) (m : Machine) (b : Buffers) (k : Book) (w : Balanced c m k)
 
   -- 10: one more memory, and the bytes of its page
   new-memory-kept : (room : ℕ) (x : WantedMemory) → Kept (op.NewMemory room x)
-  unfolding entry meteringOf grows acceptedStep changeOf changed countsAfter fuelBy occasion makesMemory validWanted soundMemories
+  unfolding entry meteringOf grows acceptedStep effectOf changed fuelBy holds checksOf given validWanted soundMemories
   new-memory-kept room x =
       let make : Operation = op.NewMemory room x in
       let new : Book = withPages k (k .pages ++ (2 ^ (x .exponent) ∷ [])) in
@@ -393,7 +394,7 @@ module _ (r c : ℕ) (m : Machine) (b : Buffers) (k : Book) (w : Balanced c m k)
       (λ sound o.
       let free = both-1 _ _ (both-1 _ _ (both-1 _ _ o)) in
       let page = page-of (x .exponent) (both-1 _ _ (both-1 _ _ (both-2 _ _ (both-1 _ _ o)))) in
-      surely (λ (y : Machine). Balanced c (standing y (oneMemoryMore (m .counts)) (m .fuel) (limiterAfter (m .limiter) make)) new) _ _ _ free
+      surely (λ (y : Machine). Balanced c (standing y (oneMemoryMore (m .counts)) (m .fuel) (effects r m b make .limiter)) new) _ _ _ free
       (record {
         fuel = w .fuel;
         pages = beside-add _ _ _ _ _ _ _ _ (parts m _ _ _ sound .memories) _ (w .pages) _ _ (ltb-true _ _ free) page;
@@ -402,14 +403,14 @@ module _ (r c : ℕ) (m : Machine) (b : Buffers) (k : Book) (w : Balanced c m k)
 
   -- 20: one more table, and its row
   new-table-kept : (room : ℕ) (x : WantedTable) (v : TypedRawRef) → Kept (op.NewTable room x v)
-  unfolding entry meteringOf grows acceptedStep changeOf changed countsAfter fuelBy occasion makesTable soundTables
+  unfolding entry meteringOf grows acceptedStep effectOf changed fuelBy holds checksOf given soundTables
   new-table-kept room x v =
       let make : Operation = op.NewTable room x v in
       let new : Book = withTables k (k .tables ++ (record { limits = x .limits; size = x .limits .minimum } ∷ [])) in
       made make new refl
       (λ sound o.
       let free = both-1 _ _ (both-1 _ _ (both-1 _ _ o)) in
-      surely (λ (y : Machine). Balanced c (standing y (oneTableMore (m .counts)) (m .fuel) (limiterAfter (m .limiter) make)) new) _ _ _ free
+      surely (λ (y : Machine). Balanced c (standing y (oneTableMore (m .counts)) (m .fuel) (effects r m b make .limiter)) new) _ _ _ free
       (record {
         fuel = w .fuel;
         pages = w .pages;
@@ -418,7 +419,7 @@ module _ (r c : ℕ) (m : Machine) (b : Buffers) (k : Book) (w : Balanced c m k)
 
   -- 11 to 14, 30
   memory-kept : (i : ℕ) (o : MemoryOp) → Kept (op.Memory i o)
-  unfolding entry entryBy meteringOf memoryMetering grows changeOf countsAfter
+  unfolding entry entryBy meteringOf memoryMetering grows effectOf
   memory-kept i (memory.Grow n) =
       let grow : Operation = op.Memory i (memory.Grow n) in
       branch (Balanced c (step r m b grow .machine)) (ltb 0 n) _ _
@@ -434,22 +435,22 @@ module _ (r c : ℕ) (m : Machine) (b : Buffers) (k : Book) (w : Balanced c m k)
       → Even c (step r m b (op.Table i (table.Grow n v)) .machine .fuel) (k .set) since
       → Balanced c (step r m b (op.Table i (table.Grow n v)) .machine)
       (withTables (amounts (k .set) since) (set (k .tables) i (record { limits = rowAt k i .limits; size = rowAt k i .size + n })))
-  unfolding acceptedStep changeOf changed countsAfter tableSizeAfter soundTables occasion
+  unfolding acceptedStep effectOf changed tableEffect soundTables checksOf
   grown-kept i n v since t =
       let grow : Operation = op.Table i (table.Grow n v) in
       let longer : Row → Row = λ y. record { limits = y .limits; size = y .size + n } in
       let new : Book = withTables (amounts (k .set) since) (set (k .tables) i (longer (rowAt k i))) in
       taken grow (λ (s : Stepped). Even c (s .machine .fuel) (k .set) since → Balanced c (s .machine) new) t
       (λ sound o e.
-      let h : i < m .counts .tables = ltb-true i (m .counts .tables) (both-1 _ _ o) in
+      let h : i < m .counts .tables = ltb-true i (m .counts .tables) (given-1 _ _ _ o) in
       let lists = parts m _ _ _ sound .tables in
-      surely (λ (y : Machine). Balanced c (standing y (m .counts) (fuelAfter r m grow) (limiterAfter (m .limiter) grow)) new) _ _ _
+      surely (λ (y : Machine). Balanced c (standing y (m .counts) (fuelAfter r m grow) (effects r m b grow .limiter)) new) _ _ _
       (lt-ltb i 8 (omega (arith, few _ _ _ noTable (m .counts .tables) (m .tables) lists)))
       (record { fuel = e; pages = w .pages; rows = beside-set _ _ _ _ _ _ _ _ lists _ (w .rows) _ i _ (λ h. ap longer (w .rows .each i h)) }))
 
   -- 21 to 25
   table-kept : (i : ℕ) (o : TableOp) → Kept (op.Table i o)
-  unfolding entry entryBy grown meteringOf tableMetering grows meets changeOf countsAfter tableSizeAfter occasion
+  unfolding entry entryBy grown meteringOf tableMetering grows meets effectOf tableEffect holds checksOf given
   table-kept i (table.Grow n v) =
       let grow : Operation = op.Table i (table.Grow n v) in
       branch (Balanced c (step r m b grow .machine)) (ltb 0 n) _ _
@@ -468,7 +469,7 @@ module _ (r c : ℕ) (m : Machine) (b : Buffers) (k : Book) (w : Balanced c m k)
 
   -- every operation keeps machine and book alike
   kept : (op : Operation) → Kept op
-  unfolding entry entryBy meteringOf grows meets changeOf countsAfter
+  unfolding entry entryBy meteringOf grows meets effectOf
   kept (op.Fuel o) = fuel-kept o
   kept (op.NewMemory room wanted) = new-memory-kept room wanted
   kept (op.Memory number o) = memory-kept number o

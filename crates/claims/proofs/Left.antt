@@ -38,8 +38,8 @@ use Rattle.machine.proofs.Rooms.{parts, memory-sound, table-sound}
 use Rattle.machine.proofs.Apart.{others-stay, only-sizes}
 use Rattle.machine.proofs.Kept.{step-sound, step-bytes-long, step-cells-long}
 use Rattle.claims.specs.Answers.{accepted}
-use Rattle.claims.specs.Occasions.{makesMemory, makesTable, occasion}
-use Rattle.claims.specs.Effects.{memorySizeAfter, tableSizeAfter, changeOf, countsAfter, acceptedStep}
+use Rattle.claims.specs.Occasions.{given, holds, checksOf, occasion}
+use Rattle.claims.specs.Effects.{memoryEffect, tableEffect, effectOf, effects, acceptedStep}
 use Rattle.claims.proofs.Exits.{refusal-leaves, accepted-when, accepted-does}
 
 -- a refused operation leaves all but fuel and limiter
@@ -99,23 +99,23 @@ module _ (r : ℕ) (m : Machine) (b : Buffers) (op : Operation) (e : soundOver m
   cells-long = subst (λ (x : Stepped). length (x .buffers .cells) ≡ length (b .cells)) does (step-cells-long r m b op)
 
   -- where none was made, the next room starts where it did
-  pub byte-room : countsAfter (m .counts) op .memories ≡ m .counts .memories
+  pub byte-room : effects r m b op .counts .memories ≡ m .counts .memories
       → length (s .buffers .bytes) - nextByte (s .machine) ≡ length (b .bytes) - nextByte m
   unfolding nextByte acceptedStep
   byte-room q = along _-_ bytes-long (next-stays memoryEnd noMemory _ _ (m .memories) (s .machine .memories) q (λ i h. ap memoryEnd (sizes .memory i h)))
 
-  pub cell-room : countsAfter (m .counts) op .tables ≡ m .counts .tables
+  pub cell-room : effects r m b op .counts .tables ≡ m .counts .tables
       → length (s .buffers .cells) - nextCell (s .machine) ≡ length (b .cells) - nextCell m
   unfolding nextCell acceptedStep
   cell-room q = along _-_ cells-long (next-stays tableEnd noTable _ _ (m .tables) (s .machine .tables) q (λ i h. ap tableEnd (sizes .table i h)))
 
   -- where one was made, it starts after that one's room
-  pub byte-room-less : (x : Memory) → countsAfter (m .counts) op .memories ≡ m .counts .memories + 1 → memoryAt (s .machine) (m .counts .memories) ≡ x
+  pub byte-room-less : (x : Memory) → effects r m b op .counts .memories ≡ m .counts .memories + 1 → memoryAt (s .machine) (m .counts .memories) ≡ x
       → length (s .buffers .bytes) - nextByte (s .machine) ≡ length (b .bytes) - memoryEnd x
   unfolding nextByte acceptedStep
   byte-room-less x q p = along _-_ bytes-long (next-made memoryEnd noMemory _ _ (s .machine .memories) q ∙ ap memoryEnd p)
 
-  pub cell-room-less : (x : Table) → countsAfter (m .counts) op .tables ≡ m .counts .tables + 1 → tableAt (s .machine) (m .counts .tables) ≡ x
+  pub cell-room-less : (x : Table) → effects r m b op .counts .tables ≡ m .counts .tables + 1 → tableAt (s .machine) (m .counts .tables) ≡ x
       → length (s .buffers .cells) - nextCell (s .machine) ≡ length (b .cells) - tableEnd x
   unfolding nextCell acceptedStep
   cell-room-less x q p = along _-_ cells-long (next-made tableEnd noTable _ _ (s .machine .tables) q ∙ ap tableEnd p)
@@ -148,35 +148,35 @@ module _ (m : Machine) (b : Buffers) (e : soundOver m b ≡ true) where
   module _ (r : ℕ) where
     pub made-memory : (room : ℕ) (q : WantedMemory) → accepted (step r m b (op.NewMemory room q) .answer) ≡ true
         → memoryAt (acceptedStep r m b (op.NewMemory room q) .machine) (m .counts .memories) ≡ memoryOf (typeOf q) (nextByte m) room (leastOf q)
-    unfolding acceptedStep changeOf occasion makesMemory
+    unfolding acceptedStep effectOf holds checksOf given
     made-memory room q a = put-memory _ _ (ltb-true _ _ (both-1 _ _ (both-1 _ _ (both-1 _ _ (on-occasion r m b (op.NewMemory room q) e a)))))
 
     pub made-table : (room : ℕ) (q : WantedTable) (v : TypedRawRef) → accepted (step r m b (op.NewTable room q v) .answer) ≡ true
         → tableAt (acceptedStep r m b (op.NewTable room q v) .machine) (m .counts .tables) ≡ tableOf (tableTypeOf q) (nextCell m) room (q .limits .minimum)
-    unfolding acceptedStep changeOf occasion makesTable
+    unfolding acceptedStep effectOf holds checksOf given
     made-table room q v a = put-table _ _ (ltb-true _ _ (both-1 _ _ (both-1 _ _ (both-1 _ _ (on-occasion r m b (op.NewTable room q v) e a)))))
 
     pub named-memory : (i : ℕ) (o : MemoryOp) → i < m .counts .memories
-        → memoryAt (acceptedStep r m b (op.Memory i o) .machine) i ≡ of-memory.resized (memoryAt m i) (memorySizeAfter (memoryAt m i) o)
-    unfolding acceptedStep changeOf
+        → memoryAt (acceptedStep r m b (op.Memory i o) .machine) i ≡ of-memory.resized (memoryAt m i) (memoryEffect (memoryAt m i) (b .bytes) o .size)
+    unfolding acceptedStep effectOf
     named-memory i o h = put-memory i _ (omega (arith, few-memories))
 
     pub named-table : (i : ℕ) (o : TableOp) → i < m .counts .tables
-        → tableAt (acceptedStep r m b (op.Table i o) .machine) i ≡ of-table.resized (tableAt m i) (tableSizeAfter (tableAt m i) o)
-    unfolding acceptedStep changeOf
+        → tableAt (acceptedStep r m b (op.Table i o) .machine) i ≡ of-table.resized (tableAt m i) (tableEffect (tableAt m i) (b .cells) o .size)
+    unfolding acceptedStep effectOf
     named-table i o h = put-table i _ (omega (arith, few-tables))
 
     -- its size afterwards lies inside its room
     pub memory-held : (i : ℕ) (o : MemoryOp) → i < m .counts .memories → accepted (step r m b (op.Memory i o) .answer) ≡ true
-        → memorySizeAfter (memoryAt m i) o ≤ memoryAt m i .room
-    unfolding acceptedStep countsAfter
+        → memoryEffect (memoryAt m i) (b .bytes) o .size ≤ memoryAt m i .room
+    unfolding acceptedStep effectOf
     memory-held i o h a =
         subst (λ (x : Memory). x .size ≤ x .room) (named-memory i o h)
         (sound-is _ _ (memory-sound _ _ _ _ (still-sound r m b (op.Memory i o) e a) i h) .held)
 
     pub table-held : (i : ℕ) (o : TableOp) → i < m .counts .tables → accepted (step r m b (op.Table i o) .answer) ≡ true
-        → tableSizeAfter (tableAt m i) o ≤ tableAt m i .room
-    unfolding acceptedStep countsAfter
+        → tableEffect (tableAt m i) (b .cells) o .size ≤ tableAt m i .room
+    unfolding acceptedStep effectOf
     table-held i o h a =
         subst (λ (x : Table). x .size ≤ x .room) (named-table i o h)
         (sound-size _ _ (table-sound _ _ _ _ (still-sound r m b (op.Table i o) e a) i h))

@@ -1,3 +1,4 @@
+pub mod Checks
 pub mod Heard
 pub mod Exit
 pub mod Exiting

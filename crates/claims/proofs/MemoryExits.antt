@@ -1,7 +1,7 @@
 -- How every operation on fuel, limiter and memories ends: accepted on its occasion, or refused with all that it leaves. Assumes nothing.
 use Prim.Native.Nat.{ℕ, _+_, _-_, _*_, _/_}
 use mathlib.Core.Path.{_≡_, refl, sym, ap, _∙_}
-use mathlib.Core.Bool.{true, false}
+use mathlib.Core.Bool.{Bool, true, false}
 use mathlib.Core.List.{List}
 use native.Mathlib.Omega.{arith}
 use native.Mathlib.Nat.{add-mul, div-add-mod'}
@@ -56,13 +56,13 @@ use Rattle.machine.specs.declared.operation.MemoryOp.{MemoryOp}
 use Rattle.machine.specs.declared.operation.MemoryOp.the-variants as memory
 use Rattle.machine.proofs.Rooms.{memory-sound, next-byte-inside}
 use Rattle.claims.specs.Answers.{accepted}
-use Rattle.claims.specs.Metered.{Free, fuelMetering, memoryMetering, meteringOf, meets, grows, lengthOf, priceOf}
-use Rattle.claims.specs.Occasions.{validWanted, reaches, fuelOccasion, makesMemory, growsMemory, memoryOccasion, occasion}
-use Rattle.claims.specs.Spans.{memorySpan, spanOf, put}
-use Rattle.claims.specs.Effects.{fuelAnswer, memoryAnswer, answerOf, memorySizeAfter, changeOf, countsAfter, fuelBy, handedTo, limiterAfter, acceptedStep}
-use Rattle.claims.specs.Script.{memoryQuestion, question}
+use Rattle.claims.specs.Metered.{fuelMetering, memoryMetering, meteringOf, meets, grows, lengthOf, priceOf, affords}
+use Rattle.claims.specs.Occasions.{given, holds, comes, granted, validWanted, reaches, fuelOccasion, memoryChecks, checksOf, occasion, question}
+use Rattle.claims.specs.Spans.{put}
+use Rattle.claims.specs.Effects.{memoryEffect, fuelAnswer, handedTo, effectOf, fuelBy, acceptedStep}
+use Rattle.claims.proofs.Checks.{given-holds, given-comes, used-holds, used-comes}
 use Rattle.claims.proofs.Exit.{Exit}
-use Rattle.claims.proofs.Exiting.{branch, surely, room-inside, put-back-stays, named, named-7, memory-put-back, Ends, accepted-is, ending, accepting, accepting-by, asks-none, refusing, leaving-by, leaving, creating, unknown}
+use Rattle.claims.proofs.Exiting.{branch, surely, room-inside, put-back-stays, named, named-7, memory-put-back, Ends, accepted-is, ending, accepting, accepting-by, refusing, leaving-by, leaving, creating, unknown}
 use Rattle.claims.proofs.Growth.{Grew, grew, grew-exit}
 
 module _ (r : ℕ) (m : Machine) (b : Buffers) where
@@ -72,16 +72,16 @@ module _ (r : ℕ) (m : Machine) (b : Buffers) where
 
   -- 01 to 04: 15, 7, 18
   pub fuel-exit : (o : FuelOp) → soundOver m b ≡ true → wellFormed (op.Fuel o) ≡ true → Exit r m b (op.Fuel o) (occasion r m b (op.Fuel o))
-  unfolding perform onFuel performFuel setBy setFuel getFuel chargedBy consume consumeUnchecked handOver occasion fuelOccasion answerOf fuelAnswer changeOf countsAfter meteringOf fuelMetering fuelBy limiterAfter handedTo question put spanOf grows accepted
+  unfolding perform onFuel performFuel setBy setFuel getFuel chargedBy consume consumeUnchecked handOver holds checksOf given fuelOccasion effectOf fuelAnswer meteringOf fuelMetering fuelBy handedTo comes put grows accepted
   fuel-exit (fuel.SetFuel amount) e w =
       ending e w
       (branch (λ (s : FuelStep). Fuels (fuel.SetFuel amount) (setBy s (m .fuel) (m .limiter))) _ _ _
-      (λ t. accepting t refl)
+      (λ t. accepting refl refl t refl)
       (λ t. leaving (refusal 15 0) (named 15 refl refl) refl refl t))
   fuel-exit fuel.GetFuel e w =
       ending e w
       (branch (λ (a : Answer). Fuels fuel.GetFuel (fueled a (m .fuel) (m .limiter))) _ _ _
-      (λ t. accepting t refl)
+      (λ t. accepting refl refl t refl)
       (λ t. leaving (refusal 15 0) (named 15 refl refl) refl refl t))
   fuel-exit (fuel.Charge units) e w =
       ending e w
@@ -89,25 +89,25 @@ module _ (r : ℕ) (m : Machine) (b : Buffers) where
       (λ t.
       branch (λ (s : FuelStep). Fuels (fuel.Charge units) (chargedBy s (m .fuel) (m .limiter))) _ _ _
       (λ y. leaving (refusal 7 units) (named-7 units) refl refl (both-right _ _ (lt-leb units _ (ltb-true _ units y))))
-      (λ y. accepting (both-true _ _ t (le-leb units _ (ltb-false _ units y))) refl))
+      (λ y. accepting refl refl (both-true _ _ t (le-leb units _ (ltb-false _ units y))) refl))
       (λ t. leaving (refusal 15 0) (named 15 refl refl) refl refl (both-left _ _ t)))
   fuel-exit (fuel.SetLimiter script) e w =
       ending e w
       (branch (λ (h : HandedOver). Fuels (fuel.SetLimiter script) (handedBy h (m .fuel))) _ _ _
-      (λ t. accepting t refl)
+      (λ t. accepting refl refl t refl)
       (λ t. leaving (refusal 18 0) (named 18 refl refl) refl refl t))
 
   -- 10: 17, 1, 2, limiter 3/4, 5 with notice
   pub new-memory-exit : (room : ℕ) (wanted : WantedMemory) → soundOver m b ≡ true → wellFormed (op.NewMemory room wanted) ≡ true
       → Exit r m b (op.NewMemory room wanted) (occasion r m b (op.NewMemory room wanted))
-  unfolding perform newMemoryOn newMemory madeMemory occasion makesMemory validWanted answerOf changeOf countsAfter meteringOf fuelBy limiterAfter question put spanOf grows accepted
+  unfolding perform newMemoryOn newMemory madeMemory holds checksOf given validWanted effectOf meteringOf fuelBy comes put grows accepted
   new-memory-exit room wanted e w =
       ending e w
       (branch (λ (d : Done Outcome). Ends r m b (op.NewMemory room wanted) (onBytes d b)) _ _ _
       (λ h.
       creating (λ (c : Done CreatedMemory). onBytes (memoryMade m c) b) (λ l x. done (refused l x) (b .bytes)) _ _ _ _ _ 2
       e w (room-inside _ room _ (next-byte-inside m _ _ _ e) (both-2 _ _ h)) (named 2 refl refl) (λ x l k o t. leaving-by x l k refl o t) (both-then _ _ h)
-      refl (λ o. accepting o refl))
+      refl (λ q o. accepting-by (moved (m .limiter)) refl (sym (pick-true _ _ _ q)) o refl))
       (λ h. leaving (refusal 17 0) (named 17 refl refl) refl (both-left _ _ h) (both-left _ _ (both-left _ _ h))))
 
 -- an address that an access reaches, or none
@@ -153,77 +153,84 @@ module _ (r : ℕ) (m : Machine) (b : Buffers) (i : ℕ) where
       abbrev kept : Refusal → Fuel → Limiter → Done GrownMemory
       kept x f l = done (answered (answer.Refusal x) old f l) (b .bytes)
 
+      -- the bounds allow the new pages, and the room holds them
+      abbrev may : Bool
+      may = mayHave (old .ty) (pagesOf old + n)
+
+      abbrev fits : Bool
+      fits = leb (grownSize old n) (old .room)
+
       -- the price is that of the new pages
       price-is : ltb i (m .counts .memories) ≡ true → growthPrice old n (m .fuel) ≡ priceOf r m grow
       unfolding meteringOf memoryMetering lengthOf
       price-is h = ap (price (m .fuel .costs .copied)) (omega (arith, more-bytes old n _ (sound h)))
 
       -- by 0 pages the size stays, and no byte is new
-      by-none : ltb i (m .counts .memories) ≡ true → n ≡ 0
+      by-none : ltb i (m .counts .memories) ≡ true → n ≡ 0 → question r m b grow ≡ false
           → after m (out (done (answered (accept (pagesOf old)) old (m .fuel) (m .limiter)) (b .bytes))) ≡ acceptedStep r m b grow
-      unfolding both answerOf memoryAnswer changeOf memorySizeAfter countsAfter meteringOf memoryMetering fuelBy limiterAfter grows meets put spanOf memorySpan
-      by-none h z =
+      unfolding both effectOf memoryEffect meteringOf memoryMetering fuelBy grows meets put
+      by-none h z u =
           let k = pageBytes (old .ty .page) in
           let q : grownSize old n ≡ old .size = more-bytes old n _ (sound h) ∙ ap (λ (x : ℕ). old .size + x * k) z ∙ omega arith in
           let d : grownSize old n - old .size ≡ 0 = omega (arith, q) in
           let p : ltb 0 n ≡ false = le-ltb 0 n (omega arith) in
-          accepted-is r m b grow refl (ap (λ (x : ℕ). change.Memory i (resized old x)) (sym q)) refl (sym (pick-false _ _ _ p)) (sym (pick-false _ _ _ p))
+          accepted-is r m b grow refl (ap (λ (x : ℕ). change.Memory i (resized old x)) (sym q)) refl (sym (pick-false _ _ _ p)) (sym (pick-false _ _ _ u))
           (sym (ap (λ (bs : List ℕ). buffers bs (b .cells) (b .items))
           (ap (λ (x : ℕ). over (b .bytes) (old .start + old .size) (replicate x 0)) d ∙ over-nil (b .bytes) _)))
 
       -- 11: 16, by 0, 6, limiter 6/4, 7 and 8 with notice
       pub memory-grew : Grew r m b grow (ltb i (m .counts .memories)) n true
-      unfolding pick both perform onMemory performMemory growMemory wellFormed memoryWellFormed occasion memoryOccasion growsMemory question memoryQuestion answerOf memoryAnswer changeOf memorySizeAfter countsAfter meteringOf memoryMetering fuelBy limiterAfter grows meets put spanOf memorySpan accepted
+      unfolding pick both perform onMemory performMemory growMemory wellFormed memoryWellFormed holds checksOf given memoryChecks comes effectOf memoryEffect meteringOf memoryMetering fuelBy grows meets put accepted
       memory-grew =
           grew r m b grow (ltb i (m .counts .memories)) n true out kept
           (λ l. done (answered (accept (pagesOf old)) old (m .fuel) l) (b .bytes))
           (λ l.
           done (answered (accept (pagesOf old)) (resized old (grownSize old n)) (paid (m .fuel) (growthPrice old n (m .fuel))) (moved l))
           (over (b .bytes) (old .start + old .size) (replicate (grownSize old n - old .size) 0)))
-          true (mayHave (old .ty) (pagesOf old + n)) (leb (grownSize old n) (old .room)) (growthPrice old n (m .fuel)) price-is
+          true may fits (growthPrice old n (m .fuel)) price-is
           (record {
             sound = e;
             formed = refl;
             known = λ h l. ap (λ (d : Done Outcome). onBytes d b) (pick-true _ _ _ h) ∙ ap out (pick-true _ _ _ (sound h));
             unknown = λ h. ap (λ (d : Done Outcome). onBytes d b) (pick-false _ _ _ h);
             stop = λ l. put-back-stays (metered m (m .fuel) l) b (change.Memory i old) (memory-put-back (metered m (m .fuel) l) i);
-            when = refl;
-            asks = refl;
+            when = used-holds (granted m) (ltb i (m .counts .memories)) n may (both (affords m (priceOf r m grow)) fits);
+            asks = used-comes (ltb i (m .counts .memories)) n may (both (affords m (priceOf r m grow)) fits);
             value = refl;
             by-none = by-none;
-            by-some = λ h p.
-                accepted-is r m b grow refl refl refl (ap (paid (m .fuel)) (price-is h) ∙ sym (pick-true _ _ _ p)) (sym (pick-true _ _ _ p)) refl;
+            by-some = λ h p q.
+                accepted-is r m b grow refl refl refl (ap (paid (m .fuel)) (price-is h) ∙ sym (pick-true _ _ _ p)) (sym (pick-true _ _ _ q)) refl;
           })
 
   -- 11 to 14, 30, of a memory in use: 9, 1
   used-memory : (o : MemoryOp) → soundOver m b ≡ true → ltb i (m .counts .memories) ≡ true → soundMemory old (length (b .bytes)) ≡ true
       → On o (performMemory old (b .bytes) (m .fuel) (m .limiter) o)
-  unfolding performMemory loadMemory loadAt loadFound loadedOf storeMemory storeAt storeFound linkTo linked buildMemory occasion memoryOccasion validWanted answerOf memoryAnswer changeOf memorySizeAfter countsAfter meteringOf memoryMetering fuelBy limiterAfter question memoryQuestion grows put spanOf memorySpan accepted
+  unfolding performMemory loadMemory loadAt loadFound loadedOf storeMemory storeAt storeFound linkTo linked buildMemory holds checksOf given memoryChecks validWanted effectOf memoryEffect meteringOf memoryMetering fuelBy comes grows put accepted
   used-memory (memory.Grow pages) e h s = λ q. grew-exit r m b _ _ _ _ refl (memory-grew pages e)
-  used-memory memory.Size e h s = accepting-by refl (asks-none _ Free refl) (both-true _ _ h refl) refl
+  used-memory memory.Size e h s = accepting refl refl (both-true _ _ h refl) refl
   used-memory (memory.Load kind pointer offset) e h s =
       surely (Answers (memory.Load kind pointer offset)) _ _ _ s
       (reaching m i pointer offset _ (λ (a : Address). Answers (memory.Load kind pointer offset) (loadFound kind (b .bytes) (old .start) a))
-      (λ y. accepting-by refl (asks-none _ Free refl) (both-true _ _ h y) refl)
-      (λ y. refusing (change.Memory i old) (memory-put-back m i) refl (both-right _ _ refl) (refusal 9 0) (named 9 refl refl) (both-right _ _ y)))
+      (λ y. accepting refl refl (both-true _ _ h y) refl)
+      (λ y. refusing (change.Memory i old) (memory-put-back m i) refl refl (refusal 9 0) (named 9 refl refl) (both-right _ _ y)))
   used-memory (memory.Store kind pointer offset bits) e h s =
       surely Stores _ _ _ s
       (reaching m i pointer offset _ (λ (a : Address). Stores (storeFound kind (b .bytes) (old .start) bits a))
-      (λ y. accepting-by refl (asks-none _ Free refl) (both-true _ _ h y) refl)
-      (λ y. refusing (change.Memory i old) (memory-put-back m i) refl (both-right _ _ refl) (refusal 9 0) (named 9 refl refl) (both-right _ _ y)))
+      (λ y. accepting refl refl (both-true _ _ h y) refl)
+      (λ y. refusing (change.Memory i old) (memory-put-back m i) refl refl (refusal 9 0) (named 9 refl refl) (both-right _ _ y)))
     where
       Stores : Done Answer → Type 0
       Stores d = On (memory.Store kind pointer offset bits) (memoryStored old (m .fuel) (m .limiter) d)
   used-memory (memory.LinkCheck wanted) e h s =
       branch (λ (t : BuiltMemory). Answers (memory.LinkCheck wanted) (linked (old .ty) t)) _ _ _
-      (λ y. accepting-by refl (asks-none _ Free refl) (both-true _ _ h y) refl)
-      (λ y. refusing (change.Memory i old) (memory-put-back m i) refl (both-right _ _ refl) (refusal 1 0) (named 1 refl refl) (both-right _ _ y))
+      (λ y. accepting refl refl (both-true _ _ h y) refl)
+      (λ y. refusing (change.Memory i old) (memory-put-back m i) refl refl (refusal 1 0) (named 1 refl refl) (both-right _ _ y))
 
   -- 16, then these
   pub memory-exit : (o : MemoryOp) → soundOver m b ≡ true → wellFormed (op.Memory i o) ≡ true → Exit r m b (op.Memory i o) (occasion r m b (op.Memory i o))
-  unfolding perform onMemory occasion question
+  unfolding perform onMemory checksOf
   memory-exit o e w =
       ending e w
       (branch (λ (d : Done Outcome). Ends r m b (op.Memory i o) (onBytes d b)) _ _ _
       (λ h. used-memory o e h (memory-sound m _ _ _ e i (ltb-true i _ h)))
-      (λ h. unknown (both-left _ _ h) (both-left _ _ h)))
+      (λ h. unknown (given-comes _ _ ∙ both-left _ _ h) (given-holds _ _ _ ∙ both-left _ _ h)))

@@ -1,7 +1,7 @@
 -- The bound of demand 3 is the least: a run that writes as many bytes as it allows, for any B, F and K at least 1. Assumes nothing.
 use Prim.Native.Nat.{ℕ, zero, suc, _+_, _-_, _*_, _/_, _^_, _≤_, _<_}
 use mathlib.Core.Path.{_≡_, refl, sym, ap, subst, _∙_}
-use mathlib.Core.Bool.{true, false}
+use mathlib.Core.Bool.{Bool, true, false}
 use mathlib.Core.List.{List, [], _∷_}
 use native.Mathlib.Omega.{arith}
 use native.Mathlib.Nat.{zero-add, mul-one, zero-mul, div-one, mul-add-div, div-eq-of-lt}
@@ -15,7 +15,7 @@ use Rattle.types.specs.Fuel.{paid}
 use Rattle.types.specs.Limiter.{padded, noLimiter, saysOf, moved}
 use Rattle.types.specs.declared.fuel.Fuel.{Fuel}
 use Rattle.types.specs.declared.limiter.Limiter.{Limiter}
-use Rattle.types.proofs.Picks.{pick-true, pick-false, both-true, both-left}
+use Rattle.types.proofs.Picks.{pick-true, pick-false, pick-same, both-true, both-left}
 use Rattle.types.proofs.Prices.{price-word}
 use Rattle.types.specs.Limits.{admitsOf, validLimits}
 use Rattle.types.specs.MemoryType.{pageBound, validMemory}
@@ -40,10 +40,11 @@ use Rattle.machine.specs.declared.operation.TableOp.the-variants as table
 use Rattle.lines.specs.Session.{costsOf}
 use Rattle.machine.proofs.Kept.{fresh-sound, step-sound, step-bytes-long}
 use Rattle.claims.specs.Answers.{accepted}
-use Rattle.claims.specs.Metered.{fuelMetering, memoryMetering, tableMetering, meteringOf, grows, meets, lengthOf, bytesOf, priceOf, affords, grants, passes}
-use Rattle.claims.specs.Occasions.{validWanted, fuelOccasion, makesMemory, growsMemory, memoryOccasion, makesTable, tableOccasion, occasion, acceptedWhen}
-use Rattle.claims.specs.Effects.{memorySizeAfter, tableSizeAfter, changeOf, countsAfter, fuelBy, handedTo, limiterAfter, acceptedStep}
+use Rattle.claims.specs.Metered.{fuelMetering, memoryMetering, tableMetering, meteringOf, meets, grows, lengthOf, bytesOf, priceOf, affords, grants, passes}
+use Rattle.claims.specs.Occasions.{given, holds, validWanted, fuelOccasion, memoryChecks, tableChecks, checksOf, occasion, question, acceptedWhen}
+use Rattle.claims.specs.Effects.{memoryEffect, tableEffect, handedTo, effectOf, fuelBy, acceptedStep}
 use Rattle.claims.specs.Bound.{Totals, wrote, pays, totals, mostBytes, pass, fullestRun, zeros}
+use Rattle.claims.proofs.Checks.{given-holds, growing-holds}
 use Rattle.claims.proofs.Exiting.{branch}
 use Rattle.claims.proofs.Exits.{accepted-when, accepted-does}
 use Rattle.claims.proofs.Bound.{passes-accepted, pays-price}
@@ -79,6 +80,10 @@ grownTo total b size n = machineOf total 1 size (fuelOf b n) noLimiter
 none-moved : moved noLimiter ≡ noLimiter
 unfolding moved noLimiter padded pick
 none-moved = refl
+
+-- asked or not
+none-asked : (t : Bool) → pick t (moved noLimiter) noLimiter ≡ noLimiter
+none-asked t = ap (λ (l : Limiter). pick t l noLimiter) none-moved ∙ pick-same t noLimiter
 
 -- and grants everything
 none-grants : grants (saysOf noLimiter) ≡ true
@@ -116,7 +121,7 @@ module _ (r total b size left : ℕ) (bf : Buffers) (sound : soundOver (grownTo 
 
   -- a fill of length 0
   passing-none : price b 0 ≤ left → Passing r total b size left 0 bf (op.Table 0 (table.Fill 0 (nullOf ref.Func) 0))
-  unfolding meets grows meteringOf tableMetering lengthOf occasion tableOccasion operation.wellFormed elementMatches inside machineOf acceptedStep changed changeOf countsAfter tableSizeAfter fuelBy limiterAfter pick both
+  unfolding meets grows meteringOf tableMetering lengthOf holds checksOf given tableChecks operation.wellFormed elementMatches inside machineOf acceptedStep changed effectOf tableEffect fuelBy pick both
   passing-none h =
       let fill : Operation = op.Table 0 (table.Fill 0 (nullOf ref.Func) 0) in
       let e : size ≡ size + 0 = omega arith in
@@ -125,7 +130,7 @@ module _ (r total b size left : ℕ) (bf : Buffers) (sound : soundOver (grownTo 
         long = zero-mul r;
         affordable = can fill 0 (zero-mul r) h;
         fits = both-true _ _ sound (can fill 0 (zero-mul r) h);
-        leads = (λ i. machineOf total 1 (e i) (leaves fill 0 (zero-mul r) i) noLimiter);
+        leads = (λ i. machineOf total 1 (e i) (leaves fill 0 (zero-mul r) i) (none-asked (question r m bf fill) i));
       }
 
   -- a growth by n pages of one byte
@@ -145,29 +150,29 @@ module _ (r total b size left : ℕ) (bf : Buffers) (sound : soundOver (grownTo 
 
     -- it is accepted
     grow-occasion : occasion r m bf grow ≡ true
-    unfolding occasion memoryOccasion growsMemory machineOf mayHave pagesOf pageBound admitsOf meteringOf memoryMetering
+    unfolding checksOf memoryChecks machineOf mayHave pagesOf pageBound admitsOf meteringOf memoryMetering
     grow-occasion =
         let bound : size / 1 + n ≤ 2 ^ 64 = omega (arith, size-after) in
         let bytes : (size / 1 + n) * 1 < 2 ^ 64 = omega (arith, size-after) in
         let held : (size / 1 + n) * 1 ≤ total = omega (arith, size-after) in
-        both-true _ _ refl
-        (pick-false _ true _ (ne-eqb n 0 (λ z. absurd (omega (arith, z))))
+        given-holds _ _ _
+        ∙ both-true _ _ refl
+        (growing-holds _ n _ _ ∙ pick-false _ true _ (ne-eqb n 0 (λ z. absurd (omega (arith, z))))
         ∙ both-true _ _ (both-true _ _ (le-leb _ _ bound) (both-true _ _ (pick-false false (leb (size / 1 + n) 0) true refl) (lt-ltb _ _ bytes)))
         (both-true _ _ none-grants (both-true _ _ (can grow n grow-long h) (le-leb _ _ held))))
 
     -- it is a pass
     passing-some : Passing r total b size left n bf grow
-    unfolding meets grows meteringOf memoryMetering operation.wellFormed operation.memoryWellFormed acceptedStep changed changeOf countsAfter memorySizeAfter fuelBy limiterAfter machineOf pagesOf pick both
+    unfolding meets grows meteringOf memoryMetering operation.wellFormed operation.memoryWellFormed acceptedStep changed effectOf memoryEffect fuelBy machineOf pagesOf pick both
     passing-some =
         let t : ltb 0 n ≡ true = lt-ltb 0 n some in
         let f = pick-true _ (paid (fuelOf b left) (priceOf r m grow)) (fuelOf b left) t ∙ leaves grow n grow-long in
-        let l = pick-true _ (moved noLimiter) noLimiter t ∙ none-moved in
         record {
           meeting = t;
           long = grow-long;
           affordable = can grow n grow-long h;
           fits = both-true _ _ sound grow-occasion;
-          leads = (λ i. machineOf total 1 (size-after i) (f i) (l i));
+          leads = (λ i. machineOf total 1 (size-after i) (f i) (none-asked (question r m bf grow) i));
         }
 
   -- each pass
@@ -291,29 +296,32 @@ module _ (r : ℕ) where
 
     -- the first: its fuel is set
     led-fuel : soundOver fresh bf ≡ true → Led fresh bf (op.Fuel (fuel.SetFuel f) ∷ ops) first ops
-    unfolding meets meteringOf fuelMetering operation.wellFormed operation.fuelWellFormed occasion fuelOccasion freshMachine acceptedStep changed changeOf countsAfter fuelBy limiterAfter handedTo
-    led-fuel s = led fresh first bf (op.Fuel (fuel.SetFuel f)) ops refl refl s refl refl
+    unfolding meets meteringOf fuelMetering operation.wellFormed operation.fuelWellFormed holds checksOf given fuelOccasion freshMachine acceptedStep changed effectOf fuelBy handedTo
+    led-fuel s = led fresh first bf (op.Fuel (fuel.SetFuel f)) ops refl refl s refl
+        (λ i. metered (freshMachine true (costsOf b)) (fuelOf b f) (none-asked (question r fresh bf (op.Fuel (fuel.SetFuel f))) i))
 
     -- the second: its memory is made
     led-memory : length (bf .bytes) ≡ total → soundOver first bf ≡ true
         → Led first bf (op.NewMemory total (record { wide = true; limits = noLimits; exponent = 0 }) ∷ ops) second ops
-    unfolding meets meteringOf operation.wellFormed occasion makesMemory freshMachine nextByte validWanted validMemory validLimits pageBound acceptedStep changed changeOf countsAfter fuelBy limiterAfter machineOf pick both
+    unfolding meets meteringOf operation.wellFormed holds checksOf given freshMachine nextByte validWanted validMemory validLimits pageBound acceptedStep changed effectOf fuelBy machineOf pick both
     led-memory e s =
         let h : total ≤ length (bf .bytes) - 0 = omega arith in
         let n : 0 ≤ total = omega arith in
-        led first second bf (op.NewMemory total (record { wide = true; limits = noLimits; exponent = 0 })) ops refl refl s
+        let make : Operation = op.NewMemory total (record { wide = true; limits = noLimits; exponent = 0 }) in
+        led first second bf make ops refl refl s
         (simp (le-leb total (length (bf .bytes) - 0) h, none-grants, le-leb 0 total n))
-        (λ i. machineOf total 0 0 (fuelOf b f) (none-moved i))
+        (λ i. machineOf total 0 0 (fuelOf b f) (none-asked (question r first bf make) i))
 
     -- the third: its table is made
     led-table : soundOver second bf ≡ true
         → Led second bf (op.NewTable 0 (record { element = ref.Func; wide = false; limits = noLimits }) (nullOf ref.Func) ∷ ops) (grownTo total b 0 f) ops
-    unfolding meets meteringOf operation.wellFormed occasion makesTable machineOf nextCell validTable validLimits tableBound elementMatches acceptedStep changed changeOf countsAfter fuelBy limiterAfter pick both
+    unfolding meets meteringOf operation.wellFormed holds checksOf given machineOf nextCell validTable validLimits tableBound elementMatches acceptedStep changed effectOf fuelBy pick both
     led-table s =
         let h : 0 ≤ length (bf .cells) - 0 = omega arith in
-        led second (grownTo total b 0 f) bf (op.NewTable 0 (record { element = ref.Func; wide = false; limits = noLimits }) (nullOf ref.Func)) ops refl refl s
+        let make : Operation = op.NewTable 0 (record { element = ref.Func; wide = false; limits = noLimits }) (nullOf ref.Func) in
+        led second (grownTo total b 0 f) bf make ops refl refl s
         (simp (le-leb 0 (length (bf .cells) - 0) h, none-grants))
-        (λ i. machineOf total 1 0 (fuelOf b f) (none-moved i))
+        (λ i. machineOf total 1 0 (fuelOf b f) (none-asked (question r second bf make) i))
 
 -- the bound is reached
 pub bound-reached : (r b f k : ℕ) → 1 ≤ b → 1 ≤ k → mostBytes b f k < 2 ^ 64

@@ -34,10 +34,11 @@ use Rattle.machine.specs.declared.operation.TableOp.the-variants as table
 use Rattle.machine.proofs.Rooms.{memory-sound, table-sound, segment-sound, next-byte-inside, next-cell-inside, next-item-inside}
 use Rattle.claims.specs.Answers.{accepted}
 use Rattle.claims.specs.Metered.{memoryMetering, tableMetering, meteringOf, meets, lengthOf, bytesOf}
-use Rattle.claims.specs.Occasions.{reaches, makesMemory, growsMemory, memoryOccasion, makesTable, growsTable, tableOccasion, copies, inits, occasion}
-use Rattle.claims.specs.Spans.{Span, Nowhere, InBytes, InCells, InItems, memorySpan, tableSpan, spanOf, put, spanBytes, fits, AllBut, OnlyIn, WritesSpan}
-use Rattle.claims.specs.Effects.{acceptedStep}
+use Rattle.claims.specs.Occasions.{holds, granted, reaches, memoryChecks, tableChecks, copies, inits, checksOf, occasion}
+use Rattle.claims.specs.Spans.{Span, Nowhere, InBytes, InCells, InItems, put, spanBytes, fits, AllBut, OnlyIn, WritesSpan}
+use Rattle.claims.specs.Effects.{memoryEffect, tableEffect, effectOf, effects, acceptedStep}
 use Rattle.claims.specs.Bound.{wrote}
+use Rattle.claims.proofs.Checks.{given-1, given-2, growing-some}
 use Rattle.claims.proofs.MemoryExits.{more-bytes}
 use Rattle.claims.proofs.Bound.{fuel-free}
 use Rattle.claims.proofs.Exits.{refusal-leaves, accepted-when, accepted-does}
@@ -100,8 +101,8 @@ module _ (r : ℕ) (m : Machine) (b : Buffers) (s : soundOver m b ≡ true) wher
       length-cut (b .items) _ n (omega (arith, within-is from n _ h, segment-places (segmentAt m i) _ (segment-sound m _ _ _ s i (ltb-true _ _ k))))
 
   -- 11 to 14, 30: what is written to a memory
-  memory-fits : (i : ℕ) (o : MemoryOp) → ltb i (m .counts .memories) ≡ true → memoryOccasion r m i o ≡ true → fits b (memorySpan m i o) ≡ true
-  unfolding fits memorySpan memoryOccasion growsMemory reaches
+  memory-fits : (i : ℕ) (o : MemoryOp) → ltb i (m .counts .memories) ≡ true → holds (granted m) (memoryChecks r m i o) ≡ true → fits b (memoryEffect (memoryAt m i) (b .bytes) o .span) ≡ true
+  unfolding fits memoryEffect holds memoryChecks reaches
   memory-fits i (memory.Grow pages) k e =
       let old = memoryAt m i in
       let sound = memory-sound m _ _ _ s i (ltb-true _ _ k) in
@@ -112,7 +113,7 @@ module _ (r : ℕ) (m : Machine) (b : Buffers) (s : soundOver m b ≡ true) wher
       let none : pages * pageBytes (old .ty .page) ≡ 0 * pageBytes (old .ty .page) = ap (λ (n : ℕ). n * pageBytes (old .ty .page)) (eqb-true pages 0 t) in
       omega (arith, none, more-bytes old pages _ sound, is .inside, is .held))
       (λ t.
-      let held : grownSize old pages ≤ old .room = leb-true _ _ (both-2 _ _ (both-2 _ _ (both-2 _ _ (sym (pick-false _ _ _ t) ∙ e)))) in
+      let held : grownSize old pages ≤ old .room = leb-true _ _ (both-2 _ _ (both-2 _ _ (both-2 _ _ (growing-some _ pages _ _ t e)))) in
       omega (arith, held, is .inside, is .held)))
   memory-fits i memory.Size k e = refl
   memory-fits i (memory.Load kind pointer offset) k e = refl
@@ -124,8 +125,8 @@ module _ (r : ℕ) (m : Machine) (b : Buffers) (s : soundOver m b ≡ true) wher
   memory-fits i (memory.LinkCheck wanted) k e = refl
 
   -- 21 to 25: what is written to a table
-  table-fits : (i : ℕ) (o : TableOp) → ltb i (m .counts .tables) ≡ true → tableOccasion r m i o ≡ true → fits b (tableSpan m i o) ≡ true
-  unfolding fits tableSpan tableOccasion growsTable
+  table-fits : (i : ℕ) (o : TableOp) → ltb i (m .counts .tables) ≡ true → holds (granted m) (tableChecks r m i o) ≡ true → fits b (tableEffect (tableAt m i) (b .cells) o .span) ≡ true
+  unfolding fits tableEffect holds tableChecks
   table-fits i (table.Grow cells value) k e =
       let old = tableAt m i in
       let size = sound-size old _ (table-sound m _ _ _ s i (ltb-true _ _ k)) in
@@ -133,7 +134,7 @@ module _ (r : ℕ) (m : Machine) (b : Buffers) (s : soundOver m b ≡ true) wher
       (either (eqb cells 0)
       (λ t. omega (arith, eqb-true cells 0 t, table-inside i (old .size) k size))
       (λ t.
-      let held : old .size + cells ≤ old .room = leb-true _ _ (both-2 _ _ (both-2 _ _ (both-2 _ _ (both-2 _ _ (sym (pick-false _ _ _ t) ∙ both-2 _ _ e))))) in
+      let held : old .size + cells ≤ old .room = leb-true _ _ (both-2 _ _ (both-2 _ _ (both-2 _ _ (both-2 _ _ (growing-some _ cells _ _ t (given-2 _ _ _ e)))))) in
       omega (arith, table-inside i (old .size + cells) k held)))
   table-fits i table.Size k e = refl
   table-fits i (table.Get index) k e = refl
@@ -146,19 +147,19 @@ module _ (r : ℕ) (m : Machine) (b : Buffers) (s : soundOver m b ≡ true) wher
       filled-inside (tableAt m i .start + start) len (value .raw .bits) (length (b .cells)) (cells-inside i start len k (both-1 _ _ (both-2 _ _ e)))
 
   -- what any operation writes lies inside its buffer
-  span-fits : (op : Operation) → occasion r m b op ≡ true → fits b (spanOf m b op) ≡ true
-  unfolding fits spanOf occasion makesMemory makesTable copies inits
+  span-fits : (op : Operation) → occasion r m b op ≡ true → fits b (effects r m b op .span) ≡ true
+  unfolding fits effectOf holds checksOf copies inits
   span-fits (op.Fuel o) e = refl
   span-fits (op.NewMemory room wanted) e =
       let free = leb-true room _ (both-2 _ _ (both-1 _ _ (both-1 _ _ e))) in
       let least = leb-true _ room (both-2 _ _ (both-2 _ _ e)) in
       filled-inside (nextByte m) (leastBytes wanted) 0 (length (b .bytes)) (omega (arith, free, least, next-byte-inside m _ _ _ s))
-  span-fits (op.Memory number o) e = memory-fits number o (both-1 _ _ e) (both-2 _ _ e)
+  span-fits (op.Memory number o) e = memory-fits number o (given-1 _ _ _ e) (given-2 _ _ _ e)
   span-fits (op.NewTable room wanted first) e =
       let free = leb-true room _ (both-2 _ _ (both-1 _ _ (both-1 _ _ e))) in
       let least = leb-true _ room (both-2 _ _ (both-2 _ _ e)) in
       filled-inside (nextCell m) (wanted .limits .minimum) (first .raw .bits) (length (b .cells)) (omega (arith, free, least, next-cell-inside m _ _ _ s))
-  span-fits (op.Table number o) e = table-fits number o (both-1 _ _ e) (both-2 _ _ e)
+  span-fits (op.Table number o) e = table-fits number o (given-1 _ _ _ e) (given-2 _ _ _ e)
   span-fits (op.TableCopy into source span) e =
       let known = both-1 _ _ e in
       let within = both-1 _ _ (both-2 _ _ (both-2 _ _ e)) in
@@ -178,8 +179,8 @@ module _ (r : ℕ) (m : Machine) (b : Buffers) (s : soundOver m b ≡ true) wher
 
   -- the bytes of a span of a memory
   memory-bytes : (i : ℕ) (o : MemoryOp) → ltb i (m .counts .memories) ≡ true → meets (memoryMetering i o) ≡ true
-      → lengthOf r m (memoryMetering i o) ≡ spanBytes r (memorySpan m i o)
-  unfolding memoryMetering meets lengthOf memorySpan spanBytes
+      → lengthOf r m (memoryMetering i o) ≡ spanBytes r (memoryEffect (memoryAt m i) (b .bytes) o .span)
+  unfolding memoryMetering meets lengthOf memoryEffect spanBytes
   memory-bytes i (memory.Grow pages) k p =
       let old = memoryAt m i in
       let long = length-replicate {A = ℕ} (grownSize old pages - old .size) 0 in
@@ -190,8 +191,8 @@ module _ (r : ℕ) (m : Machine) (b : Buffers) (s : soundOver m b ≡ true) wher
   memory-bytes i (memory.LinkCheck wanted) k p = absurd (false≢true p)
 
   -- of a span of a table
-  table-bytes : (i : ℕ) (o : TableOp) → meets (tableMetering i o) ≡ true → lengthOf r m (tableMetering i o) ≡ spanBytes r (tableSpan m i o)
-  unfolding tableMetering meets lengthOf tableSpan spanBytes
+  table-bytes : (i : ℕ) (o : TableOp) → meets (tableMetering i o) ≡ true → lengthOf r m (tableMetering i o) ≡ spanBytes r (tableEffect (tableAt m i) (b .cells) o .span)
+  unfolding tableMetering meets lengthOf tableEffect spanBytes
   table-bytes i (table.Grow cells value) p = ap (λ (n : ℕ). n * r) (sym (length-replicate cells _))
   table-bytes i table.Size p = absurd (false≢true p)
   table-bytes i (table.Get index) p = absurd (false≢true p)
@@ -199,11 +200,11 @@ module _ (r : ℕ) (m : Machine) (b : Buffers) (s : soundOver m b ≡ true) wher
   table-bytes i (table.Fill start value len) p = ap (λ (n : ℕ). n * r) (sym (length-replicate len _))
 
   -- the byte length of an operation that meets the fuel step is its span's
-  span-length : (op : Operation) → meets (meteringOf op) ≡ true → occasion r m b op ≡ true → bytesOf r m op ≡ spanBytes r (spanOf m b op)
-  unfolding meteringOf meets lengthOf occasion copies inits spanOf spanBytes
+  span-length : (op : Operation) → meets (meteringOf op) ≡ true → occasion r m b op ≡ true → bytesOf r m op ≡ spanBytes r (effects r m b op .span)
+  unfolding meteringOf meets lengthOf holds checksOf copies inits effectOf spanBytes
   span-length (op.Fuel o) p e = absurd (false≢true (sym (fuel-free r m b o) ∙ p))
   span-length (op.NewMemory room wanted) p e = absurd (false≢true p)
-  span-length (op.Memory number o) p e = memory-bytes number o (both-1 _ _ e) p
+  span-length (op.Memory number o) p e = memory-bytes number o (given-1 _ _ _ e) p
   span-length (op.NewTable room wanted first) p e = absurd (false≢true p)
   span-length (op.Table number o) p e = table-bytes number o p
   span-length (op.TableCopy into source span) p e =
@@ -217,16 +218,16 @@ module _ (r : ℕ) (m : Machine) (b : Buffers) (s : soundOver m b ≡ true) wher
 
 module _ (r : ℕ) (m : Machine) (b : Buffers) (op : Operation) where
   -- an accepted operation writes its span, inside its buffer, and nothing else
-  pub span-alone : accepted (step r m b op .answer) ≡ true → WritesSpan (spanOf m b op) b (step r m b op .buffers)
+  pub span-alone : accepted (step r m b op .answer) ≡ true → WritesSpan (effects r m b op .span) b (step r m b op .buffers)
   unfolding acceptedStep
   span-alone e =
       let when = both-2 _ _ (sym (accepted-when r m b op) ∙ e) in
-      let new : step r m b op .buffers ≡ put b (spanOf m b op) = ap (λ (x : Stepped). x .buffers) (accepted-does r m b op e) in
+      let new : step r m b op .buffers ≡ put b (effects r m b op .span) = ap (λ (x : Stepped). x .buffers) (accepted-does r m b op e) in
       let held = span-fits r m b (both-1 _ _ when) op (both-2 _ _ when) in
-      record { new = new; inside = held; alone = subst (OnlyIn (spanOf m b op) b) (sym new) (only-in b (spanOf m b op) held) }
+      record { new = new; inside = held; alone = subst (OnlyIn (effects r m b op .span) b) (sym new) (only-in b (effects r m b op .span) held) }
 
   -- and counts exactly its bytes where it meets the fuel step
-  pub span-counted : accepted (step r m b op .answer) ≡ true → meets (meteringOf op) ≡ true → wrote r m b op ≡ spanBytes r (spanOf m b op)
+  pub span-counted : accepted (step r m b op .answer) ≡ true → meets (meteringOf op) ≡ true → wrote r m b op ≡ spanBytes r (effects r m b op .span)
   unfolding wrote
   span-counted e p =
       let when = both-2 _ _ (sym (accepted-when r m b op) ∙ e) in

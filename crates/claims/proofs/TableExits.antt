@@ -1,7 +1,7 @@
 -- How every operation on tables and segments ends: accepted on its occasion, or refused with all that it leaves. Assumes nothing.
 use Prim.Native.Nat.{ℕ, _+_}
 use mathlib.Core.Path.{_≡_, refl, sym, ap, subst, _∙_}
-use mathlib.Core.Bool.{true, false}
+use mathlib.Core.Bool.{Bool, true, false}
 use mathlib.Core.List.{List}
 use native.Mathlib.Omega.{arith}
 use lib.Dec.{leb, ltb}
@@ -52,13 +52,13 @@ use Rattle.machine.specs.declared.operation.TableOp.{TableOp}
 use Rattle.machine.specs.declared.operation.TableOp.the-variants as table
 use Rattle.machine.proofs.Rooms.{table-sound, segment-sound}
 use Rattle.claims.specs.Answers.{accepted}
-use Rattle.claims.specs.Metered.{Free, Spans, tableMetering, meteringOf, meets, grows, lengthOf}
-use Rattle.claims.specs.Occasions.{ofKind, makesTable, growsTable, tableOccasion, copies, inits, occasion}
-use Rattle.claims.specs.Spans.{tableSpan, spanOf, put}
-use Rattle.claims.specs.Effects.{tableAnswer, answerOf, tableSizeAfter, changeOf, countsAfter, fuelBy, limiterAfter, acceptedStep}
-use Rattle.claims.specs.Script.{tableQuestion, question}
+use Rattle.claims.specs.Metered.{tableMetering, meteringOf, meets, grows, lengthOf, priceOf, affords}
+use Rattle.claims.specs.Occasions.{given, holds, comes, granted, ofKind, tableChecks, copies, inits, checksOf, occasion, question}
+use Rattle.claims.specs.Spans.{put}
+use Rattle.claims.specs.Effects.{tableEffect, effectOf, fuelBy, acceptedStep}
+use Rattle.claims.proofs.Checks.{given-holds, given-comes, growing, used-holds, used-comes}
 use Rattle.claims.proofs.Exit.{Exit, accepts}
-use Rattle.claims.proofs.Exiting.{branch, surely, put-back-stays, named, table-put-back, nothing-put, Ends, accepted-is, ending, accepting, accepting-by, asks-none, refusing, leaving-by, leaving, creating, paying, spanning, unknown}
+use Rattle.claims.proofs.Exiting.{branch, surely, put-back-stays, named, table-put-back, nothing-put, Ends, accepted-is, ending, accepting, accepting-by, refusing, leaving-by, leaving, creating, paying, spanning, unknown}
 use Rattle.claims.proofs.Growth.{Grew, grew, grew-exit}
 use Rattle.claims.proofs.TableExiting.{cells-sound, items-sound, own-kind, over-none, two-sound}
 
@@ -66,46 +66,46 @@ module _ (r : ℕ) (m : Machine) (b : Buffers) where
   -- 20: 17, 1, 14, limiter 3/4, 5 with notice
   pub new-table-exit : (room : ℕ) (wanted : WantedTable) (initial : TypedRawRef) → soundOver m b ≡ true → wellFormed (op.NewTable room wanted initial) ≡ true
       → Exit r m b (op.NewTable room wanted initial) (occasion r m b (op.NewTable room wanted initial))
-  unfolding perform newTableOn newTable madeTable occasion makesTable question answerOf changeOf countsAfter meteringOf fuelBy limiterAfter put spanOf grows accepted
+  unfolding perform newTableOn newTable madeTable holds checksOf given comes effectOf meteringOf fuelBy put grows accepted
   new-table-exit room wanted initial e w =
       ending e w
       (branch (λ (d : Done Outcome). Ends r m b (op.NewTable room wanted initial) (onCells d b)) _ _ _
       (λ h.
       creating (λ (c : Done CreatedTable). onCells (tableMade m c) b) (λ l x. done (refused l x) (b .cells)) _ _ _ _ _ 14
-      e w (cells-sound m b e _ (both-2 _ _ h)) (named 14 refl refl) (λ x l k o t. leaving-by x l k refl o t) (both-then _ _ h) refl (λ o. accepting o refl))
+      e w (cells-sound m b e _ (both-2 _ _ h)) (named 14 refl refl) (λ x l k o t. leaving-by x l k refl o t) (both-then _ _ h) refl (λ q o. accepting-by (moved (m .limiter)) refl (sym (pick-true _ _ _ q)) o refl))
       (λ h. leaving (refusal 17 0) (named 17 refl refl) refl (both-left _ _ h) (both-left _ _ (both-left _ _ h))))
 
   -- 28: 16
   pub drop-segment-exit : (i : ℕ) → soundOver m b ≡ true → wellFormed (op.DropSegment i) ≡ true → Exit r m b (op.DropSegment i) (occasion r m b (op.DropSegment i))
-  unfolding perform dropOn occasion question answerOf changeOf countsAfter meteringOf fuelBy limiterAfter put spanOf grows accepted
+  unfolding perform dropOn holds checksOf given comes effectOf meteringOf fuelBy put grows accepted
   drop-segment-exit i e w =
       ending e w
       (branch (λ (o : Outcome). Ends r m b (op.DropSegment i) (onNone o b)) _ _ _
-      (λ h. accepting h refl)
+      (λ h. accepting refl refl h refl)
       (λ h. unknown refl h))
 
   -- 29: 17
   pub new-segment-exit : (element : RefType) (items : Items) → soundOver m b ≡ true → wellFormed (op.NewSegment element items) ≡ true
       → Exit r m b (op.NewSegment element items) (occasion r m b (op.NewSegment element items))
-  unfolding perform newSegmentOn newSegment madeSegment occasion question answerOf changeOf countsAfter meteringOf fuelBy limiterAfter put spanOf grows accepted
+  unfolding perform newSegmentOn newSegment madeSegment holds checksOf given comes effectOf meteringOf fuelBy put grows accepted
   new-segment-exit element items e w =
       ending e w
       (branch (λ (d : Done Outcome). Ends r m b (op.NewSegment element items) (onItems d b)) _ _ _
       (λ h.
       surely (λ (s : Done MadeSegment). Ends r m b (op.NewSegment element items) (onItems (segmentMade m s) b)) _ _ _
-      (items-sound m b e _ (both-2 _ _ h)) (accepting h refl))
+      (items-sound m b e _ (both-2 _ _ h)) (accepting refl refl h refl))
       (λ h. leaving (refusal 17 0) (named 17 refl refl) refl refl h))
 
   -- within one table the kind is its own: 12, 7
   within-ends : (i : ℕ) (s : CopySpan) → soundOver m b ≡ true → ltb i (m .counts .tables) ≡ true
       → Ends r m b (op.TableCopy i i s) (onCells (spannedDone m (copyWithin r (tableAt m i) (b .cells) s (m .fuel))) b)
-  unfolding copyWithin occasion copies question answerOf changeOf countsAfter meteringOf lengthOf fuelBy limiterAfter put spanOf grows accepted
+  unfolding copyWithin holds checksOf given copies comes effectOf meteringOf lengthOf fuelBy put grows accepted
   within-ends i s e h =
       surely Within _ _ _ (table-sound m _ _ _ e i (ltb-true i _ h))
       (branch Within _ _ _
       (λ q.
       paying change.Nothing (nothing-put m) refl refl _ _ (both-then _ _ (both-true _ _ h h) ∙ both-then _ _ (own-kind (tableAt m i .ty)) ∙ both-then _ _ q)
-      (λ o. accepting o refl))
+      (λ o. accepting refl refl o refl))
       (λ q. leaving (refusal 12 0) (named 12 refl refl) refl refl (both-right _ _ (both-right _ _ (both-left _ _ q)))))
     where
       Within : Done Spanned → Type 0
@@ -114,7 +114,7 @@ module _ (r : ℕ) (m : Machine) (b : Buffers) where
   -- 26: 16, 14, 12, 7
   pub table-copy-exit : (into source : ℕ) (s : CopySpan) → soundOver m b ≡ true → wellFormed (op.TableCopy into source s) ≡ true
       → Exit r m b (op.TableCopy into source s) (occasion r m b (op.TableCopy into source s))
-  unfolding perform copyOn copyKnown copyTable occasion copies question answerOf changeOf countsAfter meteringOf lengthOf fuelBy limiterAfter put spanOf grows accepted
+  unfolding perform copyOn copyKnown copyTable holds checksOf given copies comes effectOf meteringOf lengthOf fuelBy put grows accepted
   table-copy-exit into source s e w =
       ending e w
       (branch (Copies source) _ _ _
@@ -127,7 +127,7 @@ module _ (r : ℕ) (m : Machine) (b : Buffers) where
       surely (λ (d : Done Spanned). Copies source (spannedDone m d)) _ _ _
       (two-sound m b into source e (ltb-true into _ (both-1 _ _ h)) (ltb-true source _ (both-2 _ _ h)) (eqb-false into source z))
       (spanning change.Nothing (nothing-put m) refl refl _ _ _ 12 _ (named 12 refl refl) (both-then _ _ h)
-      (λ o. paying change.Nothing (nothing-put m) refl refl _ _ o (λ o. accepting o refl)))))
+      (λ o. paying change.Nothing (nothing-put m) refl refl _ _ o (λ o. accepting refl refl o refl)))))
       (λ h. unknown refl (both-left _ _ h)))
     where
       Copies : ℕ → Done Outcome → Type 0
@@ -136,7 +136,7 @@ module _ (r : ℕ) (m : Machine) (b : Buffers) where
   -- 27: 16, 14, 13, length 0 without fuel, 7
   pub table-init-exit : (i segment : ℕ) (s : CopySpan) → soundOver m b ≡ true → wellFormed (op.TableInit i segment s) ≡ true
       → Exit r m b (op.TableInit i segment s) (occasion r m b (op.TableInit i segment s))
-  unfolding perform initOn initTable occasion inits question answerOf changeOf countsAfter meteringOf lengthOf fuelBy limiterAfter put spanOf grows accepted
+  unfolding perform initOn initTable holds checksOf given inits comes effectOf meteringOf lengthOf fuelBy put grows accepted
   table-init-exit i segment s e w =
       ending e w
       (branch (λ (d : Done Outcome). Ends r m b init (onCells d b)) _ _ _
@@ -149,12 +149,12 @@ module _ (r : ℕ) (m : Machine) (b : Buffers) where
       (λ z q.
       let n : s .len ≡ 0 = eqb-true (s .len) 0 z in
       accepts (o ∙ pick-true _ _ _ z) refl
-      (q ∙ accepted-is r m b init refl refl refl (sym (pick-false _ _ _ (le-ltb 0 (s .len) (omega arith)))) refl
+      (q ∙ accepted-is r m b init refl refl refl (sym (pick-false _ _ _ (le-ltb 0 (s .len) (omega arith)))) (sym (pick-false _ _ _ refl))
       (ap (λ (cs : List ℕ). buffers (b .bytes) cs (b .items)) (sym (over-none (b .cells) _ (b .items) _ (s .len) n)))))
       (λ z.
       let n : s .len ≡ 0 → ⊥ = eqb-false (s .len) 0 z in
       paying change.Nothing (nothing-put m) refl refl _ _ (o ∙ pick-false _ _ _ z)
-      (λ o. accepting-by (sym (pick-true _ _ _ (lt-ltb 0 (s .len) (omega arith)))) refl o refl)))))
+      (λ o. accepting (sym (pick-true _ _ _ (lt-ltb 0 (s .len) (omega arith)))) refl o refl)))))
       (λ h. unknown refl (both-left _ _ h)))
     where
       init : Operation
@@ -178,19 +178,29 @@ module _ (r : ℕ) (m : Machine) (b : Buffers) (i : ℕ) where
     abbrev out : Done GrownTable → Performed
     out d = onCells (tableDone m i d) b
 
+    -- of its kind, below the index type's largest size; and what is tested after the limiter's grant
+    abbrev kind : Bool
+    kind = ofKind m i v
+
+    abbrev may : Bool
+    may = ltb (old .size + n) (maxSize (old .ty .index))
+
+    abbrev later : Bool
+    later = both (admitsOf (old .ty .limits) (old .size + n)) (both (affords m (priceOf r m grow)) (leb (old .size + n) (old .room)))
+
     -- by 0 cells the size stays, and no cell is new
-    by-none : n ≡ 0 → after m (out (done (answered (accept (old .size)) old (m .fuel) (m .limiter)) (b .cells))) ≡ acceptedStep r m b grow
-    unfolding both answerOf tableAnswer changeOf tableSizeAfter countsAfter meteringOf tableMetering fuelBy limiterAfter grows meets put spanOf tableSpan
-    by-none z =
+    by-none : n ≡ 0 → question r m b grow ≡ false → after m (out (done (answered (accept (old .size)) old (m .fuel) (m .limiter)) (b .cells))) ≡ acceptedStep r m b grow
+    unfolding both effectOf tableEffect meteringOf tableMetering fuelBy grows meets put
+    by-none z u =
         let q : old .size + n ≡ old .size = omega arith in
         let p : ltb 0 n ≡ false = le-ltb 0 n (omega arith) in
-        accepted-is r m b grow refl (ap (λ (x : ℕ). change.Table i (resized old x)) (sym q)) refl (sym (pick-false _ _ _ p)) (sym (pick-false _ _ _ p))
+        accepted-is r m b grow refl (ap (λ (x : ℕ). change.Table i (resized old x)) (sym q)) refl (sym (pick-false _ _ _ p)) (sym (pick-false _ _ _ u))
         (sym (ap (λ (cs : List ℕ). buffers (b .bytes) cs (b .items))
         (ap (λ (x : ℕ). over (b .cells) (old .start + old .size) (replicate x (v .raw .bits))) z ∙ over-nil (b .cells) _)))
 
     -- 21: 16, 14, by 0, 6 at the index type's largest size, limiter 6/4, 6, 7 and 8 with notice
     pub table-grew : Grew r m b grow (ltb i (m .counts .tables)) n (admitsOf (old .ty .limits) (old .size + n))
-    unfolding both perform onTable performTable growTable wellFormed occasion tableOccasion growsTable question tableQuestion answerOf tableAnswer changeOf tableSizeAfter countsAfter meteringOf tableMetering lengthOf fuelBy limiterAfter grows meets put spanOf tableSpan accepted
+    unfolding both perform onTable performTable growTable wellFormed holds checksOf given tableChecks comes effectOf tableEffect meteringOf tableMetering lengthOf fuelBy grows meets put accepted
     table-grew =
         grew r m b grow (ltb i (m .counts .tables)) n (admitsOf (old .ty .limits) (old .size + n)) out
         (λ x f l. done (answered (answer.Refusal x) old f l) (b .cells))
@@ -198,33 +208,34 @@ module _ (r : ℕ) (m : Machine) (b : Buffers) (i : ℕ) where
         (λ l.
         done (answered (accept (old .size)) (resized old (old .size + n)) (paid (m .fuel) (cellsPrice r n (m .fuel))) (moved l))
         (over (b .cells) (old .start + old .size) (replicate n (v .raw .bits))))
-        (ofKind m i v) (ltb (old .size + n) (maxSize (old .ty .index))) (leb (old .size + n) (old .room)) (cellsPrice r n (m .fuel)) (λ h. refl)
+        kind may (leb (old .size + n) (old .room)) (cellsPrice r n (m .fuel)) (λ h. refl)
         (record {
           sound = e;
           formed = refl;
           known = λ h l. ap (λ (d : Done Outcome). onCells d b) (pick-true _ _ _ h) ∙ ap out (pick-true _ _ _ (table-sound m _ _ _ e i (ltb-true i _ h)));
           unknown = λ h. ap (λ (d : Done Outcome). onCells d b) (pick-false _ _ _ h);
           stop = λ l. put-back-stays (metered m (m .fuel) l) b (change.Table i old) (table-put-back (metered m (m .fuel) l) i);
-          when = refl;
-          asks = refl;
+          when = given-holds (granted m) (ltb i (m .counts .tables)) (given kind (growing n may later))
+              ∙ ap (both (ltb i (m .counts .tables))) (used-holds (granted m) kind n may later);
+          asks = given-comes (ltb i (m .counts .tables)) (given kind (growing n may later)) ∙ ap (both (ltb i (m .counts .tables))) (used-comes kind n may later);
           value = refl;
           by-none = λ h. by-none;
-          by-some = λ h p. accepted-is r m b grow refl refl refl (sym (pick-true _ _ _ p)) (sym (pick-true _ _ _ p)) refl;
+          by-some = λ h p q. accepted-is r m b grow refl refl refl (sym (pick-true _ _ _ p)) (sym (pick-true _ _ _ q)) refl;
         })
 
   -- 21 to 25, of a table in use: 14, 9, 10, 11, 7
   used-table : (o : TableOp) → soundOver m b ≡ true → ltb i (m .counts .tables) ≡ true → soundTable old (length (b .cells)) ≡ true
       → On o (performTable r old (b .cells) (m .fuel) (m .limiter) o)
-  unfolding performTable getTable setTable setSound fillTable occasion tableOccasion question tableQuestion answerOf tableAnswer changeOf tableSizeAfter countsAfter meteringOf tableMetering lengthOf fuelBy limiterAfter grows put spanOf tableSpan accepted
+  unfolding performTable getTable setTable setSound fillTable holds checksOf given tableChecks comes effectOf tableEffect meteringOf tableMetering lengthOf fuelBy grows put accepted
   used-table (table.Grow cells value) e h s = λ q. grew-exit r m b _ _ _ _ refl (table-grew cells value e)
-  used-table table.Size e h s = accepting-by refl (asks-none _ Free refl) (both-true _ _ h refl) refl
+  used-table table.Size e h s = accepting refl refl (both-true _ _ h refl) refl
   used-table (table.Get index) e h s =
       surely Gets _ _ _ s
       (branch Gets _ _ _
       (λ y.
-      refusing (change.Table i old) (table-put-back m i) refl (both-right _ _ refl) (refusal 9 0) (named 9 refl refl)
+      refusing (change.Table i old) (table-put-back m i) refl refl (refusal 9 0) (named 9 refl refl)
       (both-right _ _ (le-ltb index _ (leb-true (old .size) index y))))
-      (λ y. accepting-by refl (asks-none _ Free refl) (both-true _ _ h (lt-ltb index _ (leb-false (old .size) index y))) refl))
+      (λ y. accepting refl refl (both-true _ _ h (lt-ltb index _ (leb-false (old .size) index y))) refl))
     where
       Gets : Answer → Type 0
       Gets a = On (table.Get index) (done (tableKept old (m .fuel) (m .limiter) a) (b .cells))
@@ -234,23 +245,23 @@ module _ (r : ℕ) (m : Machine) (b : Buffers) (i : ℕ) where
       (λ t.
       branch Sets _ _ _
       (λ y.
-      refusing (change.Table i old) (table-put-back m i) refl (both-right _ _ refl) (refusal 10 0) (named 10 refl refl)
+      refusing (change.Table i old) (table-put-back m i) refl refl (refusal 10 0) (named 10 refl refl)
       (both-right _ _ (both-right _ _ (le-ltb index _ (leb-true (old .size) index y)))))
-      (λ y. accepting-by refl (asks-none _ Free refl) (both-true _ _ h (both-true _ _ t (lt-ltb index _ (leb-false (old .size) index y)))) refl))
-      (λ t. refusing (change.Table i old) (table-put-back m i) refl (both-right _ _ refl) (refusal 14 0) (named 14 refl refl) (both-right _ _ (both-left _ _ t))))
+      (λ y. accepting refl refl (both-true _ _ h (both-true _ _ t (lt-ltb index _ (leb-false (old .size) index y)))) refl))
+      (λ t. refusing (change.Table i old) (table-put-back m i) refl refl (refusal 14 0) (named 14 refl refl) (both-right _ _ (both-left _ _ t))))
     where
       Sets : Done Answer → Type 0
       Sets d = On (table.Set index value) (tableStored old (m .fuel) (m .limiter) d)
   used-table (table.Fill start value len) e h s =
       surely (λ (d : Done Spanned). On (table.Fill start value len) (tableSpanned old (m .limiter) d)) _ _ _ s
-      (spanning (change.Table i old) (table-put-back m i) refl (both-right _ _ refl) _ _ _ 11 _ (named 11 refl refl) (both-then _ _ h)
-      (λ o. paying (change.Table i old) (table-put-back m i) refl (both-right _ _ refl) _ _ o (λ o. accepting-by refl (asks-none _ (Spans len) refl) o refl)))
+      (spanning (change.Table i old) (table-put-back m i) refl refl _ _ _ 11 _ (named 11 refl refl) (both-then _ _ h)
+      (λ o. paying (change.Table i old) (table-put-back m i) refl refl _ _ o (λ o. accepting refl refl o refl)))
 
   -- 16, then these
   pub table-exit : (o : TableOp) → soundOver m b ≡ true → wellFormed (op.Table i o) ≡ true → Exit r m b (op.Table i o) (occasion r m b (op.Table i o))
-  unfolding perform onTable occasion question
+  unfolding perform onTable checksOf
   table-exit o e w =
       ending e w
       (branch (λ (d : Done Outcome). Ends r m b (op.Table i o) (onCells d b)) _ _ _
       (λ h. used-table o e h (table-sound m _ _ _ e i (ltb-true i _ h)))
-      (λ h. unknown (both-left _ _ h) (both-left _ _ h)))
+      (λ h. unknown (given-comes _ _ ∙ both-left _ _ h) (given-holds _ _ _ ∙ both-left _ _ h)))

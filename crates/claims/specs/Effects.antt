@@ -1,92 +1,95 @@
 -- Document 01, "First check wins", "Fuel" and "Operation lines": what an accepted operation answers, changes, takes and writes.
-use Rattle.types.specs.Prelude.{ℕ, _+_, _-_, ltb, length, getD}
-use Rattle.types.specs.Names.{pick, both, accept, left, paid, limiterOf, moved, matchMemory, Answer, Fuel, Limiter}
-use Rattle.memory.specs.Names.{loadedOf, resized as resizedMemory, pagesOf, memoryOf, grownSize}
+use Rattle.types.specs.Prelude.{ℕ, _+_, _-_, List, ltb, length, getD, replicate}
+use Rattle.types.specs.Names.{pick, cut, accept, left, paid, limiterOf, moved, matchMemory, Answer, Fuel, Limiter}
+use Rattle.memory.specs.Names.{loadedOf, leBytes, widthBytes, storeWidth, resized as resizedMemory, pagesOf, memoryOf, grownSize}
 use Rattle.memory.specs.Names.{wanted as typeOf, leastBytes as leastOf, Memory}
 use Rattle.table.specs.Names.{resized as resizedTable, wanted as tableTypeOf, tableOf, dropped, Table}
 use Rattle.machine.specs.Names.{Buffers, memoryAt, tableAt, segmentAt, nextByte, nextCell, nextItem, scriptOf, itemsOf, changed, standing}
 use Rattle.machine.specs.Names.{oneMemoryMore, oneTableMore, oneSegmentMore, Stepped, Machine, Counts, Change, Operation, FuelOp, MemoryOp, TableOp}
-use Rattle.claims.specs.Metered.{Metering, Free, Sets, Charges, GrowsPages, GrowsCells, Spans, Inits, memoryMetering, tableMetering}
-use Rattle.claims.specs.Metered.{meteringOf, meets, grows, priceOf}
-use Rattle.claims.specs.Spans.{spanOf, put}
+use Rattle.claims.specs.Metered.{Metering, Free, Sets, Charges, GrowsPages, GrowsCells, Spans, Inits, meteringOf, priceOf}
+use Rattle.claims.specs.{Occasions.question, Spans.Span, Spans.Nowhere, Spans.InBytes, Spans.InCells, Spans.InItems, Spans.put}
 
--- what an accepted operation answers: creations the new number, growths and sizes the size before, 02 and 03 the fuel left, others 0
+-- what an accepted operation on one memory or table answers, the size after it, and the span that it writes
+pub record OnOne : Type 0 where
+  pub answer : Answer
+  pub size : ℕ
+  pub span : Span
+
+abbrev pub onOne : Answer → ℕ → Span → OnOne
+onOne a n s = record { answer = a; size = n; span = s }
+
+-- on a memory: a growth and 12 answer the pages before; a growth writes zeros, a store its bytes
+unfoldable pub memoryEffect : Memory → List ℕ → MemoryOp → OnOne
+memoryEffect x bytes (MemoryOp.Grow pages) =
+    onOne (accept (pagesOf x)) (grownSize x pages) (InBytes (x .start + x .size) (replicate (grownSize x pages - x .size) 0))
+memoryEffect x bytes MemoryOp.Size = onOne (accept (pagesOf x)) (x .size) Nowhere
+memoryEffect x bytes (MemoryOp.Load kind pointer offset) = onOne (loadedOf kind bytes (x .start + (pointer + offset))) (x .size) Nowhere
+memoryEffect x bytes (MemoryOp.Store kind pointer offset bits) =
+    onOne (accept 0) (x .size) (InBytes (x .start + (pointer + offset)) (leBytes (widthBytes (storeWidth kind)) bits))
+memoryEffect x bytes (MemoryOp.LinkCheck wanted) = onOne (accept (pick (matchMemory (x .ty) (typeOf wanted)) 1 0)) (x .size) Nowhere
+
+-- on a table: a growth and 22 answer the size before; a growth writes its cells, 24 one cell, a fill its span
+unfoldable pub tableEffect : Table → List ℕ → TableOp → OnOne
+tableEffect x cells (TableOp.Grow n value) = onOne (accept (x .size)) (x .size + n) (InCells (x .start + x .size) (replicate n (value .raw .bits)))
+tableEffect x cells TableOp.Size = onOne (accept (x .size)) (x .size) Nowhere
+tableEffect x cells (TableOp.Get index) = onOne (accept (getD cells (x .start + index) 0)) (x .size) Nowhere
+tableEffect x cells (TableOp.Set index value) = onOne (accept 0) (x .size) (InCells (x .start + index) (replicate 1 (value .raw .bits)))
+tableEffect x cells (TableOp.Fill start value len) = onOne (accept 0) (x .size) (InCells (x .start + start) (replicate len (value .raw .bits)))
+
+-- what any accepted operation answers, the record that it makes or names, the numbers in use and the limiter after it, and the span that it writes
+pub record Effect : Type 0 where
+  pub answer : Answer
+  pub change : Change
+  pub counts : Counts
+  pub limiter : Limiter
+  pub span : Span
+
+abbrev pub effect : Answer → Change → Counts → Limiter → Span → Effect
+effect a c k l s = record { answer = a; change = c; counts = k; limiter = l; span = s }
+
+-- of 01 to 04: 02 and 03 answer the fuel left
 unfoldable pub fuelAnswer : Machine → FuelOp → Answer
 fuelAnswer m (FuelOp.SetFuel amount) = accept 0
 fuelAnswer m FuelOp.GetFuel = accept (m .fuel .remaining)
 fuelAnswer m (FuelOp.Charge units) = accept (m .fuel .remaining - units)
 fuelAnswer m (FuelOp.SetLimiter script) = accept 0
 
-unfoldable pub memoryAnswer : Machine → Buffers → ℕ → MemoryOp → Answer
-memoryAnswer m b i (MemoryOp.Grow pages) = accept (pagesOf (memoryAt m i))
-memoryAnswer m b i MemoryOp.Size = accept (pagesOf (memoryAt m i))
-memoryAnswer m b i (MemoryOp.Load kind pointer offset) = loadedOf kind (b .bytes) (memoryAt m i .start + (pointer + offset))
-memoryAnswer m b i (MemoryOp.Store kind pointer offset bits) = accept 0
-memoryAnswer m b i (MemoryOp.LinkCheck wanted) = accept (pick (matchMemory (memoryAt m i .ty) (typeOf wanted)) 1 0)
+-- 04 hands over its script
+unfoldable pub handedTo : Limiter → FuelOp → Limiter
+handedTo l (FuelOp.SetFuel amount) = l
+handedTo l FuelOp.GetFuel = l
+handedTo l (FuelOp.Charge units) = l
+handedTo l (FuelOp.SetLimiter script) = limiterOf (scriptOf script)
 
-unfoldable pub tableAnswer : Machine → Buffers → ℕ → TableOp → Answer
-tableAnswer m b i (TableOp.Grow cells value) = accept (tableAt m i .size)
-tableAnswer m b i TableOp.Size = accept (tableAt m i .size)
-tableAnswer m b i (TableOp.Get index) = accept (getD (b .cells) (tableAt m i .start + index) 0)
-tableAnswer m b i (TableOp.Set index value) = accept 0
-tableAnswer m b i (TableOp.Fill start value len) = accept 0
-
-unfoldable pub answerOf : Machine → Buffers → Operation → Answer
-answerOf m b (Operation.Fuel o) = fuelAnswer m o
-answerOf m b (Operation.NewMemory room wanted) = accept (m .counts .memories)
-answerOf m b (Operation.Memory number o) = memoryAnswer m b number o
-answerOf m b (Operation.NewTable room wanted initial) = accept (m .counts .tables)
-answerOf m b (Operation.Table number o) = tableAnswer m b number o
-answerOf m b (Operation.TableCopy into source span) = accept 0
-answerOf m b (Operation.TableInit table segment span) = accept 0
-answerOf m b (Operation.DropSegment segment) = accept 0
-answerOf m b (Operation.NewSegment element items) = accept (m .counts .segments)
-
--- all buffers after an accepted operation: its span is new, all else is as before
-abbrev pub written : Machine → Buffers → Operation → Buffers
-written m b op = put b (spanOf m b op)
-
--- the size of the memory that it names
-unfoldable pub memorySizeAfter : Memory → MemoryOp → ℕ
-memorySizeAfter r (MemoryOp.Grow pages) = grownSize r pages
-memorySizeAfter r MemoryOp.Size = r .size
-memorySizeAfter r (MemoryOp.Load kind pointer offset) = r .size
-memorySizeAfter r (MemoryOp.Store kind pointer offset bits) = r .size
-memorySizeAfter r (MemoryOp.LinkCheck wanted) = r .size
-
--- the size of the table that it names
-unfoldable pub tableSizeAfter : Table → TableOp → ℕ
-tableSizeAfter t (TableOp.Grow cells value) = t .size + cells
-tableSizeAfter t TableOp.Size = t .size
-tableSizeAfter t (TableOp.Get index) = t .size
-tableSizeAfter t (TableOp.Set index value) = t .size
-tableSizeAfter t (TableOp.Fill start value len) = t .size
-
--- the record that it makes or names: of one in use only the size may be another
-unfoldable pub changeOf : Machine → Operation → Change
-changeOf m (Operation.Fuel o) = Change.Nothing
-changeOf m (Operation.NewMemory room wanted) = Change.Memory (m .counts .memories) (memoryOf (typeOf wanted) (nextByte m) room (leastOf wanted))
-changeOf m (Operation.Memory number o) = Change.Memory number (resizedMemory (memoryAt m number) (memorySizeAfter (memoryAt m number) o))
-changeOf m (Operation.NewTable room wanted initial) =
-    Change.Table (m .counts .tables) (tableOf (tableTypeOf wanted) (nextCell m) room (wanted .limits .minimum))
-changeOf m (Operation.Table number o) = Change.Table number (resizedTable (tableAt m number) (tableSizeAfter (tableAt m number) o))
-changeOf m (Operation.TableCopy into source span) = Change.Nothing
-changeOf m (Operation.TableInit table segment span) = Change.Nothing
-changeOf m (Operation.DropSegment segment) = Change.Segment segment (dropped (segmentAt m segment))
-changeOf m (Operation.NewSegment element items) =
-    Change.Segment (m .counts .segments) (record { ty = element; start = nextItem m; places = length (itemsOf items); size = length (itemsOf items) })
-
--- a creation takes the next number
-unfoldable pub countsAfter : Counts → Operation → Counts
-countsAfter k (Operation.Fuel o) = k
-countsAfter k (Operation.NewMemory room wanted) = oneMemoryMore k
-countsAfter k (Operation.Memory number o) = k
-countsAfter k (Operation.NewTable room wanted initial) = oneTableMore k
-countsAfter k (Operation.Table number o) = k
-countsAfter k (Operation.TableCopy into source span) = k
-countsAfter k (Operation.TableInit table segment span) = k
-countsAfter k (Operation.DropSegment segment) = k
-countsAfter k (Operation.NewSegment element items) = oneSegmentMore k
+-- with the limiter l after its question: a creation takes the next number and answers it; of a record in use only the size
+-- may be another; a copy and an init write what their source held before
+unfoldable pub effectOf : Machine → Buffers → Limiter → Operation → Effect
+effectOf m b l (Operation.Fuel o) = effect (fuelAnswer m o) Change.Nothing (m .counts) (handedTo l o) Nowhere
+effectOf m b l (Operation.NewMemory room wanted) =
+    effect (accept (m .counts .memories)) (Change.Memory (m .counts .memories) (memoryOf (typeOf wanted) (nextByte m) room (leastOf wanted)))
+    (oneMemoryMore (m .counts)) l (InBytes (nextByte m) (replicate (leastOf wanted) 0))
+effectOf m b l (Operation.Memory number o) =
+    let x = memoryAt m number in
+    let d = memoryEffect x (b .bytes) o in
+    effect (d .answer) (Change.Memory number (resizedMemory x (d .size))) (m .counts) l (d .span)
+effectOf m b l (Operation.NewTable room wanted initial) =
+    effect (accept (m .counts .tables)) (Change.Table (m .counts .tables) (tableOf (tableTypeOf wanted) (nextCell m) room (wanted .limits .minimum)))
+    (oneTableMore (m .counts)) l (InCells (nextCell m) (replicate (wanted .limits .minimum) (initial .raw .bits)))
+effectOf m b l (Operation.Table number o) =
+    let x = tableAt m number in
+    let d = tableEffect x (b .cells) o in
+    effect (d .answer) (Change.Table number (resizedTable x (d .size))) (m .counts) l (d .span)
+effectOf m b l (Operation.TableCopy into source span) =
+    effect (accept 0) Change.Nothing (m .counts) l
+    (InCells (tableAt m into .start + span .to) (cut (b .cells) (tableAt m source .start + span .from) (span .len)))
+effectOf m b l (Operation.TableInit table segment span) =
+    effect (accept 0) Change.Nothing (m .counts) l
+    (InCells (tableAt m table .start + span .to) (cut (b .items) (segmentAt m segment .start + span .from) (span .len)))
+effectOf m b l (Operation.DropSegment segment) = effect (accept 0) (Change.Segment segment (dropped (segmentAt m segment))) (m .counts) l Nowhere
+effectOf m b l (Operation.NewSegment element items) =
+    let n = length (itemsOf items) in
+    effect (accept (m .counts .segments)) (Change.Segment (m .counts .segments) (record { ty = element; start = nextItem m; places = n; size = n }))
+    (oneSegmentMore (m .counts)) l (InItems (nextItem m) (itemsOf items))
 
 -- the fuel after it: set, charged, or less the price where it meets the fuel step
 unfoldable pub fuelBy : Fuel → ℕ → Metering → Fuel
@@ -101,34 +104,19 @@ fuelBy f p (Inits len) = pick (ltb 0 len) (paid f p) f
 abbrev pub fuelAfter : ℕ → Machine → Operation → Fuel
 fuelAfter r m op = fuelBy (m .fuel) (priceOf r m op) (meteringOf op)
 
--- the limiter after 01 to 04: a script is handed over
-unfoldable pub handedTo : Limiter → FuelOp → Limiter
-handedTo l (FuelOp.SetFuel amount) = l
-handedTo l FuelOp.GetFuel = l
-handedTo l (FuelOp.Charge units) = l
-handedTo l (FuelOp.SetLimiter script) = limiterOf (scriptOf script)
+-- the limiter after its one question, if it comes to that
+abbrev pub askedOf : ℕ → Machine → Buffers → Operation → Limiter
+askedOf r m b op = pick (question r m b op) (moved (m .limiter)) (m .limiter)
 
--- a growth by more than 0 asks one question
-abbrev pub askedBy : Limiter → Metering → Limiter
-askedBy l x = pick (both (grows x) (meets x)) (moved l) l
-
--- the limiter after it: handed over, or moved by the one question of a creation or of a growth by more than 0
-unfoldable pub limiterAfter : Limiter → Operation → Limiter
-limiterAfter l (Operation.Fuel o) = handedTo l o
-limiterAfter l (Operation.NewMemory room wanted) = moved l
-limiterAfter l (Operation.Memory number o) = askedBy l (memoryMetering number o)
-limiterAfter l (Operation.NewTable room wanted initial) = moved l
-limiterAfter l (Operation.Table number o) = askedBy l (tableMetering number o)
-limiterAfter l (Operation.TableCopy into source span) = l
-limiterAfter l (Operation.TableInit table segment span) = l
-limiterAfter l (Operation.DropSegment segment) = l
-limiterAfter l (Operation.NewSegment element items) = l
+abbrev pub effects : ℕ → Machine → Buffers → Operation → Effect
+effects r m b op = effectOf m b (askedOf r m b op) op
 
 -- an accepted operation, whole
 unfoldable pub acceptedStep : ℕ → Machine → Buffers → Operation → Stepped
 acceptedStep r m b op =
+    let e = effects r m b op in
     record {
-      answer = answerOf m b op;
-      machine = standing (changed (changeOf m op) m) (countsAfter (m .counts) op) (fuelAfter r m op) (limiterAfter (m .limiter) op);
-      buffers = written m b op;
+      answer = e .answer;
+      machine = standing (changed (e .change) m) (e .counts) (fuelAfter r m op) (e .limiter);
+      buffers = put b (e .span);
     }
