@@ -44,7 +44,7 @@ use Rattle.machine.specs.declared.operation.TableOp.the-variants as table
 use Rattle.machine.proofs.Laws.{along}
 use Rattle.machine.proofs.Rooms.{memory-sound, table-sound, next-byte-inside, next-cell-inside}
 use Rattle.claims.specs.Answers.{accepted}
-use Rattle.claims.specs.Occasions.{given, holds, reaches, memoryChecks, tableChecks, copies, inits, checksOf}
+use Rattle.claims.specs.Occasions.{given, holds, reaches, memoryChecks, tableChecks, checksOf}
 use Rattle.claims.specs.Spans.{put}
 use Rattle.claims.specs.Effects.{memoryEffect, tableEffect, effectOf, effects, acceptedStep}
 use Rattle.claims.specs.Alike.{SameMemory, SameTable, Watched, namesOnly, Agree}
@@ -140,19 +140,19 @@ module _ (r : ℕ) (m : Machine) (b : Buffers) (ms : List Memory) (ts : List Tab
   -- the room left and the watched instances of each kind
   pub record Memories (op : Operation) : Type 0 where
     pub room : length (left op .buffers .bytes) - nextByte (left op .machine) ≡ length (left′ op .buffers .bytes) - nextByte (left′ op .machine)
-    pub each : (i : ℕ) → w .memory i ≡ true → i < effects r m b op .counts .memories → MemoryAfter op i
+    pub each : (i : ℕ) → w .memory i ≡ true → i < effects r m b op .out .counts .memories → MemoryAfter op i
 
   pub record Tables (op : Operation) : Type 0 where
     pub room : length (left op .buffers .cells) - nextCell (left op .machine) ≡ length (left′ op .buffers .cells) - nextCell (left′ op .machine)
-    pub each : (i : ℕ) → w .table i ≡ true → i < effects r m b op .counts .tables → TableAfter op i
+    pub each : (i : ℕ) → w .table i ≡ true → i < effects r m b op .out .counts .tables → TableAfter op i
 
   module _ (op : Operation) (a : Taken op) where
     -- as many instances in use: as much room is left
-    same-bytes : effects r m b op .counts .memories ≡ m .counts .memories → effects r m′ b′ op .counts .memories ≡ m .counts .memories
+    same-bytes : effects r m b op .out .counts .memories ≡ m .counts .memories → effects r m′ b′ op .out .counts .memories ≡ m .counts .memories
         → length (left op .buffers .bytes) - nextByte (left op .machine) ≡ length (left′ op .buffers .bytes) - nextByte (left′ op .machine)
     same-bytes q q′ = byte-room r m b op e (a .0) q ∙ g .rest .bytes ∙ sym (byte-room r m′ b′ op e′ (a .1) q′)
 
-    same-cells : effects r m b op .counts .tables ≡ m .counts .tables → effects r m′ b′ op .counts .tables ≡ m .counts .tables
+    same-cells : effects r m b op .out .counts .tables ≡ m .counts .tables → effects r m′ b′ op .out .counts .tables ≡ m .counts .tables
         → length (left op .buffers .cells) - nextCell (left op .machine) ≡ length (left′ op .buffers .cells) - nextCell (left′ op .machine)
     same-cells q q′ = cell-room r m b op e (a .0) q ∙ g .rest .cells ∙ sym (cell-room r m′ b′ op e′ (a .1) q′)
 
@@ -181,13 +181,13 @@ module _ (r : ℕ) (m : Machine) (b : Buffers) (ms : List Memory) (ts : List Tab
 
     -- the target is of another kind
     memories-stay : eqb (kindOf (targetOf m op)) 1 ≡ false → eqb (kindOf (targetOf m′ op)) 1 ≡ false
-        → effects r m b op .counts .memories ≡ m .counts .memories → effects r m′ b′ op .counts .memories ≡ m .counts .memories → Memories op
+        → effects r m b op .out .counts .memories ≡ m .counts .memories → effects r m′ b′ op .out .counts .memories ≡ m .counts .memories → Memories op
     unfolding kindOf
     memories-stay t t′ q q′ =
         record { room = same-bytes q q′; each = λ i v h. memory-other i v (omega arith) (unlike {u = InMemory i} t) (unlike {u = InMemory i} t′) }
 
     tables-stay : eqb (kindOf (targetOf m op)) 2 ≡ false → eqb (kindOf (targetOf m′ op)) 2 ≡ false
-        → effects r m b op .counts .tables ≡ m .counts .tables → effects r m′ b′ op .counts .tables ≡ m .counts .tables → Tables op
+        → effects r m b op .out .counts .tables ≡ m .counts .tables → effects r m′ b′ op .out .counts .tables ≡ m .counts .tables → Tables op
     unfolding kindOf
     tables-stay t t′ q q′ =
         record { room = same-cells q q′; each = λ i v h. table-other i v (omega arith) (unlike {u = InTable i} t) (unlike {u = InTable i} t′) }
@@ -199,9 +199,9 @@ module _ (r : ℕ) (m : Machine) (b : Buffers) (ms : List Memory) (ts : List Tab
 
     -- the target, and the others
     memories-but : (k : ℕ) → targetOf m op ≡ InMemory k → targetOf m′ op ≡ InMemory k
-        → ((i : ℕ) → i < effects r m b op .counts .memories → (i ≡ k → ⊥) → i < m .counts .memories)
-        → (k < effects r m b op .counts .memories → MemoryAfter op k)
-        → (i : ℕ) → w .memory i ≡ true → i < effects r m b op .counts .memories → MemoryAfter op i
+        → ((i : ℕ) → i < effects r m b op .out .counts .memories → (i ≡ k → ⊥) → i < m .counts .memories)
+        → (k < effects r m b op .out .counts .memories → MemoryAfter op k)
+        → (i : ℕ) → w .memory i ≡ true → i < effects r m b op .out .counts .memories → MemoryAfter op i
     unfolding numberIn
     memories-but k t t′ u f i v h =
         at-place k i (MemoryAfter op)
@@ -209,9 +209,9 @@ module _ (r : ℕ) (m : Machine) (b : Buffers) (ms : List Memory) (ts : List Tab
         (λ z. memory-other i v (u i h z) (λ y. z (ap numberIn (sym y ∙ t))) (λ y. z (ap numberIn (sym y ∙ t′))))
 
     tables-but : (k : ℕ) → targetOf m op ≡ InTable k → targetOf m′ op ≡ InTable k
-        → ((i : ℕ) → i < effects r m b op .counts .tables → (i ≡ k → ⊥) → i < m .counts .tables)
-        → (k < effects r m b op .counts .tables → TableAfter op k)
-        → (i : ℕ) → w .table i ≡ true → i < effects r m b op .counts .tables → TableAfter op i
+        → ((i : ℕ) → i < effects r m b op .out .counts .tables → (i ≡ k → ⊥) → i < m .counts .tables)
+        → (k < effects r m b op .out .counts .tables → TableAfter op k)
+        → (i : ℕ) → w .table i ≡ true → i < effects r m b op .out .counts .tables → TableAfter op i
     unfolding numberIn
     tables-but k t t′ u f i v h =
         at-place k i (TableAfter op)
@@ -353,7 +353,7 @@ module _ (r : ℕ) (m : Machine) (b : Buffers) (ms : List Memory) (ts : List Tab
 
   -- 26: the destination, by cells of a source that is the same in both
   table-copied : (k j : ℕ) (s : CopySpan) → w .table k ≡ true → w .table j ≡ true → Taken (op.TableCopy k j s) → Tables (op.TableCopy k j s)
-  unfolding acceptedStep effectOf targetOf put changed holds checksOf given copies
+  unfolding acceptedStep effectOf targetOf put changed holds checksOf given
   table-copied k j s n u a =
       let c = on-occasion r m b (op.TableCopy k j s) e (a .0) in
       let y : j < m .counts .tables = ltb-true _ _ (both-2 _ _ (both-1 _ _ c)) in
@@ -374,7 +374,7 @@ module _ (r : ℕ) (m : Machine) (b : Buffers) (ms : List Memory) (ts : List Tab
 
   -- 27: the table named, by the same items
   table-inited : (k j : ℕ) (s : CopySpan) → w .table k ≡ true → Taken (op.TableInit k j s) → Tables (op.TableInit k j s)
-  unfolding acceptedStep effectOf targetOf put changed holds checksOf given inits
+  unfolding acceptedStep effectOf targetOf put changed holds checksOf given
   table-inited k j s n a =
       let c = on-occasion r m b (op.TableInit k j s) e (a .0) in
       let t : s .to + s .len ≤ tableAt m k .size = within-is _ _ _ (both-1 _ _ (both-1 _ _ (both-2 _ _ (both-2 _ _ c)))) in
@@ -397,7 +397,7 @@ module _ (r : ℕ) (m : Machine) (b : Buffers) (ms : List Memory) (ts : List Tab
   segment-put i x = pick-ap (λ (y : Machine). y .segments) (ltb i 8) _ _ ∙ sym (pick-ap (λ (y : Machine). y .segments) (ltb i 8) _ _)
 
   -- the segments after each operation
-  pub segments-after : (op : Operation) → changed (effects r m b op .change) m .segments ≡ changed (effects r m′ b′ op .change) m′ .segments
+  pub segments-after : (op : Operation) → changed (effects r m b op .out .change) m .segments ≡ changed (effects r m′ b′ op .out .change) m′ .segments
   unfolding effectOf nextItem
   segments-after (op.Fuel o) = none-put
   segments-after (op.NewMemory room wanted) = memory-segments m _ _ ∙ sym (memory-segments m′ _ _)
@@ -410,7 +410,7 @@ module _ (r : ℕ) (m : Machine) (b : Buffers) (ms : List Memory) (ts : List Tab
   segments-after (op.NewSegment element items) = segment-put _ _
 
   -- the numbers
-  pub counts-after : (op : Operation) → effects r m b op .counts ≡ effects r m′ b′ op .counts
+  pub counts-after : (op : Operation) → effects r m b op .out .counts ≡ effects r m′ b′ op .out .counts
   unfolding effectOf
   counts-after (op.Fuel o) = refl
   counts-after (op.NewMemory room wanted) = refl

@@ -15,6 +15,7 @@ use Rattle.types.specs.Span.{inside}
 use Rattle.types.specs.MemoryType.{pageBytes}
 use Rattle.types.specs.declared.fuel.Fuel.{Fuel}
 use Rattle.types.specs.declared.fuel.FuelCosts.{FuelCosts}
+use Rattle.types.specs.declared.limiter.Limiter.{Limiter}
 use Rattle.types.proofs.Picks.{pick-true, pick-false, both-true, both-1, both-2, either}
 use Rattle.types.proofs.Prices.{price-covers}
 use Rattle.types.proofs.Spans.{within-is}
@@ -35,18 +36,18 @@ use Rattle.machine.specs.declared.operation.TableOp.{TableOp}
 use Rattle.machine.specs.declared.operation.TableOp.the-variants as table
 use Rattle.machine.proofs.Rooms.{parts, table-sound}
 use Rattle.claims.specs.Answers.{accepted}
-use Rattle.claims.specs.Metered.{Metering, Free, Sets, Charges, GrowsPages, GrowsCells, Spans, Inits, fuelMetering, memoryMetering, tableMetering, meteringOf, meets, lengthOf, bytesOf, priceFor, priceOf, affords, passes}
-use Rattle.claims.specs.Occasions.{holds, granted, memoryChecks, tableChecks, copies, inits, checksOf, occasion}
-use Rattle.claims.specs.Effects.{fuelBy, fuelAfter, acceptedStep}
+use Rattle.claims.specs.Metered.{memoryMetering, tableMetering, meteringOf, metering, priceOf, affords, passes}
+use Rattle.claims.specs.Occasions.{holds, memoryChecks, tableChecks, checksOf, occasion}
+use Rattle.claims.specs.Effects.{fuelEffect, effects, acceptedStep}
 use Rattle.claims.specs.Bound.{wrote, pays, totals, mostR, mostBytes}
 use Rattle.claims.proofs.Checks.{given-1, given-2, growing-some}
-use Rattle.claims.proofs.Exiting.{branch}
+use Rattle.claims.proofs.Exiting.{branch, by-kind}
 use Rattle.claims.proofs.Exits.{refusal-leaves, accepted-when, accepted-does}
 
 -- the same metering and the same costs
-record SameMeter (f g : Fuel) : Type 0 where
-  enabled : g .enabled ≡ f .enabled
-  costs : g .costs ≡ f .costs
+pub record SameMeter (f g : Fuel) : Type 0 where
+  pub enabled : g .enabled ≡ f .enabled
+  pub costs : g .costs ≡ f .costs
 
 -- whatever fuel is left
 same-left : (f : Fuel) (n : ℕ) → SameMeter f (left f n)
@@ -59,27 +60,13 @@ same-paid f p t =
     (λ e. branch (SameMeter f) (f .enabled) _ _ (λ u. same-left f _) (λ u. same-left f (f .remaining)))
     (λ e. same-left f (f .remaining))
 
--- and so after every operation
-same-by : (f : Fuel) (p : ℕ) (x : Metering) → SameMeter f (fuelBy f p x)
-unfolding fuelBy
-same-by f p Free = same-left f (f .remaining)
-same-by f p (Sets amount) = same-left f amount
-same-by f p (Charges units) = same-left f _
-same-by f p (GrowsPages memory pages) = same-paid f p _
-same-by f p (GrowsCells table cells) = same-paid f p _
-same-by f p (Spans len) = subst (SameMeter f) (pick-true _ _ _ refl) (same-paid f p true)
-same-by f p (Inits len) = same-paid f p _
-
--- what meets the fuel step pays its price
-by-meeting : (f : Fuel) (p : ℕ) (x : Metering) → meets x ≡ true → fuelBy f p x ≡ paid f p
-unfolding fuelBy meets
-by-meeting f p Free e = absurd (false≢true e)
-by-meeting f p (Sets amount) e = absurd (false≢true e)
-by-meeting f p (Charges units) e = absurd (false≢true e)
-by-meeting f p (GrowsPages memory pages) e = pick-true _ _ _ e
-by-meeting f p (GrowsCells table cells) e = pick-true _ _ _ e
-by-meeting f p (Spans len) e = refl
-by-meeting f p (Inits len) e = pick-true _ _ _ e
+-- and after 01 to 04
+same-own : (g f : Fuel) (l : Limiter) (o : FuelOp) → SameMeter g f → SameMeter g (fuelEffect f l o .fuel)
+unfolding fuelEffect
+same-own g f l (fuel.SetFuel amount) h = record { enabled = h .enabled; costs = h .costs }
+same-own g f l fuel.GetFuel h = h
+same-own g f l (fuel.Charge units) h = record { enabled = h .enabled; costs = h .costs }
+same-own g f l (fuel.SetLimiter script) h = h
 
 -- where the length is not 0
 not-none : (n : ℕ) → ltb 0 n ≡ true → eqb n 0 ≡ false
@@ -97,9 +84,9 @@ cells-below = ltb-true (2 ^ 32 * mostR) (2 ^ 64) refl
 
 module _ (r : ℕ) (m : Machine) (b : Buffers) where
   -- what an accepted operation that meets the fuel step was tested for: its price is there; and its bytes are below 2^64
-  pub record Payable (x : Metering) : Type 0 where
-    pub affordable : affords m (priceFor r m x) ≡ true
-    pub short : r ≤ mostR → soundOver m b ≡ true → lengthOf r m x < 2 ^ 64
+  pub record Payable (op : Operation) : Type 0 where
+    pub affordable : affords m (priceOf r m op) ≡ true
+    pub short : r ≤ mostR → soundOver m b ≡ true → metering r m op .bytes < 2 ^ 64
 
   -- no more cells than a room has are R bytes each below 2^64
   cells-short : (i n : ℕ) → ltb i (m .counts .tables) ≡ true → n ≤ tableAt m i .room → r ≤ mostR → soundOver m b ≡ true → n * r < 2 ^ 64
@@ -117,10 +104,10 @@ module _ (r : ℕ) (m : Machine) (b : Buffers) where
       cells-short i n k (omega (arith, within-is start n _ h)) small s
 
   -- 11 to 14, 30: a growth of a memory
-  payable-memory : (i : ℕ) (o : MemoryOp) → meets (memoryMetering i o) ≡ true → holds (granted m) (memoryChecks r m i o) ≡ true → Payable (memoryMetering i o)
-  unfolding memoryMetering meets holds memoryChecks mayHave lengthOf
+  payable-memory : (i : ℕ) (o : MemoryOp) → metering r m (op.Memory i o) .meets ≡ true → occasion r m b (op.Memory i o) ≡ true → Payable (op.Memory i o)
+  unfolding meteringOf memoryMetering holds checksOf memoryChecks mayHave
   payable-memory i (memory.Grow pages) p e =
-      let tests = growing-some _ pages _ _ (not-none pages p) e in
+      let tests = growing-some _ pages _ _ (not-none pages p) (given-2 _ _ _ e) in
       let below : (pagesOf (memoryAt m i) + pages) * pageBytes (memoryAt m i .ty .page) < 2 ^ 64 = ltb-true _ _ (both-2 _ _ (both-2 _ _ (both-1 _ _ tests))) in
       let fewer : pages ≤ pagesOf (memoryAt m i) + pages = omega arith in
       record {
@@ -133,36 +120,27 @@ module _ (r : ℕ) (m : Machine) (b : Buffers) where
   payable-memory i (memory.LinkCheck wanted) p e = absurd (false≢true p)
 
   -- 21 to 25: a growth of a table, and a fill
-  payable-table : (i : ℕ) (o : TableOp) → meets (tableMetering i o) ≡ true → ltb i (m .counts .tables) ≡ true → holds (granted m) (tableChecks r m i o) ≡ true
-      → Payable (tableMetering i o)
-  unfolding tableMetering meets holds tableChecks lengthOf
-  payable-table i (table.Grow cells value) p k e =
-      let last = both-2 _ _ (both-2 _ _ (both-2 _ _ (growing-some _ cells _ _ (not-none cells p) (given-2 _ _ _ e)))) in
+  payable-table : (i : ℕ) (o : TableOp) → metering r m (op.Table i o) .meets ≡ true → occasion r m b (op.Table i o) ≡ true → Payable (op.Table i o)
+  unfolding meteringOf tableMetering holds checksOf tableChecks
+  payable-table i (table.Grow cells value) p e =
+      let last = both-2 _ _ (both-2 _ _ (both-2 _ _ (growing-some _ cells _ _ (not-none cells p) (given-2 _ _ _ (given-2 _ _ _ e))))) in
       let held : tableAt m i .size + cells ≤ tableAt m i .room = leb-true _ _ (both-2 _ _ last) in
-      record { affordable = both-1 _ _ last; short = cells-short i cells k (omega arith) }
-  payable-table i table.Size p k e = absurd (false≢true p)
-  payable-table i (table.Get index) p k e = absurd (false≢true p)
-  payable-table i (table.Set index value) p k e = absurd (false≢true p)
-  payable-table i (table.Fill start value len) p k e =
-      let last = both-2 _ _ e in
-      record { affordable = both-2 _ _ last; short = cells-inside i start len k (both-1 _ _ last) }
-
-  -- nothing of 01 to 04
-  pub fuel-free : (o : FuelOp) → meets (fuelMetering o) ≡ false
-  unfolding fuelMetering meets
-  fuel-free (fuel.SetFuel amount) = refl
-  fuel-free fuel.GetFuel = refl
-  fuel-free (fuel.Charge units) = refl
-  fuel-free (fuel.SetLimiter script) = refl
+      record { affordable = both-1 _ _ last; short = cells-short i cells (given-1 _ _ _ e) (omega arith) }
+  payable-table i table.Size p e = absurd (false≢true p)
+  payable-table i (table.Get index) p e = absurd (false≢true p)
+  payable-table i (table.Set index value) p e = absurd (false≢true p)
+  payable-table i (table.Fill start value len) p e =
+      let last = both-2 _ _ (given-2 _ _ _ e) in
+      record { affordable = both-2 _ _ last; short = cells-inside i start len (given-1 _ _ _ e) (both-1 _ _ last) }
 
   -- every operation that meets the fuel step
-  pub payable : (op : Operation) → meets (meteringOf op) ≡ true → occasion r m b op ≡ true → Payable (meteringOf op)
-  unfolding meteringOf meets holds checksOf copies inits lengthOf
-  payable (op.Fuel o) p e = absurd (false≢true (sym (fuel-free o) ∙ p))
+  pub payable : (op : Operation) → metering r m op .meets ≡ true → occasion r m b op ≡ true → Payable op
+  unfolding meteringOf holds checksOf
+  payable (op.Fuel o) p e = absurd (false≢true p)
   payable (op.NewMemory room wanted) p e = absurd (false≢true p)
-  payable (op.Memory number o) p e = payable-memory number o p (given-2 _ _ _ e)
+  payable (op.Memory number o) p e = payable-memory number o p e
   payable (op.NewTable room wanted initial) p e = absurd (false≢true p)
-  payable (op.Table number o) p e = payable-table number o p (given-1 _ _ _ e) (given-2 _ _ _ e)
+  payable (op.Table number o) p e = payable-table number o p e
   payable (op.TableCopy into source span) p e =
       let last = both-2 _ _ (both-2 _ _ e) in
       record { affordable = both-2 _ _ last; short = cells-inside into (span .to) (span .len) (both-1 _ _ (both-1 _ _ e)) (both-1 _ _ (both-1 _ _ last)) }
@@ -188,29 +166,39 @@ affords-is m p on e = leb-true _ _ (sym (pick-true _ _ true on) ∙ e)
 
 module _ (r : ℕ) (m : Machine) (b : Buffers) (op : Operation) where
   -- the fuel after an accepted operation
-  pub fuel-after : accepted (step r m b op .answer) ≡ true → step r m b op .machine .fuel ≡ fuelAfter r m op
+  pub fuel-after : accepted (step r m b op .answer) ≡ true → step r m b op .machine .fuel ≡ effects r m b op .out .fuel
   unfolding acceptedStep
   fuel-after e = ap (λ (s : Stepped). s .machine .fuel) (accepted-does r m b op e)
 
   -- no operation changes whether fuel is metered, nor the costs
-  meter-stays : SameMeter (m .fuel) (step r m b op .machine .fuel)
+  pub meter-stays : SameMeter (m .fuel) (step r m b op .machine .fuel)
   meter-stays =
       either (accepted (step r m b op .answer))
-      (λ e. subst (SameMeter (m .fuel)) (sym (fuel-after e)) (same-by (m .fuel) (priceOf r m op) (meteringOf op)))
+      (λ e.
+      subst (SameMeter (m .fuel)) (sym (fuel-after e))
+      (by-kind m b _ _ op (λ (f : Fuel) (l : Limiter). SameMeter (m .fuel) f)
+      (λ o q. same-own _ _ _ o (same-paid (m .fuel) (priceOf r m op) _)) (same-paid (m .fuel) (priceOf r m op) _)))
       (λ e. subst (SameMeter (m .fuel)) (sym (refusal-leaves r m b op e .fuel)) (same-paid (m .fuel) (priceOf r m op) _))
 
-  module _ (on : m .fuel .enabled ≡ true) (p : meets (meteringOf op) ≡ true) (e : accepted (step r m b op .answer) ≡ true) where
+  module _ (on : m .fuel .enabled ≡ true) (p : metering r m op .meets ≡ true) (e : accepted (step r m b op .answer) ≡ true) where
     -- an accepted operation that meets the fuel step passes it
     pub passes-accepted : passes r m b op ≡ true
     unfolding passes
     passes-accepted = both-true _ _ p (pick-true _ _ _ e)
+
+    -- and is none of 01 to 04, so its price is paid
+    paid-by : effects r m b op .out .fuel ≡ paid (m .fuel) (priceOf r m op)
+    unfolding meteringOf
+    paid-by =
+        by-kind m b _ _ op (λ (f : Fuel) (l : Limiter). f ≡ paid (m .fuel) (priceOf r m op))
+        (λ o q. absurd (false≢true (sym (ap (λ (x : Operation). metering r m x .meets) q) ∙ p))) (pick-true _ _ _ p)
 
     -- and pays its price
     pub pays-price : affords m (priceOf r m op) ≡ true → pays r m b op ≡ priceOf r m op
     unfolding pays
     pays-price a =
         pick-true _ _ 0 passes-accepted
-        ∙ ap (λ (f : Fuel). m .fuel .remaining - f .remaining) (fuel-after e ∙ by-meeting (m .fuel) (priceOf r m op) (meteringOf op) p)
+        ∙ ap (λ (f : Fuel). m .fuel .remaining - f .remaining) (fuel-after e ∙ paid-by)
         ∙ fell (m .fuel) (priceOf r m op) on (affords-is m (priceOf r m op) on a)
 
   -- the bound of one operation
@@ -218,18 +206,18 @@ module _ (r : ℕ) (m : Machine) (b : Buffers) (op : Operation) where
       → wrote r m b op ≤ mostBytes (m .fuel .costs .copied) (pays r m b op) (pick (passes r m b op) 1 0)
   unfolding wrote
   one-bound small on some =
-      either (both (meets (meteringOf op)) (accepted (step r m b op .answer)))
+      either (both (metering r m op .meets) (accepted (step r m b op .answer)))
       (λ t.
       let p = both-1 _ _ t in
       let e = both-2 _ _ t in
       let when = both-2 _ _ (sym (accepted-when r m b op) ∙ e) in
       let can = payable r m b op p (both-2 _ _ when) in
-      let w : wrote r m b op ≡ bytesOf r m op = pick-true _ _ 0 t in
+      let w : wrote r m b op ≡ metering r m op .bytes = pick-true _ _ 0 t in
       let u : pays r m b op ≡ priceOf r m op = pays-price on p e (can .affordable) in
       let k : _≡_ {A = ℕ} (pick (passes r m b op) 1 0) 1 = pick-true _ 1 0 (passes-accepted on p e) in
-      rw w (rw u (rw k (covered (m .fuel .costs .copied) (bytesOf r m op) some (can .short small (both-1 _ _ when))))))
+      rw w (rw u (rw k (covered (m .fuel .costs .copied) (metering r m op .bytes) some (can .short small (both-1 _ _ when))))))
       (λ t.
-      let w : wrote r m b op ≡ 0 = pick-false _ (bytesOf r m op) 0 t in
+      let w : wrote r m b op ≡ 0 = pick-false _ (metering r m op .bytes) 0 t in
       omega arith)
 
 -- the bound of any operations, from any machine

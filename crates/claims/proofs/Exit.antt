@@ -34,5 +34,5 @@ pub record Refusing (r : ℕ) (m : Machine) (b : Buffers) (op : Operation) (when
 
 -- accepted, with a value, or refused
 pub data Exit (r : ℕ) (m : Machine) (b : Buffers) (op : Operation) (when : Bool) : Type 0 where
-  accepts : when ≡ true → accepted (effects r m b op .answer) ≡ true → step r m b op ≡ acceptedStep r m b op → Exit r m b op when
+  accepts : when ≡ true → accepted (effects r m b op .out .answer) ≡ true → step r m b op ≡ acceptedStep r m b op → Exit r m b op when
   refuses : (x : Refusal) (f : Fuel) (l : Limiter) → Refusing r m b op when x f l → Exit r m b op when

@@ -32,11 +32,13 @@ use Rattle.machine.specs.declared.outcome.Outcome.{Outcome}
 use Rattle.machine.specs.declared.outcome.Change.{Change}
 use Rattle.machine.specs.declared.outcome.Change.the-variants as change
 use Rattle.machine.specs.declared.operation.Operation.{Operation}
+use Rattle.machine.specs.declared.operation.Operation.the-variants as op
+use Rattle.machine.specs.declared.operation.FuelOp.{FuelOp}
 use Rattle.claims.specs.Answers.{accepted, listed}
-use Rattle.claims.specs.Metered.{meteringOf, grows, priceOf, affords, grants, unlimited, erredAfter8, paidRefusal}
+use Rattle.claims.specs.Metered.{metering, priceOf, affords, grants, unlimited, erredAfter8, paidRefusal}
 use Rattle.claims.specs.Occasions.{granted, occasion, question}
 use Rattle.claims.specs.Spans.{put}
-use Rattle.claims.specs.Effects.{effectOf, fuelAfter, askedOf, effects, acceptedStep}
+use Rattle.claims.specs.Effects.{fuelEffect, effectOf, spent, asked, effects, acceptedStep}
 use Rattle.claims.proofs.Heard.{Onward, no-question, heard-no, heard-told, moved-once, moved-twice}
 use Rattle.claims.proofs.Exit.{stays, Exit, accepts, refuses}
 
@@ -137,6 +139,21 @@ pub put-back-stays : (m : Machine) (b : Buffers) (c : Change) → changed c m �
 unfolding settled
 put-back-stays m b c k x f l = ap (λ (n : Machine). record { answer = answer.Refusal x; machine = standing n (m .counts) f l; buffers = b }) k
 
+-- the fuel and the limiter after an operation: of 01 to 04 their own, else as they come
+pub by-kind : (m : Machine) (b : Buffers) (f : Fuel) (l : Limiter) (x : Operation) (P : Fuel → Limiter → Type 0)
+    → ((o : FuelOp) → x ≡ op.Fuel o → P (fuelEffect f l o .fuel) (fuelEffect f l o .limiter)) → P f l
+    → P (effectOf m b f l x .out .fuel) (effectOf m b f l x .out .limiter)
+unfolding effectOf
+by-kind m b f l (op.Fuel o) P own other = own o refl
+by-kind m b f l (op.NewMemory room wanted) P own other = other
+by-kind m b f l (op.Memory number o) P own other = other
+by-kind m b f l (op.NewTable room wanted initial) P own other = other
+by-kind m b f l (op.Table number o) P own other = other
+by-kind m b f l (op.TableCopy into source span) P own other = other
+by-kind m b f l (op.TableInit table segment span) P own other = other
+by-kind m b f l (op.DropSegment segment) P own other = other
+by-kind m b f l (op.NewSegment element items) P own other = other
+
 -- what is shown of a step that came to these checks
 abbrev pub Ends : ℕ → Machine → Buffers → Operation → Performed → Type 0
 Ends r m b op p = step r m b op ≡ after m p → Exit r m b op (occasion r m b op)
@@ -149,8 +166,8 @@ spans m c s =
 -- what an accepted operation leaves, with such fuel and limiter
 abbrev pub doing : Machine → Buffers → Operation → Fuel → Limiter → Performed
 doing m b op f l =
-    let e = effectOf m b l op in
-    onNone (record { answer = e .answer; change = e .change; counts = e .counts; fuel = f; limiter = e .limiter }) (put b (e .span))
+    let e = effectOf m b f l op in
+    onNone (e .out) (put b (e .span))
 
 module _ (r : ℕ) (m : Machine) (b : Buffers) (op : Operation) where
   -- on a sound machine a well-formed operation comes to its own checks
@@ -160,10 +177,10 @@ module _ (r : ℕ) (m : Machine) (b : Buffers) (op : Operation) where
 
   -- answer, change, numbers, fuel, limiter and buffers are the ones described
   pub accepted-is : {a : Answer} {c : Change} {k : Counts} {f : Fuel} {l : Limiter} {b′ : Buffers}
-      → a ≡ effects r m b op .answer → c ≡ effects r m b op .change → k ≡ effects r m b op .counts → f ≡ fuelAfter r m op → l ≡ effects r m b op .limiter
+      → a ≡ effects r m b op .out .answer → c ≡ effects r m b op .out .change → k ≡ effects r m b op .out .counts → f ≡ effects r m b op .out .fuel → l ≡ effects r m b op .out .limiter
       → b′ ≡ put b (effects r m b op .span)
       → after m (onNone (record { answer = a; change = c; counts = k; fuel = f; limiter = l }) b′) ≡ acceptedStep r m b op
-  unfolding acceptedStep settled
+  unfolding acceptedStep
   accepted-is ea ec ek ef el eb =
       (λ i. record { answer = ea i; machine = standing (changed (ec i) m) (ek i) (ef i) (el i); buffers = eb i })
 
@@ -181,9 +198,9 @@ module _ (r : ℕ) (m : Machine) (b : Buffers) (op : Operation) where
 
   -- whether a refusal paid, by its number
   pub paid-is : (k : ℕ) → number ≡ k
-      → paidRefusal r m b op ≡ both (grows (meteringOf op)) (pick (eqb k 8) true (both (eqb k 4) (both (granted m) (eqb quiet 8))))
+      → paidRefusal r m b op ≡ both (ltb 0 (metering r m op .more)) (pick (eqb k 8) true (both (eqb k 4) (both (granted m) (eqb quiet 8))))
   unfolding paidRefusal erredAfter8
-  paid-is k q = ap (λ (j : ℕ). both (grows (meteringOf op)) (pick (eqb j 8) true (both (eqb j 4) (both (granted m) (eqb quiet 8))))) q
+  paid-is k q = ap (λ (j : ℕ). both (ltb 0 (metering r m op .more)) (pick (eqb j 8) true (both (eqb j 4) (both (granted m) (eqb quiet 8))))) q
 
   -- one with another number than 4 and 8 paid nothing
   pub unpaid : (k : ℕ) → number ≡ k → eqb k 8 ≡ false → eqb k 4 ≡ false → paidRefusal r m b op ≡ false
@@ -202,15 +219,20 @@ module _ {r : ℕ} {m : Machine} {b : Buffers} {op : Operation} where
       let a = ap (λ (y : Stepped). accepted (y .answer)) s in
       refuses x f l (record { none = o; same = s; known = h .known; sound = λ e. h .sound; fuel = p; script = t a })
 
-  -- accepted, with the fuel as it comes, asked or not
-  pub accepting-by : {f : Fuel} (l : Limiter) → f ≡ fuelAfter r m op → l ≡ askedOf r m b op → occasion r m b op ≡ true
-      → accepted (effects r m b op .answer) ≡ true → Ends r m b op (doing m b op f l)
-  unfolding acceptedStep settled
-  accepting-by l p h o v q = accepts o v (q ∙ (λ i. after m (doing m b op (p i) (h i))))
+  -- accepted, with fuel and limiter as they come
+  pub accepting-by : (f : Fuel) (l : Limiter) → f ≡ spent r m op → l ≡ asked r m b op → occasion r m b op ≡ true
+      → accepted (effects r m b op .out .answer) ≡ true → Ends r m b op (doing m b op f l)
+  unfolding acceptedStep
+  accepting-by f l p h o v q = accepts o v (q ∙ (λ i. after m (doing m b op (p i) (h i))))
 
-  pub accepting : {f : Fuel} → f ≡ fuelAfter r m op → question r m b op ≡ false → occasion r m b op ≡ true
-      → accepted (effects r m b op .answer) ≡ true → Ends r m b op (doing m b op f (m .limiter))
-  accepting p u = accepting-by (m .limiter) p (sym (pick-false _ _ _ u))
+  -- paying nothing, or its price, and asking nothing
+  pub accepting : metering r m op .meets ≡ false → question r m b op ≡ false → occasion r m b op ≡ true → accepted (effects r m b op .out .answer) ≡ true
+      → Ends r m b op (doing m b op (m .fuel) (m .limiter))
+  accepting p u = accepting-by (m .fuel) (m .limiter) (sym (pick-false _ _ _ p)) (sym (pick-false _ _ _ u))
+
+  pub accepting-paid : metering r m op .meets ≡ true → question r m b op ≡ false → occasion r m b op ≡ true → accepted (effects r m b op .out .answer) ≡ true
+      → Ends r m b op (doing m b op (paid (m .fuel) (priceOf r m op)) (m .limiter))
+  accepting-paid p u = accepting-by _ (m .limiter) (sym (pick-true _ _ _ p)) (sym (pick-false _ _ _ u))
 
   -- the checks of a creation in sound room: 1, one more, limiter 3 or 4, 5 with notice
   pub creating : {X : Type 0} (out : X → Performed) (kept : Limiter → Refusal → X) (made : X) (sound valid more fits : Bool) (number : ℕ)
@@ -258,7 +280,7 @@ module _ {r : ℕ} {m : Machine} {b : Buffers} {op : Operation} where
       denied : (k : ℕ) → Named (refusal k 0) → question r m b op ≡ true → granted m ≡ false → To (kept (moved (m .limiter)) (refusal k 0))
       denied k n q g = refused _ _ n (o ∙ both-right _ _ (both-left _ _ g)) (λ p. moved-once r m b op (heard-no r m b op e w q g))
 
-  module _ (c : Change) (k : changed c m ≡ m) (g : grows (meteringOf op) ≡ false) where
+  module _ (c : Change) (k : changed c m ≡ m) (g : ltb 0 (metering r m op .more) ≡ false) where
     -- refused, no growth, with a change that changes nothing
     pub refusing-by : (x : Refusal) (l : Limiter) → Named x → occasion r m b op ≡ false
         → Onward r m b op l → Ends r m b op (onNone (record { answer = answer.Refusal x; change = c; counts = m .counts; fuel = m .fuel; limiter = l }) b)
@@ -304,12 +326,12 @@ module _ {r : ℕ} {m : Machine} {b : Buffers} {op : Operation} where
           To s = Ends r m b op (onCells (spans m c s) b)
 
   -- refused, no growth, with no change
-  pub leaving-by : (x : Refusal) (l : Limiter) → Named x → grows (meteringOf op) ≡ false → occasion r m b op ≡ false → Onward r m b op l
+  pub leaving-by : (x : Refusal) (l : Limiter) → Named x → ltb 0 (metering r m op .more) ≡ false → occasion r m b op ≡ false → Onward r m b op l
       → Ends r m b op (onNone (leaves m (answer.Refusal x) (m .fuel) l) b)
   leaving-by x l h g o t = refusing-by change.Nothing (nothing-put m) g x l h o t
 
   -- that asks the limiter nothing
-  pub leaving : (x : Refusal) → Named x → grows (meteringOf op) ≡ false → question r m b op ≡ false → occasion r m b op ≡ false
+  pub leaving : (x : Refusal) → Named x → ltb 0 (metering r m op .more) ≡ false → question r m b op ≡ false → occasion r m b op ≡ false
       → Ends r m b op (onNone (keeps m (answer.Refusal x)) b)
   leaving x h g u o = leaving-by x (m .limiter) h g o (λ n. no-question r m b op u)
 

@@ -1,13 +1,12 @@
 -- A row in form is in form after every operation: flags and costs as they were, and a script of answers of at most 2. Assumes nothing.
 use Prim.Native.Nat.{ℕ, zero, suc, _+_, _≤_, _<_}
-use mathlib.Core.Path.{_≡_, refl, sym, ap, subst, _∙_}
+use mathlib.Core.Path.{_≡_, sym, subst, _∙_}
 use mathlib.Core.Bool.{true}
 use mathlib.Core.List.{List, [], _∷_, _++_}
 use native.Mathlib.Omega.{arith}
 use lib.Dec.{leb}
 use lib.ListN.{length, getD, drop, replicate, length-append, length-drop}
 use borrow.Author.Tests.{leb-true}
-use Rattle.types.specs.Fuel.{paid}
 use Rattle.types.specs.Limiter.{moved, padded, allAnswers, wellFormed}
 use Rattle.types.specs.declared.fuel.Fuel.{Fuel}
 use Rattle.types.specs.declared.fuel.FuelCosts.{FuelCosts}
@@ -22,7 +21,6 @@ use Rattle.machine.specs.Row.{InRow, operateRow}
 use Rattle.machine.specs.stages.Rows.{Shaped}
 use Rattle.machine.specs.declared.records.Machine.{Machine}
 use Rattle.machine.specs.declared.operation.Operation.{Operation}
-use Rattle.machine.specs.declared.operation.Operation.the-variants as op
 use Rattle.machine.specs.declared.operation.FuelOp.{FuelOp}
 use Rattle.machine.specs.declared.operation.FuelOp.the-variants as fuel
 use Rattle.machine.proofs.Back.{shaped-from}
@@ -30,13 +28,13 @@ use Rattle.machine.proofs.Formed.{form-long}
 use Rattle.machine.proofs.Forming.{put-form}
 use Rattle.machine.proofs.Settling.{Eights, eights, changed-eights}
 use Rattle.claims.specs.Answers.{accepted}
-use Rattle.claims.specs.Metered.{Metering, Free, Sets, Charges, GrowsPages, GrowsCells, Spans, Inits, meteringOf, priceOf}
 use Rattle.claims.specs.Occasions.{holds, fuelOccasion, checksOf, occasion}
-use Rattle.claims.specs.Effects.{handedTo, effectOf, fuelBy, effects, acceptedStep}
-use Rattle.claims.specs.Script.{heard, movedBy, replaced, scriptAfter}
-use Rattle.claims.proofs.Exiting.{branch}
+use Rattle.claims.specs.Effects.{fuelEffect, effects, acceptedStep}
+use Rattle.claims.specs.Script.{heard, movedBy, scriptAfter}
+use Rattle.claims.proofs.Exiting.{branch, by-kind}
 use Rattle.claims.proofs.Exits.{refusal-leaves, accepted-when, accepted-does}
 use Rattle.claims.proofs.Script.{script-moves}
+use Rattle.claims.proofs.Bound.{meter-stays}
 
 -- a script of 16 places whose answers are at most 2
 record Answers (l : Limiter) : Type 0 where
@@ -75,65 +73,32 @@ padded-each : (s : List ℕ) → wellFormed s ≡ true → (i : ℕ) → getD (p
 unfolding padded wellFormed
 padded-each s e = script-each s _ (both-2 _ _ e) (zeros 16 (length s))
 
-handed-answers : (m : Machine) (l : Limiter) (o : FuelOp) → fuelOccasion m o ≡ true → Answers l → Answers (handedTo l o)
-unfolding fuelOccasion handedTo
-handed-answers m l (fuel.SetFuel amount) e h = h
-handed-answers m l fuel.GetFuel e h = h
-handed-answers m l (fuel.Charge units) e h = h
-handed-answers m l (fuel.SetLimiter script) e h =
+handed-answers : (m : Machine) (f : Fuel) (l : Limiter) (o : FuelOp) → fuelOccasion m o ≡ true → Answers l → Answers (fuelEffect f l o .limiter)
+unfolding fuelOccasion fuelEffect
+handed-answers m f l (fuel.SetFuel amount) e h = h
+handed-answers m f l fuel.GetFuel e h = h
+handed-answers m f l (fuel.Charge units) e h = h
+handed-answers m f l (fuel.SetLimiter script) e h =
     record { long = padded-long (scriptOf script) (well-short (scriptOf script) e); each = padded-each (scriptOf script) e }
-
--- the costs stay
-paid-costs : (f : Fuel) (p : ℕ) → paid f p .costs ≡ f .costs
-paid-costs f p = branch (λ (g : Fuel). g .costs ≡ f .costs) _ _ _ (λ t. refl) (λ t. refl)
-
-by-costs : (f : Fuel) (p : ℕ) (x : Metering) → fuelBy f p x .costs ≡ f .costs
-unfolding fuelBy
-by-costs f p Free = refl
-by-costs f p (Sets amount) = refl
-by-costs f p (Charges units) = refl
-by-costs f p (GrowsPages memory pages) = branch (λ (g : Fuel). g .costs ≡ f .costs) _ _ _ (λ t. paid-costs f p) (λ t. refl)
-by-costs f p (GrowsCells table cells) = branch (λ (g : Fuel). g .costs ≡ f .costs) _ _ _ (λ t. paid-costs f p) (λ t. refl)
-by-costs f p (Spans len) = paid-costs f p
-by-costs f p (Inits len) = branch (λ (g : Fuel). g .costs ≡ f .costs) _ _ _ (λ t. paid-costs f p) (λ t. refl)
-
--- a script that another takes the place of
-module _ (r : ℕ) (m : Machine) (b : Buffers) where
-  replaced-answers : (l : Limiter) (o : Operation) → occasion r m b o ≡ true → Answers l → Answers (replaced m b l o)
-  unfolding holds checksOf effectOf
-  replaced-answers l (op.Fuel o) e h = handed-answers m l o e h
-  replaced-answers l (op.NewMemory room wanted) e h = h
-  replaced-answers l (op.Memory number o) e h = h
-  replaced-answers l (op.NewTable room wanted initial) e h = h
-  replaced-answers l (op.Table number o) e h = h
-  replaced-answers l (op.TableCopy into source span) e h = h
-  replaced-answers l (op.TableInit table segment span) e h = h
-  replaced-answers l (op.DropSegment segment) e h = h
-  replaced-answers l (op.NewSegment element items) e h = h
 
 module _ (r : ℕ) (m : Machine) (b : Buffers) (op : Operation) where
   step-answers : Answers (m .limiter) → Answers (step r m b op .machine .limiter)
-  unfolding scriptAfter
+  unfolding scriptAfter holds checksOf
   step-answers h =
       let n = moved-answers (heard r m b op) (m .limiter) h in
       subst Answers (sym (script-moves r m b op))
-      (branch Answers _ _ _ (λ a. replaced-answers r m b _ op (both-2 _ _ (both-2 _ _ (sym (accepted-when r m b op) ∙ a))) n) (λ a. n))
-
-  step-costs : step r m b op .machine .fuel .costs ≡ m .fuel .costs
-  unfolding acceptedStep
-  step-costs =
-      either (accepted (step r m b op .answer))
-      (λ a. ap (λ (s : Stepped). s .machine .fuel .costs) (accepted-does r m b op a) ∙ by-costs (m .fuel) (priceOf r m op) (meteringOf op))
+      (branch Answers _ _ _
       (λ a.
-      ap (λ (f : Fuel). f .costs) (refusal-leaves r m b op a .fuel)
-      ∙ branch (λ (f : Fuel). f .costs ≡ m .fuel .costs) _ _ _ (λ t. paid-costs (m .fuel) (priceOf r m op)) (λ t. refl))
+      by-kind m b _ _ op (λ (f : Fuel) (l : Limiter). Answers l)
+      (λ o q. handed-answers m _ _ o (subst (λ (x : Operation). occasion r m b x ≡ true) q (both-2 _ _ (both-2 _ _ (sym (accepted-when r m b op) ∙ a)))) n) n)
+      (λ a. n))
 
   step-eights : Eights m → Eights (step r m b op .machine)
   unfolding acceptedStep
   step-eights h =
       either (accepted (step r m b op .answer))
       (λ a.
-      let d = changed-eights (effects r m b op .change) m h in
+      let d = changed-eights (effects r m b op .out .change) m h in
       subst (λ (s : Stepped). Eights (s .machine)) (sym (accepted-does r m b op a)) (record { memories = d .memories; tables = d .tables; segments = d .segments }))
       (λ a. subst Eights (sym (refusal-leaves r m b op a .records)) (record { memories = h .memories; tables = h .tables; segments = h .segments }))
 
@@ -147,9 +112,9 @@ module _ (r : ℕ) (m : Machine) (b : Buffers) (op : Operation) where
         segments = e .segments;
         fits = record {
           script = a .long;
-          copied = subst (λ (k : FuelCosts). k .copied < 4294967296) (sym step-costs) (s .fits .copied);
-          translated = subst (λ (k : FuelCosts). k .translated < 4294967296) (sym step-costs) (s .fits .translated);
-          validated = subst (λ (k : FuelCosts). k .validated < 4294967296) (sym step-costs) (s .fits .validated);
+          copied = subst (λ (k : FuelCosts). k .copied < 4294967296) (sym (meter-stays r m b op .costs)) (s .fits .copied);
+          translated = subst (λ (k : FuelCosts). k .translated < 4294967296) (sym (meter-stays r m b op .costs)) (s .fits .translated);
+          validated = subst (λ (k : FuelCosts). k .validated < 4294967296) (sym (meter-stays r m b op .costs)) (s .fits .validated);
           answers = λ i. let q = a .each i in omega (arith, q);
         };
       }

@@ -23,7 +23,7 @@ use Rattle.machine.specs.Step.{Performed, Stepped, onNone, perform, after, step
 use Rattle.machine.specs.declared.records.Machine.{Machine}
 use Rattle.machine.specs.declared.operation.Operation.{Operation}
 use Rattle.claims.specs.Answers.{accepted}
-use Rattle.claims.specs.Metered.{meteringOf, grows, priceOf, affords, unlimited, paidRefusal}
+use Rattle.claims.specs.Metered.{metering, priceOf, affords, unlimited, paidRefusal}
 use Rattle.claims.specs.Occasions.{granted, occasion, question}
 use Rattle.claims.specs.Effects.{effects, acceptedStep}
 use Rattle.claims.specs.Script.{heard}
@@ -58,7 +58,7 @@ heard-number said x P p q = branch (λ (y : Refusal). P (y .number)) _ _ _ (λ t
 
 module _ (r : ℕ) (m : Machine) (b : Buffers) (op : Operation) where
   -- one of which the limiter was told paid where it is 8 without a limiter
-  told-paid : (said k a : ℕ) → number r m b op ≡ heardOf said (refusal k a) .number → grows (meteringOf op) ≡ true → granted m ≡ true → eqb k 4 ≡ false
+  told-paid : (said k a : ℕ) → number r m b op ≡ heardOf said (refusal k a) .number → ltb 0 (metering r m op .more) ≡ true → granted m ≡ true → eqb k 4 ≡ false
       → quiet r m b op ≡ k → paidRefusal r m b op ≡ eqb k 8
   told-paid said k a s g y d q =
       heard-number said (refusal k a) (λ (j : ℕ). number r m b op ≡ j → paidRefusal r m b op ≡ eqb k 8)
@@ -82,10 +82,10 @@ module _ (r : ℕ) (m : Machine) (b : Buffers) (op : Operation) where
           → step r m b op
           ≡ stays m b (heardOf (saysOf (moved (m .limiter))) (refusal k a)) (pick (eqb k 8) (paid (m .fuel) (priceOf r m op)) (m .fuel)) (moved (moved (m .limiter)))
           → Grew
-      grown : occasion r m b op ≡ true → accepted (effects r m b op .answer) ≡ true → step r m b op ≡ acceptedStep r m b op → Grew
+      grown : occasion r m b op ≡ true → accepted (effects r m b op .out .answer) ≡ true → step r m b op ≡ acceptedStep r m b op → Grew
 
     -- each way is an exit
-    pub grew-exit : grows (meteringOf op) ≡ true → Grew → Exit r m b op (occasion r m b op)
+    pub grew-exit : metering r m op .more ≡ n → Grew → Exit r m b op (occasion r m b op)
     grew-exit g (before k l t h p q o s) = refused-with h o s (sym (pick-false _ _ _ (unpaid r m b op k (stays-number r m b op s) p q))) (λ n. t)
     grew-exit g (erred h y o s) =
         refused-with (named 4 refl refl) o s
@@ -93,7 +93,7 @@ module _ (r : ℕ) (m : Machine) (b : Buffers) (op : Operation) where
         (λ n. moved-once r m b op h)
     grew-exit g (told k a h u z y o x d p q s) =
         refused-with (heard-named _ _ x) o s
-        (ap (λ (t : Bool). pick t (paid (m .fuel) (priceOf r m op)) (m .fuel)) (sym (told-paid _ k a (stays-number r m b op s) g y d q)))
+        (ap (λ (t : Bool). pick t (paid (m .fuel) (priceOf r m op)) (m .fuel)) (sym (told-paid _ k a (stays-number r m b op s) (ap (ltb 0) g ∙ z) y d q)))
         (λ n. moved-twice r m b op h)
     grew-exit g (grown o v s) = accepts o v s
 
@@ -123,7 +123,7 @@ module _ (r : ℕ) (m : Machine) (b : Buffers) (op : Operation) where
         pub when : occasion r m b op
             ≡ both used (both kind (pick (eqb n 0) true (both may (both (granted m) (both admits (both (affords m (priceOf r m op)) fits))))))
         pub asks : question r m b op ≡ both used (both kind (pick (eqb n 0) false may))
-        pub value : accepted (effects r m b op .answer) ≡ true
+        pub value : accepted (effects r m b op .out .answer) ≡ true
         pub by-none : used ≡ true → n ≡ 0 → question r m b op ≡ false → after m (out (none (m .limiter))) ≡ acceptedStep r m b op
         pub by-some : used ≡ true → ltb 0 n ≡ true → question r m b op ≡ true → after m (out (all (m .limiter))) ≡ acceptedStep r m b op
 

@@ -6,7 +6,7 @@ use mathlib.Core.List.{List, [], _∷_, _++_}
 use native.Mathlib.Omega.{arith}
 use lib.Dec.{eqb, leb, ltb}
 use lib.ListN.{getD, set}
-use borrow.Author.Tests.{lt-ltb, leb-true, ltb-true, ltb-false, eqb-true}
+use borrow.Author.Tests.{lt-ltb, leb-true, ltb-true, eqb-true}
 use Rattle.types.specs.Pick.{pick, both}
 use Rattle.types.specs.Price.{price}
 use Rattle.types.specs.Answer.{refusal, numberOf}
@@ -22,9 +22,8 @@ use Rattle.types.specs.declared.fuel.FuelCosts.{FuelCosts}
 use Rattle.types.specs.declared.limiter.Limiter.{Limiter}
 use Rattle.types.specs.declared.memory_ty.PageSize.the-variants.{One, Wasm}
 use Rattle.types.specs.declared.raw.TypedRawRef.{TypedRawRef}
-use Rattle.types.proofs.Picks.{pick-true, pick-false, both-true, both-left, both-right, both-1, both-2, either}
+use Rattle.types.proofs.Picks.{pick-true, pick-false, both-left, both-right, both-1, both-2, either}
 use Rattle.memory.specs.declared.memory.Memory.{Memory}
-use Rattle.table.specs.Table.{resized}
 use Rattle.table.specs.declared.table.Table.{Table}
 use Rattle.machine.specs.Machine.{Buffers, noLimits, noMemory, noTable, memoryAt, tableAt, freshMachine}
 use Rattle.machine.specs.Sound.{soundMemories, soundTables, soundOver}
@@ -48,11 +47,11 @@ use Rattle.types.specs.declared.table_ty.WantedTable.{WantedTable}
 use Rattle.machine.proofs.Rooms.{parts}
 use Rattle.machine.proofs.ListLaws.{few}
 use Rattle.claims.specs.Answers.{accepted}
-use Rattle.claims.specs.Metered.{Metering, Free, Sets, Charges, GrowsPages, GrowsCells, Spans, Inits, fuelMetering, memoryMetering, tableMetering, meteringOf, meets, grows, lengthOf, priceFor, priceOf, affords, paidRefusal}
-use Rattle.claims.specs.Occasions.{given, holds, validWanted, fuelOccasion, checksOf, occasion}
-use Rattle.claims.specs.Effects.{tableEffect, effectOf, fuelBy, fuelAfter, effects, acceptedStep}
+use Rattle.claims.specs.Metered.{growth, memoryMetering, tableMetering, meteringOf, metering, priceOf, affords, paidRefusal}
+use Rattle.claims.specs.Occasions.{given, holds, comes, validWanted, fuelOccasion, checksOf, occasion}
+use Rattle.claims.specs.Effects.{memoryEffect, tableEffect, fuelEffect, effectOf, spent, asked, effects, acceptedStep}
 use Rattle.claims.specs.Script.{heard, saysTo}
-use Rattle.claims.specs.Ledger.{Row, Book, blank, left, withPages, withTables, rowAt, erred, growthCharge, grown, entryBy, entry, limiterSays, book}
+use Rattle.claims.specs.Ledger.{Row, Book, blank, left, withPages, withTables, rowAt, erred, growthCharge, took, fuelEntry, grown, entry, limiterSays, book}
 use Rattle.claims.proofs.Checks.{given-1}
 use Rattle.claims.proofs.Exit.{stays}
 use Rattle.claims.proofs.Exiting.{branch, surely}
@@ -140,8 +139,9 @@ module _ (r c : ℕ) (m : Machine) (b : Buffers) (k : Book) (w : Balanced c m k)
   by-rate x y e = (λ i. price (sym (w .fuel .rate) i) (e i))
 
   -- the price of what meets the fuel step is paid, and written down
-  paid-even : (x : Metering) → affords m (priceFor r m x) ≡ true → Even c (paid (m .fuel) (priceFor r m x)) (k .set) (k .since + price c (lengthOf r m x))
-  paid-even x a = spend (w .fuel) (affords-is m _ (w .fuel .on) a) (by-rate _ _ refl)
+  paid-even : (op : Operation) → affords m (priceOf r m op) ≡ true
+      → Even c (paid (m .fuel) (priceOf r m op)) (k .set) (k .since + price c (metering r m op .bytes))
+  paid-even op a = spend (w .fuel) (affords-is m _ (w .fuel .on) a) (by-rate _ _ refl)
 
   -- the records that a change leaves have the same entries
   abbrev Alike : Change → Type 0
@@ -180,7 +180,7 @@ module _ (r c : ℕ) (m : Machine) (b : Buffers) (k : Book) (w : Balanced c m k)
 
   -- a growth of one that is in use or not: by more than 0 it meets the fuel step, and where it is in use the book knows its price and whether its type admits it
   module _ (op : Operation) (used : Bool) (n : ℕ) (may admits : Bool) (p : ℕ) (same : used ≡ true → (p ≡ priceOf r m op) × (may ≡ admits))
-      (after-it : fuelAfter r m op ≡ pick (ltb 0 n) (paid (m .fuel) (priceOf r m op)) (m .fuel)) (metered : meets (meteringOf op) ≡ ltb 0 n)
+      (after-it : effects r m b op .out .fuel ≡ pick (ltb 0 n) (paid (m .fuel) (priceOf r m op)) (m .fuel)) (metered : metering r m op .meets ≡ ltb 0 n)
       (in-use : occasion r m b op ≡ true → used ≡ true) where
     -- the limiter's answers
     abbrev said : List ℕ
@@ -238,7 +238,7 @@ module _ (r c : ℕ) (m : Machine) (b : Buffers) (k : Book) (w : Balanced c m k)
         subst (Fair said n admits p) (sym s)
         (record {
           some = λ t.
-              subst (λ (x : Fuel). Even c x (k .set) (k .since + noted k said admits p (effects r m b op .answer))) (sym (after-it ∙ pick-true _ _ _ t))
+              subst (λ (x : Fuel). Even c x (k .set) (k .since + noted k said admits p (effects r m b op .out .answer))) (sym (after-it ∙ pick-true _ _ _ t))
               (spend (w .fuel) (affords-is m _ (w .fuel .on) (payable r m b op (metered ∙ t) o .affordable)) (pick-true _ _ _ v ∙ same (in-use o) .0));
           none = λ t. subst (λ (x : Fuel). Even c x (k .set) (k .since)) (sym (after-it ∙ pick-false _ _ _ t)) (w .fuel);
         })
@@ -255,7 +255,7 @@ module _ (r c : ℕ) (m : Machine) (b : Buffers) (k : Book) (w : Balanced c m k)
   -- 11: a growth of a memory is fair
   memory-fair : (i n : ℕ) → let grow = op.Memory i (memory.Grow n) in
       Fair (saysTo (heard r m b grow) (m .limiter)) n true (price c (n * getD (k .pages) i 0)) (step r m b grow)
-  unfolding wellFormed memoryWellFormed checksOf meteringOf memoryMetering lengthOf fuelBy meets
+  unfolding wellFormed memoryWellFormed checksOf meteringOf memoryMetering effectOf
   memory-fair i n =
       any-fair (op.Memory i (memory.Grow n)) (ltb i (m .counts .memories)) n true true _
       (λ u. (by-rate _ _ (ap (λ (x : ℕ). n * x) (w .pages .each i (ltb-true _ _ u))), refl))
@@ -264,7 +264,7 @@ module _ (r c : ℕ) (m : Machine) (b : Buffers) (k : Book) (w : Balanced c m k)
   -- 21: and one of a table
   table-fair : (i n : ℕ) (v : TypedRawRef) → let grow = op.Table i (table.Grow n v) in
       Fair (saysTo (heard r m b grow) (m .limiter)) n (admitsOf (rowAt k i .limits) (rowAt k i .size + n)) (price c (n * r)) (step r m b grow)
-  unfolding wellFormed checksOf meteringOf tableMetering lengthOf fuelBy meets
+  unfolding wellFormed checksOf meteringOf tableMetering effectOf
   table-fair i n v =
       any-fair (op.Table i (table.Grow n v)) (ltb i (m .counts .tables)) n _ _ _
       (λ u. (by-rate _ _ refl, ap (λ (y : Row). admitsOf (y .limits) (y .size + n)) (sym (w .rows .each i (ltb-true _ _ u)))))
@@ -284,99 +284,62 @@ module _ (r c : ℕ) (m : Machine) (b : Buffers) (k : Book) (w : Balanced c m k)
       subst (λ (x : Machine). Balanced c x (amounts s n)) (sym (refusal-leaves r m b op t .records)) (record { fuel = e; pages = w .pages; rows = w .rows })
 
   -- a refusal of what does not grow takes nothing
-  refused-free : (op : Operation) → grows (meteringOf op) ≡ false → accepted (step r m b op .answer) ≡ false → step r m b op .machine .fuel ≡ m .fuel
+  refused-free : (op : Operation) → ltb 0 (metering r m op .more) ≡ false → accepted (step r m b op .answer) ≡ false → step r m b op .machine .fuel ≡ m .fuel
   unfolding paidRefusal
   refused-free op g t = refusal-leaves r m b op t .fuel ∙ pick-false _ _ _ (both-left _ _ g)
 
   -- the records after an operation that makes no memory or table and changes no entry
-  settles : (op : Operation) (segments : ℕ) → effects r m b op .counts ≡ record { memories = m .counts .memories; tables = m .counts .tables; segments = segments }
-      → Alike (effects r m b op .change) → (s n : ℕ) → Even c (step r m b op .machine .fuel) s n → Balanced c (step r m b op .machine) (amounts s n)
+  settles : (op : Operation) (segments : ℕ) → effects r m b op .out .counts ≡ record { memories = m .counts .memories; tables = m .counts .tables; segments = segments }
+      → Alike (effects r m b op .out .change) → (s n : ℕ) → Even c (step r m b op .machine .fuel) s n → Balanced c (step r m b op .machine) (amounts s n)
   unfolding acceptedStep
   settles op g q like s n e =
       either (accepted (step r m b op .answer))
       (λ t.
       taken op (λ (x : Stepped). Even c (x .machine .fuel) s n → Balanced c (x .machine) (amounts s n)) t
       (λ sound o v.
-      subst (λ (y : Counts). Balanced c (standing (changed (effects r m b op .change) m) y (fuelAfter r m op) (effects r m b op .limiter)) (amounts s n)) (sym q)
-      (stands sound g _ _ s n v (effects r m b op .change) like))
+      subst (λ (y : Counts). Balanced c (standing (changed (effects r m b op .out .change) m) y (effects r m b op .out .fuel) (effects r m b op .out .limiter)) (amounts s n)) (sym q)
+      (stands sound g _ _ s n v (effects r m b op .out .change) like))
       e)
       (λ t. left-alone op t s n e)
-
-  -- an accepted charge was there
-  abbrev Due : Metering → Type 0
-  Due Free = Unit
-  Due (Sets amount) = Unit
-  Due (Charges units) = leb units (m .fuel .remaining) ≡ true
-  Due (GrowsPages i n) = Unit
-  Due (GrowsCells i n) = Unit
-  Due (Spans n) = Unit
-  Due (Inits n) = Unit
-
-  -- what the book has of an operation that is no growth, with the fuel after it
-  module _ (f : Fuel) (a : Answer) (said : List ℕ) (P : Book → Type 0) (put : (s n : ℕ) → Even c f s n → P (amounts s n)) (kept : accepted a ≡ false → f ≡ m .fuel) where
-    -- with the fuel that it is known to be
-    evenly : {g : Fuel} (s n : ℕ) → f ≡ g → Even c g s n → P (amounts s n)
-    evenly s n e v = put s n (subst (λ (x : Fuel). Even c x s n) (sym e) v)
-
-    -- with the fuel as before the book stays
-    same : f ≡ m .fuel → P k
-    same e = evenly (k .set) (k .since) e (w .fuel)
-
-    -- by what it has to do with fuel
-    entered : (x : Metering) → grows x ≡ false → (accepted a ≡ true → f ≡ fuelBy (m .fuel) (priceFor r m x) x)
-        → (accepted a ≡ true → meets x ≡ true → affords m (priceFor r m x) ≡ true) → (accepted a ≡ true → Due x) → P (entryBy r c k x a said)
-    unfolding entryBy grows meets fuelBy lengthOf
-    entered Free g done pays due = either (accepted a) (λ t. same (done t)) (λ t. same (kept t))
-    entered (Sets n) g done pays due =
-        branch P (accepted a) _ _
-        (λ t. evenly n _ (done t) (record { on = w .fuel .on; rate = w .fuel .rate; even = omega arith }))
-        (λ t. same (kept t))
-    entered (Charges n) g done pays due =
-        branch P (accepted a) _ _
-        (λ t.
-        evenly (k .set) (k .since + n) (done t)
-        (record { on = w .fuel .on; rate = w .fuel .rate; even = omega (arith, w .fuel .even, leb-true n (m .fuel .remaining) (due t)) }))
-        (λ t. same (kept t))
-    entered (GrowsPages i n) g done pays due = absurd (false≢true (sym g))
-    entered (GrowsCells i n) g done pays due = absurd (false≢true (sym g))
-    entered (Spans n) g done pays due =
-        branch P (accepted a) _ _ (λ t. evenly (k .set) _ (done t) (paid-even (Spans n) (pays t refl))) (λ t. same (kept t))
-    entered (Inits n) g done pays due =
-        branch P (both (ltb 0 n) (accepted a)) _ _
-        (λ t.
-        let z = both-1 _ _ t in
-        let y = both-2 _ _ t in
-        evenly (k .set) _ (done y ∙ pick-true _ _ _ z) (paid-even (Inits n) (pays y z)))
-        (λ t.
-        either (accepted a)
-        (λ y. either (ltb 0 n) (λ z. absurd (false≢true (sym t ∙ both-true _ _ z y))) (λ z. same (done y ∙ pick-false _ _ _ z)))
-        (λ y. same (kept y)))
 
   -- machine and book after an operation
   abbrev Kept : Operation → Type 0
   Kept op = Balanced c (step r m b op .machine) (entry r c k op (step r m b op .answer) (saysTo (heard r m b op) (m .limiter)))
 
-  -- an operation that is no growth and makes no memory or table
-  steady : (op : Operation) (segments : ℕ) → effects r m b op .counts ≡ record { memories = m .counts .memories; tables = m .counts .tables; segments = segments }
-      → Alike (effects r m b op .change) → grows (meteringOf op) ≡ false → (occasion r m b op ≡ true → Due (meteringOf op))
-      → Balanced c (step r m b op .machine) (entryBy r c k (meteringOf op) (step r m b op .answer) (saysTo (heard r m b op) (m .limiter)))
-  steady op g q like flat due =
-      entered _ (step r m b op .answer) _ (Balanced c (step r m b op .machine)) (settles op g q like) (refused-free op flat) (meteringOf op) flat
-      (fuel-after r m b op) (λ t p. payable r m b op p (on t) .affordable) (λ t. due (on t))
-    where
-      on : accepted (step r m b op .answer) ≡ true → occasion r m b op ≡ true
-      on t = both-2 _ _ (both-2 _ _ (sym (accepted-when r m b op) ∙ t))
+  -- an operation that is no growth and none of 01 to 04
+  module _ (op : Operation) (flat : ltb 0 (metering r m op .more) ≡ false) (after-it : effects r m b op .out .fuel ≡ spent r m op) where
+    -- refused it takes nothing, and where it does not meet the fuel step
+    idle : (accepted (step r m b op .answer) ≡ true → metering r m op .meets ≡ false) → Even c (step r m b op .machine .fuel) (k .set) (k .since)
+    idle z =
+        subst (λ (x : Fuel). Even c x (k .set) (k .since))
+        (sym (either (accepted (step r m b op .answer)) (λ t. fuel-after r m b op t ∙ after-it ∙ pick-false _ _ _ (z t)) (refused-free op flat))) (w .fuel)
 
-  -- 01 to 04
-  fuel-kept : (o : FuelOp) → Kept (op.Fuel o)
-  unfolding entry meteringOf fuelMetering grows effectOf holds checksOf given fuelOccasion
-  fuel-kept (fuel.SetFuel amount) = steady _ _ refl tt refl (λ o. tt)
-  fuel-kept fuel.GetFuel = steady _ _ refl tt refl (λ o. tt)
-  fuel-kept (fuel.Charge units) = steady _ _ refl tt refl (λ o. both-2 _ _ o)
-  fuel-kept (fuel.SetLimiter script) = steady _ _ refl tt refl (λ o. tt)
+    -- else it pays, and the book says so
+    steady : (admits : Bool) (said : List ℕ)
+        → Even c (step r m b op .machine .fuel) (k .set) (k .since + took c k (metering r m op) admits (step r m b op .answer) said)
+    unfolding took
+    steady admits said =
+        branch (λ (n : ℕ). Even c (step r m b op .machine .fuel) (k .set) (k .since + n)) (metering r m op .meets) _ _
+        (λ z.
+        subst (λ (n : ℕ). Even c (step r m b op .machine .fuel) (k .set) (k .since + n)) (sym (pick-false _ _ _ flat))
+        (branch (λ (n : ℕ). Even c (step r m b op .machine .fuel) (k .set) (k .since + n)) (accepted (step r m b op .answer)) _ _
+        (λ t.
+        subst (λ (x : Fuel). Even c x (k .set) (k .since + price c (metering r m op .bytes))) (sym (fuel-after r m b op t ∙ after-it ∙ pick-true _ _ _ z))
+        (paid-even op (payable r m b op z (both-2 _ _ (both-2 _ _ (sym (accepted-when r m b op) ∙ t))) .affordable)))
+        (λ t. nought (idle (λ y. absurd (false≢true (sym t ∙ y)))) refl)))
+        (λ z. nought (idle (λ t. z)) refl)
+
+  -- what the book says that the fuel step took of a growth is what it did
+  grew-even : (said : List ℕ) (n : ℕ) (admits : Bool) (p x : ℕ) (s : Stepped) → Fair said n admits p s
+      → Even c (s .machine .fuel) (k .set) (k .since + pick (ltb 0 n) (pick (ltb 0 n) (noted k said admits p (s .answer)) x) 0)
+  grew-even said n admits p x s h =
+      branch To (ltb 0 n) _ _ (λ z. surely To (ltb 0 n) _ _ z (h .some z)) (λ z. nought (h .none z) refl)
+    where
+      To : ℕ → Type 0
+      To i = Even c (s .machine .fuel) (k .set) (k .since + i)
 
   -- a creation, refused or by what it makes
-  made : (op : Operation) (new : Book) → grows (meteringOf op) ≡ false
+  made : (op : Operation) (new : Book) → ltb 0 (metering r m op .more) ≡ false
       → (soundOver m b ≡ true → occasion r m b op ≡ true → Balanced c (acceptedStep r m b op .machine) new)
       → Balanced c (step r m b op .machine) (pick (accepted (step r m b op .answer)) new k)
   made op new flat f =
@@ -384,9 +347,30 @@ module _ (r c : ℕ) (m : Machine) (b : Buffers) (k : Book) (w : Balanced c m k)
       (λ t. taken op (λ (s : Stepped). Balanced c (s .machine) new) t f)
       (λ t. left-alone op t _ _ (subst (λ (x : Fuel). Even c x (k .set) (k .since)) (sym (refused-free op flat t)) (w .fuel)))
 
+  -- 01 to 04, refused or by the amounts after it
+  fuel-kept : (o : FuelOp) (s n : ℕ) → (fuelOccasion m o ≡ true → Even c (fuelEffect (m .fuel) (m .limiter) o .fuel) s n)
+      → Balanced c (step r m b (op.Fuel o) .machine) (pick (accepted (step r m b (op.Fuel o) .answer)) (amounts s n) k)
+  unfolding meteringOf acceptedStep effectOf holds checksOf comes
+  fuel-kept o s n f =
+      let p : m .fuel ≡ spent r m (op.Fuel o) = sym (pick-false _ _ _ refl) in
+      let q : m .limiter ≡ asked r m b (op.Fuel o) = sym (pick-false _ _ _ refl) in
+      made (op.Fuel o) (amounts s n) refl
+      (λ sound e.
+      stands sound (m .counts .segments) _ _ s n
+      (subst (λ (x : Fuel × Limiter). Even c (fuelEffect (x .0) (x .1) o .fuel) s n) (λ i. (p i, q i)) (f e)) change.Nothing tt)
+
+  entered : (o : FuelOp) → Kept (op.Fuel o)
+  unfolding entry fuelEntry fuelEffect fuelOccasion
+  entered (fuel.SetFuel n) = fuel-kept (fuel.SetFuel n) n 0 (λ e. record { on = w .fuel .on; rate = w .fuel .rate; even = omega arith })
+  entered fuel.GetFuel = fuel-kept fuel.GetFuel (k .set) (k .since) (λ e. w .fuel)
+  entered (fuel.Charge n) =
+      fuel-kept (fuel.Charge n) (k .set) (k .since + n) (λ e.
+      record { on = w .fuel .on; rate = w .fuel .rate; even = omega (arith, w .fuel .even, leb-true n (m .fuel .remaining) (both-2 _ _ e)) })
+  entered (fuel.SetLimiter script) = fuel-kept (fuel.SetLimiter script) (k .set) (k .since) (λ e. w .fuel)
+
   -- 10: one more memory, and the bytes of its page
   new-memory-kept : (room : ℕ) (x : WantedMemory) → Kept (op.NewMemory room x)
-  unfolding entry meteringOf grows acceptedStep effectOf changed fuelBy holds checksOf given validWanted soundMemories
+  unfolding entry meteringOf acceptedStep effectOf changed holds checksOf given validWanted soundMemories
   new-memory-kept room x =
       let make : Operation = op.NewMemory room x in
       let new : Book = withPages k (k .pages ++ (2 ^ (x .exponent) ∷ [])) in
@@ -394,91 +378,99 @@ module _ (r c : ℕ) (m : Machine) (b : Buffers) (k : Book) (w : Balanced c m k)
       (λ sound o.
       let free = both-1 _ _ (both-1 _ _ (both-1 _ _ o)) in
       let page = page-of (x .exponent) (both-1 _ _ (both-1 _ _ (both-2 _ _ (both-1 _ _ o)))) in
-      surely (λ (y : Machine). Balanced c (standing y (oneMemoryMore (m .counts)) (m .fuel) (effects r m b make .limiter)) new) _ _ _ free
+      surely (λ (y : Machine). Balanced c (standing y (oneMemoryMore (m .counts)) (spent r m make) (effects r m b make .out .limiter)) new) _ _ _ free
       (record {
-        fuel = w .fuel;
+        fuel = subst (λ (x : Fuel). Even c x (k .set) (k .since)) (sym (pick-false _ _ _ refl)) (w .fuel);
         pages = beside-add _ _ _ _ _ _ _ _ (parts m _ _ _ sound .memories) _ (w .pages) _ _ (ltb-true _ _ free) page;
         rows = w .rows;
       }))
 
   -- 20: one more table, and its row
   new-table-kept : (room : ℕ) (x : WantedTable) (v : TypedRawRef) → Kept (op.NewTable room x v)
-  unfolding entry meteringOf grows acceptedStep effectOf changed fuelBy holds checksOf given soundTables
+  unfolding entry meteringOf acceptedStep effectOf changed holds checksOf given soundTables
   new-table-kept room x v =
       let make : Operation = op.NewTable room x v in
       let new : Book = withTables k (k .tables ++ (record { limits = x .limits; size = x .limits .minimum } ∷ [])) in
       made make new refl
       (λ sound o.
       let free = both-1 _ _ (both-1 _ _ (both-1 _ _ o)) in
-      surely (λ (y : Machine). Balanced c (standing y (oneTableMore (m .counts)) (m .fuel) (effects r m b make .limiter)) new) _ _ _ free
+      surely (λ (y : Machine). Balanced c (standing y (oneTableMore (m .counts)) (spent r m make) (effects r m b make .out .limiter)) new) _ _ _ free
       (record {
-        fuel = w .fuel;
+        fuel = subst (λ (x : Fuel). Even c x (k .set) (k .since)) (sym (pick-false _ _ _ refl)) (w .fuel);
         pages = w .pages;
         rows = beside-add _ _ _ _ _ _ _ _ (parts m _ _ _ sound .tables) _ (w .rows) _ _ (ltb-true _ _ free) refl;
       }))
 
   -- 11 to 14, 30
   memory-kept : (i : ℕ) (o : MemoryOp) → Kept (op.Memory i o)
-  unfolding entry entryBy meteringOf memoryMetering grows effectOf
-  memory-kept i (memory.Grow n) =
-      let grow : Operation = op.Memory i (memory.Grow n) in
-      branch (Balanced c (step r m b grow .machine)) (ltb 0 n) _ _
-      (λ z. settles grow _ refl refl _ _ (memory-fair i n .some z))
-      (λ z. settles grow _ refl refl _ _ (memory-fair i n .none z))
-  memory-kept i memory.Size = steady _ _ refl refl refl (λ o. tt)
-  memory-kept i (memory.Load kind pointer offset) = steady _ _ refl refl refl (λ o. tt)
-  memory-kept i (memory.Store kind pointer offset bits) = steady _ _ refl refl refl (λ o. tt)
-  memory-kept i (memory.LinkCheck wanted) = steady _ _ refl refl refl (λ o. tt)
+  unfolding entry took meteringOf memoryMetering effectOf memoryEffect
+  memory-kept i (memory.Grow n) = settles (op.Memory i (memory.Grow n)) _ refl refl _ _ (grew-even _ n true _ _ _ (memory-fair i n))
+  memory-kept i memory.Size = settles _ _ refl refl _ _ (steady (op.Memory i memory.Size) refl refl true _)
+  memory-kept i (memory.Load kind pointer offset) = settles _ _ refl refl _ _ (steady (op.Memory i (memory.Load kind pointer offset)) refl refl true _)
+  memory-kept i (memory.Store kind pointer offset bits) = settles _ _ refl refl _ _ (steady (op.Memory i (memory.Store kind pointer offset bits)) refl refl true _)
+  memory-kept i (memory.LinkCheck wanted) = settles _ _ refl refl _ _ (steady (op.Memory i (memory.LinkCheck wanted)) refl refl true _)
 
-  -- 21: an accepted growth, and its row
-  grown-kept : (i n : ℕ) (v : TypedRawRef) (since : ℕ) → accepted (step r m b (op.Table i (table.Grow n v)) .answer) ≡ true
-      → Even c (step r m b (op.Table i (table.Grow n v)) .machine .fuel) (k .set) since
-      → Balanced c (step r m b (op.Table i (table.Grow n v)) .machine)
-      (withTables (amounts (k .set) since) (set (k .tables) i (record { limits = rowAt k i .limits; size = rowAt k i .size + n })))
-  unfolding acceptedStep effectOf changed tableEffect soundTables checksOf
-  grown-kept i n v since t =
-      let grow : Operation = op.Table i (table.Grow n v) in
-      let longer : Row → Row = λ y. record { limits = y .limits; size = y .size + n } in
-      let new : Book = withTables (amounts (k .set) since) (set (k .tables) i (longer (rowAt k i))) in
-      taken grow (λ (s : Stepped). Even c (s .machine .fuel) (k .set) since → Balanced c (s .machine) new) t
-      (λ sound o e.
-      let h : i < m .counts .tables = ltb-true i (m .counts .tables) (given-1 _ _ _ o) in
+  -- the cells that a table has after it
+  sizes : (x : Table) (cs : List ℕ) (o : TableOp) → tableEffect x cs o .size ≡ x .size + tableMetering r o .more
+  unfolding tableEffect tableMetering
+  sizes x cs (table.Grow n v) = refl
+  sizes x cs table.Size = omega arith
+  sizes x cs (table.Get index) = omega arith
+  sizes x cs (table.Set index value) = omega arith
+  sizes x cs (table.Fill start value len) = omega arith
+
+  -- 21 to 25: the fuel after it is even with the book
+  table-even : (i : ℕ) (o : TableOp) → let a = admitsOf (rowAt k i .limits) (rowAt k i .size + tableMetering r o .more) in
+      Even c (step r m b (op.Table i o) .machine .fuel) (k .set)
+      (k .since + took c k (tableMetering r o) a (step r m b (op.Table i o) .answer) (saysTo (heard r m b (op.Table i o)) (m .limiter)))
+  unfolding took meteringOf tableMetering effectOf
+  table-even i (table.Grow n v) = grew-even _ n _ _ _ _ (table-fair i n v)
+  table-even i table.Size = steady (op.Table i table.Size) refl refl _ _
+  table-even i (table.Get index) = steady (op.Table i (table.Get index)) refl refl _ _
+  table-even i (table.Set index value) = steady (op.Table i (table.Set index value)) refl refl _ _
+  table-even i (table.Fill start value len) = steady (op.Table i (table.Fill start value len)) refl refl _ _
+
+  -- accepted, its row too
+  grown-kept : (i : ℕ) (o : TableOp) (since : ℕ) → accepted (step r m b (op.Table i o) .answer) ≡ true
+      → Even c (step r m b (op.Table i o) .machine .fuel) (k .set) since
+      → Balanced c (step r m b (op.Table i o) .machine) (grown k (amounts (k .set) since) i (tableMetering r o .more))
+  unfolding meteringOf acceptedStep effectOf changed soundTables checksOf
+  grown-kept i o since t =
+      let x : Operation = op.Table i o in
+      let longer : Row → Row = λ y. record { limits = y .limits; size = y .size + tableMetering r o .more } in
+      let new : Book = grown k (amounts (k .set) since) i (tableMetering r o .more) in
+      taken x (λ (s : Stepped). Even c (s .machine .fuel) (k .set) since → Balanced c (s .machine) new) t
+      (λ sound when e.
+      let h : i < m .counts .tables = ltb-true i (m .counts .tables) (given-1 _ _ _ when) in
       let lists = parts m _ _ _ sound .tables in
-      surely (λ (y : Machine). Balanced c (standing y (m .counts) (fuelAfter r m grow) (effects r m b grow .limiter)) new) _ _ _
+      surely (λ (y : Machine). Balanced c (standing y (m .counts) (spent r m x) (effects r m b x .out .limiter)) new) _ _ _
       (lt-ltb i 8 (omega (arith, few _ _ _ noTable (m .counts .tables) (m .tables) lists)))
-      (record { fuel = e; pages = w .pages; rows = beside-set _ _ _ _ _ _ _ _ lists _ (w .rows) _ i _ (λ h. ap longer (w .rows .each i h)) }))
+      (record {
+        fuel = e;
+        pages = w .pages;
+        rows = beside-set _ _ _ _ _ _ _ _ lists _ (w .rows) _ i _
+            (λ h. ap longer (w .rows .each i h) ∙ (λ j. record { limits = tableAt m i .ty .limits; size = sym (sizes (tableAt m i) (b .cells) o) j }));
+      }))
 
-  -- 21 to 25
   table-kept : (i : ℕ) (o : TableOp) → Kept (op.Table i o)
-  unfolding entry entryBy grown meteringOf tableMetering grows meets effectOf tableEffect holds checksOf given
-  table-kept i (table.Grow n v) =
-      let grow : Operation = op.Table i (table.Grow n v) in
-      branch (Balanced c (step r m b grow .machine)) (ltb 0 n) _ _
-      (λ z.
-      branch (Balanced c (step r m b grow .machine)) (accepted (step r m b grow .answer)) _ _
-      (λ t. grown-kept i n v _ t (table-fair i n v .some z))
-      (λ t. left-alone grow t _ _ (table-fair i n v .some z)))
-      (λ z.
-      let y : n ≤ 0 = ltb-false 0 n z in
-      let q : tableAt m i .size + n ≡ tableAt m i .size = omega arith in
-      settles grow _ refl (ap (λ (x : ℕ). rowOf (resized (tableAt m i) x)) q) _ _ (table-fair i n v .none z))
-  table-kept i table.Size = steady _ _ refl refl refl (λ o. tt)
-  table-kept i (table.Get index) = steady _ _ refl refl refl (λ o. tt)
-  table-kept i (table.Set index value) = steady _ _ refl refl refl (λ o. tt)
-  table-kept i (table.Fill start value len) = steady _ _ refl refl refl (λ o. tt)
+  unfolding entry meteringOf
+  table-kept i o =
+      branch (Balanced c (step r m b (op.Table i o) .machine)) (accepted (step r m b (op.Table i o) .answer)) _ _
+      (λ t. grown-kept i o _ t (table-even i o))
+      (λ t. left-alone (op.Table i o) t _ _ (table-even i o))
 
   -- every operation keeps machine and book alike
   kept : (op : Operation) → Kept op
-  unfolding entry entryBy meteringOf grows meets effectOf
-  kept (op.Fuel o) = fuel-kept o
+  unfolding entry meteringOf effectOf
+  kept (op.Fuel o) = entered o
   kept (op.NewMemory room wanted) = new-memory-kept room wanted
   kept (op.Memory number o) = memory-kept number o
   kept (op.NewTable room wanted initial) = new-table-kept room wanted initial
   kept (op.Table number o) = table-kept number o
-  kept (op.TableCopy into source span) = steady _ _ refl tt refl (λ o. tt)
-  kept (op.TableInit table segment span) = steady _ _ refl tt refl (λ o. tt)
-  kept (op.DropSegment segment) = steady _ _ refl tt refl (λ o. tt)
-  kept (op.NewSegment element items) = steady _ _ refl tt refl (λ o. tt)
+  kept (op.TableCopy into source span) = settles _ _ refl tt _ _ (steady (op.TableCopy into source span) refl refl true _)
+  kept (op.TableInit table segment span) = settles _ _ refl tt _ _ (steady (op.TableInit table segment span) refl refl true _)
+  kept (op.DropSegment segment) = settles _ _ refl tt _ _ (idle (op.DropSegment segment) refl refl (λ t. refl))
+  kept (op.NewSegment element items) = settles _ _ refl tt _ _ (idle (op.NewSegment element items) refl refl (λ t. refl))
 
 -- a fresh machine and a blank book
 fresh-balanced : (costs : FuelCosts) → Balanced (costs .copied) (freshMachine true costs) blank

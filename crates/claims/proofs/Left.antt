@@ -99,23 +99,23 @@ module _ (r : ℕ) (m : Machine) (b : Buffers) (op : Operation) (e : soundOver m
   cells-long = subst (λ (x : Stepped). length (x .buffers .cells) ≡ length (b .cells)) does (step-cells-long r m b op)
 
   -- where none was made, the next room starts where it did
-  pub byte-room : effects r m b op .counts .memories ≡ m .counts .memories
+  pub byte-room : effects r m b op .out .counts .memories ≡ m .counts .memories
       → length (s .buffers .bytes) - nextByte (s .machine) ≡ length (b .bytes) - nextByte m
   unfolding nextByte acceptedStep
   byte-room q = along _-_ bytes-long (next-stays memoryEnd noMemory _ _ (m .memories) (s .machine .memories) q (λ i h. ap memoryEnd (sizes .memory i h)))
 
-  pub cell-room : effects r m b op .counts .tables ≡ m .counts .tables
+  pub cell-room : effects r m b op .out .counts .tables ≡ m .counts .tables
       → length (s .buffers .cells) - nextCell (s .machine) ≡ length (b .cells) - nextCell m
   unfolding nextCell acceptedStep
   cell-room q = along _-_ cells-long (next-stays tableEnd noTable _ _ (m .tables) (s .machine .tables) q (λ i h. ap tableEnd (sizes .table i h)))
 
   -- where one was made, it starts after that one's room
-  pub byte-room-less : (x : Memory) → effects r m b op .counts .memories ≡ m .counts .memories + 1 → memoryAt (s .machine) (m .counts .memories) ≡ x
+  pub byte-room-less : (x : Memory) → effects r m b op .out .counts .memories ≡ m .counts .memories + 1 → memoryAt (s .machine) (m .counts .memories) ≡ x
       → length (s .buffers .bytes) - nextByte (s .machine) ≡ length (b .bytes) - memoryEnd x
   unfolding nextByte acceptedStep
   byte-room-less x q p = along _-_ bytes-long (next-made memoryEnd noMemory _ _ (s .machine .memories) q ∙ ap memoryEnd p)
 
-  pub cell-room-less : (x : Table) → effects r m b op .counts .tables ≡ m .counts .tables + 1 → tableAt (s .machine) (m .counts .tables) ≡ x
+  pub cell-room-less : (x : Table) → effects r m b op .out .counts .tables ≡ m .counts .tables + 1 → tableAt (s .machine) (m .counts .tables) ≡ x
       → length (s .buffers .cells) - nextCell (s .machine) ≡ length (b .cells) - tableEnd x
   unfolding nextCell acceptedStep
   cell-room-less x q p = along _-_ cells-long (next-made tableEnd noTable _ _ (s .machine .tables) q ∙ ap tableEnd p)

@@ -56,10 +56,10 @@ use Rattle.machine.specs.declared.operation.MemoryOp.{MemoryOp}
 use Rattle.machine.specs.declared.operation.MemoryOp.the-variants as memory
 use Rattle.machine.proofs.Rooms.{memory-sound, next-byte-inside}
 use Rattle.claims.specs.Answers.{accepted}
-use Rattle.claims.specs.Metered.{fuelMetering, memoryMetering, meteringOf, meets, grows, lengthOf, priceOf, affords}
+use Rattle.claims.specs.Metered.{memoryMetering, meteringOf, priceOf, affords}
 use Rattle.claims.specs.Occasions.{given, holds, comes, granted, validWanted, reaches, fuelOccasion, memoryChecks, checksOf, occasion, question}
 use Rattle.claims.specs.Spans.{put}
-use Rattle.claims.specs.Effects.{memoryEffect, fuelAnswer, handedTo, effectOf, fuelBy, acceptedStep}
+use Rattle.claims.specs.Effects.{memoryEffect, fuelEffect, effectOf, acceptedStep}
 use Rattle.claims.proofs.Checks.{given-holds, given-comes, used-holds, used-comes}
 use Rattle.claims.proofs.Exit.{Exit}
 use Rattle.claims.proofs.Exiting.{branch, surely, room-inside, put-back-stays, named, named-7, memory-put-back, Ends, accepted-is, ending, accepting, accepting-by, refusing, leaving-by, leaving, creating, unknown}
@@ -72,7 +72,7 @@ module _ (r : ℕ) (m : Machine) (b : Buffers) where
 
   -- 01 to 04: 15, 7, 18
   pub fuel-exit : (o : FuelOp) → soundOver m b ≡ true → wellFormed (op.Fuel o) ≡ true → Exit r m b (op.Fuel o) (occasion r m b (op.Fuel o))
-  unfolding perform onFuel performFuel setBy setFuel getFuel chargedBy consume consumeUnchecked handOver holds checksOf given fuelOccasion effectOf fuelAnswer meteringOf fuelMetering fuelBy handedTo comes put grows accepted
+  unfolding perform onFuel performFuel setBy setFuel getFuel chargedBy consume consumeUnchecked handOver holds checksOf given fuelOccasion effectOf fuelEffect meteringOf comes put accepted
   fuel-exit (fuel.SetFuel amount) e w =
       ending e w
       (branch (λ (s : FuelStep). Fuels (fuel.SetFuel amount) (setBy s (m .fuel) (m .limiter))) _ _ _
@@ -100,19 +100,19 @@ module _ (r : ℕ) (m : Machine) (b : Buffers) where
   -- 10: 17, 1, 2, limiter 3/4, 5 with notice
   pub new-memory-exit : (room : ℕ) (wanted : WantedMemory) → soundOver m b ≡ true → wellFormed (op.NewMemory room wanted) ≡ true
       → Exit r m b (op.NewMemory room wanted) (occasion r m b (op.NewMemory room wanted))
-  unfolding perform newMemoryOn newMemory madeMemory holds checksOf given validWanted effectOf meteringOf fuelBy comes put grows accepted
+  unfolding perform newMemoryOn newMemory madeMemory holds checksOf given validWanted effectOf meteringOf comes put accepted
   new-memory-exit room wanted e w =
       ending e w
       (branch (λ (d : Done Outcome). Ends r m b (op.NewMemory room wanted) (onBytes d b)) _ _ _
       (λ h.
       creating (λ (c : Done CreatedMemory). onBytes (memoryMade m c) b) (λ l x. done (refused l x) (b .bytes)) _ _ _ _ _ 2
       e w (room-inside _ room _ (next-byte-inside m _ _ _ e) (both-2 _ _ h)) (named 2 refl refl) (λ x l k o t. leaving-by x l k refl o t) (both-then _ _ h)
-      refl (λ q o. accepting-by (moved (m .limiter)) refl (sym (pick-true _ _ _ q)) o refl))
+      refl (λ q o. accepting-by (m .fuel) (moved (m .limiter)) (sym (pick-false _ _ _ refl)) (sym (pick-true _ _ _ q)) o refl))
       (λ h. leaving (refusal 17 0) (named 17 refl refl) refl (both-left _ _ h) (both-left _ _ (both-left _ _ h))))
 
 -- an address that an access reaches, or none
-reaching : (m : Machine) (i pointer offset n : ℕ) (P : Address → Type 0) → (reaches m i pointer offset n ≡ true → P (At (pointer + offset)))
-    → (reaches m i pointer offset n ≡ false → P Outside) → P (addressOf (memoryAt m i .size) pointer offset n)
+reaching : (m : Machine) (i pointer offset n : ℕ) (P : Address → Type 0) → (reaches (memoryAt m i) pointer offset n ≡ true → P (At (pointer + offset)))
+    → (reaches (memoryAt m i) pointer offset n ≡ false → P Outside) → P (addressOf (memoryAt m i .size) pointer offset n)
 unfolding addressOf reaches
 reaching m i pointer offset n P f g =
     branch P _ _ _
@@ -162,13 +162,13 @@ module _ (r : ℕ) (m : Machine) (b : Buffers) (i : ℕ) where
 
       -- the price is that of the new pages
       price-is : ltb i (m .counts .memories) ≡ true → growthPrice old n (m .fuel) ≡ priceOf r m grow
-      unfolding meteringOf memoryMetering lengthOf
+      unfolding meteringOf memoryMetering
       price-is h = ap (price (m .fuel .costs .copied)) (omega (arith, more-bytes old n _ (sound h)))
 
       -- by 0 pages the size stays, and no byte is new
       by-none : ltb i (m .counts .memories) ≡ true → n ≡ 0 → question r m b grow ≡ false
           → after m (out (done (answered (accept (pagesOf old)) old (m .fuel) (m .limiter)) (b .bytes))) ≡ acceptedStep r m b grow
-      unfolding both effectOf memoryEffect meteringOf memoryMetering fuelBy grows meets put
+      unfolding both effectOf memoryEffect meteringOf memoryMetering put
       by-none h z u =
           let k = pageBytes (old .ty .page) in
           let q : grownSize old n ≡ old .size = more-bytes old n _ (sound h) ∙ ap (λ (x : ℕ). old .size + x * k) z ∙ omega arith in
@@ -180,7 +180,7 @@ module _ (r : ℕ) (m : Machine) (b : Buffers) (i : ℕ) where
 
       -- 11: 16, by 0, 6, limiter 6/4, 7 and 8 with notice
       pub memory-grew : Grew r m b grow (ltb i (m .counts .memories)) n true
-      unfolding pick both perform onMemory performMemory growMemory wellFormed memoryWellFormed holds checksOf given memoryChecks comes effectOf memoryEffect meteringOf memoryMetering fuelBy grows meets put accepted
+      unfolding pick both perform onMemory performMemory growMemory wellFormed memoryWellFormed holds checksOf given memoryChecks comes effectOf memoryEffect meteringOf memoryMetering put accepted
       memory-grew =
           grew r m b grow (ltb i (m .counts .memories)) n true out kept
           (λ l. done (answered (accept (pagesOf old)) old (m .fuel) l) (b .bytes))
@@ -205,7 +205,7 @@ module _ (r : ℕ) (m : Machine) (b : Buffers) (i : ℕ) where
   -- 11 to 14, 30, of a memory in use: 9, 1
   used-memory : (o : MemoryOp) → soundOver m b ≡ true → ltb i (m .counts .memories) ≡ true → soundMemory old (length (b .bytes)) ≡ true
       → On o (performMemory old (b .bytes) (m .fuel) (m .limiter) o)
-  unfolding performMemory loadMemory loadAt loadFound loadedOf storeMemory storeAt storeFound linkTo linked buildMemory holds checksOf given memoryChecks validWanted effectOf memoryEffect meteringOf memoryMetering fuelBy comes grows put accepted
+  unfolding performMemory loadMemory loadAt loadFound loadedOf storeMemory storeAt storeFound linkTo linked buildMemory holds checksOf given memoryChecks validWanted effectOf memoryEffect meteringOf memoryMetering comes put accepted
   used-memory (memory.Grow pages) e h s = λ q. grew-exit r m b _ _ _ _ refl (memory-grew pages e)
   used-memory memory.Size e h s = accepting refl refl (both-true _ _ h refl) refl
   used-memory (memory.Load kind pointer offset) e h s =

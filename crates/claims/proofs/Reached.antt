@@ -40,9 +40,9 @@ use Rattle.machine.specs.declared.operation.TableOp.the-variants as table
 use Rattle.lines.specs.Session.{costsOf}
 use Rattle.machine.proofs.Kept.{fresh-sound, step-sound, step-bytes-long}
 use Rattle.claims.specs.Answers.{accepted}
-use Rattle.claims.specs.Metered.{fuelMetering, memoryMetering, tableMetering, meteringOf, meets, grows, lengthOf, bytesOf, priceOf, affords, grants, passes}
+use Rattle.claims.specs.Metered.{memoryMetering, tableMetering, meteringOf, metering, priceOf, affords, grants, passes}
 use Rattle.claims.specs.Occasions.{given, holds, validWanted, fuelOccasion, memoryChecks, tableChecks, checksOf, occasion, question, acceptedWhen}
-use Rattle.claims.specs.Effects.{memoryEffect, tableEffect, handedTo, effectOf, fuelBy, acceptedStep}
+use Rattle.claims.specs.Effects.{memoryEffect, tableEffect, fuelEffect, effectOf, acceptedStep}
 use Rattle.claims.specs.Bound.{Totals, wrote, pays, totals, mostBytes, pass, fullestRun, zeros}
 use Rattle.claims.proofs.Checks.{given-holds, growing-holds}
 use Rattle.claims.proofs.Exiting.{branch}
@@ -96,8 +96,8 @@ more w u k s = record { bytes = w + s .bytes; units = u + s .units; passed = k +
 
 -- a pass of n bytes, from the run's machine on
 record Passing (r total b size left n : ℕ) (bf : Buffers) (op : Operation) : Type 0 where
-  meeting : meets (meteringOf op) ≡ true
-  long : bytesOf r (grownTo total b size left) op ≡ n
+  meeting : metering r (grownTo total b size left) op .meets ≡ true
+  long : metering r (grownTo total b size left) op .bytes ≡ n
   affordable : affords (grownTo total b size left) (priceOf r (grownTo total b size left) op) ≡ true
   fits : acceptedWhen r (grownTo total b size left) bf op ≡ true
   leads : acceptedStep r (grownTo total b size left) bf op .machine ≡ grownTo total b (size + n) (left - price b n)
@@ -108,7 +108,7 @@ module _ (r total b size left : ℕ) (bf : Buffers) (sound : soundOver (grownTo 
   m = grownTo total b size left
 
   -- an operation of n bytes
-  module _ (op : Operation) (n : ℕ) (long : bytesOf r m op ≡ n) where
+  module _ (op : Operation) (n : ℕ) (long : metering r m op .bytes ≡ n) where
     -- its price is there
     can : price b n ≤ left → affords m (priceOf r m op) ≡ true
     unfolding affords machineOf pick
@@ -121,7 +121,7 @@ module _ (r total b size left : ℕ) (bf : Buffers) (sound : soundOver (grownTo 
 
   -- a fill of length 0
   passing-none : price b 0 ≤ left → Passing r total b size left 0 bf (op.Table 0 (table.Fill 0 (nullOf ref.Func) 0))
-  unfolding meets grows meteringOf tableMetering lengthOf holds checksOf given tableChecks operation.wellFormed elementMatches inside machineOf acceptedStep changed effectOf tableEffect fuelBy pick both
+  unfolding meteringOf tableMetering holds checksOf given tableChecks operation.wellFormed elementMatches inside machineOf acceptedStep changed effectOf tableEffect pick both
   passing-none h =
       let fill : Operation = op.Table 0 (table.Fill 0 (nullOf ref.Func) 0) in
       let e : size ≡ size + 0 = omega arith in
@@ -140,8 +140,8 @@ module _ (r total b size left : ℕ) (bf : Buffers) (sound : soundOver (grownTo 
     grow = op.Memory 0 (memory.Grow n)
 
     -- n bytes
-    grow-long : bytesOf r m grow ≡ n
-    unfolding meteringOf memoryMetering lengthOf machineOf
+    grow-long : metering r m grow .bytes ≡ n
+    unfolding meteringOf memoryMetering machineOf
     grow-long = mul-one n
 
     -- the bytes after it
@@ -163,7 +163,7 @@ module _ (r total b size left : ℕ) (bf : Buffers) (sound : soundOver (grownTo 
 
     -- it is a pass
     passing-some : Passing r total b size left n bf grow
-    unfolding meets grows meteringOf memoryMetering operation.wellFormed operation.memoryWellFormed acceptedStep changed effectOf memoryEffect fuelBy machineOf pagesOf pick both
+    unfolding meteringOf memoryMetering operation.wellFormed operation.memoryWellFormed acceptedStep changed effectOf memoryEffect machineOf pagesOf pick both
     passing-some =
         let t : ltb 0 n ≡ true = lt-ltb 0 n some in
         let f = pick-true _ (paid (fuelOf b left) (priceOf r m grow)) (fuelOf b left) t ∙ leaves grow n grow-long in
@@ -209,7 +209,7 @@ module _ (r total b size left : ℕ) (bf : Buffers) (sound : soundOver (grownTo 
     unfolding totals wrote machineOf
     totals-pass ops =
         let t = passes-accepted r m bf (pass n) refl (facts .meeting) pass-accepted in
-        let w : wrote r m bf (pass n) ≡ n = pick-true _ (bytesOf r m (pass n)) 0 (both-true _ _ (facts .meeting) pass-accepted) ∙ facts .long in
+        let w : wrote r m bf (pass n) ≡ n = pick-true _ (metering r m (pass n) .bytes) 0 (both-true _ _ (facts .meeting) pass-accepted) ∙ facts .long in
         let u : pays r m bf (pass n) ≡ price b n
         = pays-price r m bf (pass n) refl (facts .meeting) pass-accepted (facts .affordable) ∙ ap (price b) (facts .long) in
         let k : _≡_ {A = ℕ} (pick (passes r m bf (pass n)) 1 0) 1 = pick-true _ 1 0 t in
@@ -248,7 +248,7 @@ module _ (r total b : ℕ) (below : total < 2 ^ 64) (some : 1 ≤ b) where
 
 module _ (r : ℕ) where
   -- an operation that does not meet the fuel step adds nothing
-  totals-free : (m : Machine) (bf : Buffers) (op : Operation) (ops : List Operation) → meets (meteringOf op) ≡ false
+  totals-free : (m : Machine) (bf : Buffers) (op : Operation) (ops : List Operation) → metering r m op .meets ≡ false
       → totals r m bf (op ∷ ops) ≡ totals r (step r m bf op .machine) (step r m bf op .buffers) ops
   unfolding totals wrote pays passes
   totals-free m bf op ops e = simp (pick-false, both-left, e, zero-add)
@@ -268,7 +268,7 @@ module _ (r : ℕ) where
       record { after = y .after; same = x .same ∙ y .same; sound = y .sound; long = y .long ∙ x .long }
 
   -- one that is accepted leads to what it does
-  led : (m m′ : Machine) (bf : Buffers) (op : Operation) (ops : List Operation) → meets (meteringOf op) ≡ false → operation.wellFormed op ≡ true
+  led : (m m′ : Machine) (bf : Buffers) (op : Operation) (ops : List Operation) → metering r m op .meets ≡ false → operation.wellFormed op ≡ true
       → soundOver m bf ≡ true → occasion r m bf op ≡ true → acceptedStep r m bf op .machine ≡ m′ → Led m bf (op ∷ ops) m′ ops
   led m m′ bf op ops n w s o e =
       let a = accepted-when r m bf op ∙ both-true _ _ w (both-true _ _ s o) in
@@ -296,14 +296,14 @@ module _ (r : ℕ) where
 
     -- the first: its fuel is set
     led-fuel : soundOver fresh bf ≡ true → Led fresh bf (op.Fuel (fuel.SetFuel f) ∷ ops) first ops
-    unfolding meets meteringOf fuelMetering operation.wellFormed operation.fuelWellFormed holds checksOf given fuelOccasion freshMachine acceptedStep changed effectOf fuelBy handedTo
+    unfolding meteringOf operation.wellFormed operation.fuelWellFormed holds checksOf given fuelOccasion freshMachine acceptedStep changed effectOf fuelEffect pick
     led-fuel s = led fresh first bf (op.Fuel (fuel.SetFuel f)) ops refl refl s refl
         (λ i. metered (freshMachine true (costsOf b)) (fuelOf b f) (none-asked (question r fresh bf (op.Fuel (fuel.SetFuel f))) i))
 
     -- the second: its memory is made
     led-memory : length (bf .bytes) ≡ total → soundOver first bf ≡ true
         → Led first bf (op.NewMemory total (record { wide = true; limits = noLimits; exponent = 0 }) ∷ ops) second ops
-    unfolding meets meteringOf operation.wellFormed holds checksOf given freshMachine nextByte validWanted validMemory validLimits pageBound acceptedStep changed effectOf fuelBy machineOf pick both
+    unfolding meteringOf operation.wellFormed holds checksOf given freshMachine nextByte validWanted validMemory validLimits pageBound acceptedStep changed effectOf machineOf pick both
     led-memory e s =
         let h : total ≤ length (bf .bytes) - 0 = omega arith in
         let n : 0 ≤ total = omega arith in
@@ -315,7 +315,7 @@ module _ (r : ℕ) where
     -- the third: its table is made
     led-table : soundOver second bf ≡ true
         → Led second bf (op.NewTable 0 (record { element = ref.Func; wide = false; limits = noLimits }) (nullOf ref.Func) ∷ ops) (grownTo total b 0 f) ops
-    unfolding meets meteringOf operation.wellFormed holds checksOf given machineOf nextCell validTable validLimits tableBound elementMatches acceptedStep changed effectOf fuelBy pick both
+    unfolding meteringOf operation.wellFormed holds checksOf given machineOf nextCell validTable validLimits tableBound elementMatches acceptedStep changed effectOf pick both
     led-table s =
         let h : 0 ≤ length (bf .cells) - 0 = omega arith in
         let make : Operation = op.NewTable 0 (record { element = ref.Func; wide = false; limits = noLimits }) (nullOf ref.Func) in

@@ -11,8 +11,8 @@ use Rattle.machine.specs.Step.{Stepped, step}
 use Rattle.machine.specs.declared.records.Machine.{Machine}
 use Rattle.machine.specs.declared.operation.Operation.{Operation}
 use Rattle.claims.specs.Answers.{accepted}
-use Rattle.claims.specs.Occasions.{checksOf, occasion}
-use Rattle.claims.specs.Effects.{askedOf, acceptedStep}
+use Rattle.claims.specs.Occasions.{checks, occasion}
+use Rattle.claims.specs.Effects.{asked, acceptedStep}
 use Rattle.claims.specs.Script.{replaced, scriptAfter}
 use Rattle.claims.proofs.Checks.{grant-of}
 use Rattle.claims.proofs.Heard.{onward, refused-leaves, no-question, heard-done, moved-once}
@@ -21,10 +21,10 @@ use Rattle.claims.proofs.Exits.{refusal-script, accepted-when, accepted
 
 -- an accepted operation on a sound machine moves it by its one question, if it comes to that
 accepted-script : (r : ℕ) (m : Machine) (b : Buffers) (op : Operation) → soundOver m b ≡ true → wellFormed op ≡ true → occasion r m b op ≡ true
-    → accepted (step r m b op .answer) ≡ true → askedOf r m b op ≡ onward r m b op
+    → accepted (step r m b op .answer) ≡ true → asked r m b op ≡ onward r m b op
 accepted-script r m b op s w o a =
     branch (λ (l : Limiter). l ≡ onward r m b op) _ _ _
-    (λ q. moved-once r m b op (heard-done r m b op s w q (grant-of _ (checksOf r m b op) o q) a))
+    (λ q. moved-once r m b op (heard-done r m b op s w q (grant-of _ (checks r m b op) o q) a))
     (λ q. no-question r m b op q)
 
 -- the script after any operation on any machine
@@ -36,5 +36,5 @@ script-moves r m b op =
     let w = sym (accepted-when r m b op) ∙ a in
     let s = both-2 _ _ w in
     ap (λ (x : Stepped). x .machine .limiter) (accepted-does r m b op a)
-    ∙ ap (λ (l : Limiter). replaced m b l op) (accepted-script r m b op (both-1 _ _ s) (both-1 _ _ w) (both-2 _ _ s) a) ∙ sym (pick-true _ _ _ a))
+    ∙ ap (λ (l : Limiter). replaced r m b l op) (accepted-script r m b op (both-1 _ _ s) (both-1 _ _ w) (both-2 _ _ s) a) ∙ sym (pick-true _ _ _ a))
     (λ n. refusal-script r m b op n ∙ sym (refused-leaves r m b op n))

@@ -15,6 +15,7 @@ use Rattle.lines.specs.Code.{readLine}
 use Rattle.lines.specs.Session.{Held, costsOf, turnBy, turnOf, textOf, linesOf, answersOf, session}
 use Rattle.lines.specs.declared.code.Read.{Read}
 use Rattle.lines.specs.declared.code.Read.the-variants as read
+use Rattle.claims.specs.Metered.{metering}
 use Rattle.claims.specs.Sessions.{replies, answersIn, readAll, operationsIn, lined, replyText, runText, sessionText}
 
 -- the replies' answers are the run's

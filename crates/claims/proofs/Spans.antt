@@ -1,7 +1,7 @@
 -- An accepted operation writes one span inside its buffer and nothing else, and what the bound counts is that span's bytes. Assumes nothing.
 use Prim.Native.Nat.{ℕ, _+_, _-_, _*_, _≤_}
 use mathlib.Core.Path.{_≡_, refl, sym, ap, subst, _∙_}
-use mathlib.Core.Bool.{true, false, false≢true}
+use mathlib.Core.Bool.{Bool, true, false, false≢true}
 use mathlib.Core.List.{List}
 use native.Mathlib.Omega.{arith}
 use lib.Dec.{eqb, ltb}
@@ -33,14 +33,13 @@ use Rattle.machine.specs.declared.operation.TableOp.{TableOp}
 use Rattle.machine.specs.declared.operation.TableOp.the-variants as table
 use Rattle.machine.proofs.Rooms.{memory-sound, table-sound, segment-sound, next-byte-inside, next-cell-inside, next-item-inside}
 use Rattle.claims.specs.Answers.{accepted}
-use Rattle.claims.specs.Metered.{memoryMetering, tableMetering, meteringOf, meets, lengthOf, bytesOf}
-use Rattle.claims.specs.Occasions.{holds, granted, reaches, memoryChecks, tableChecks, copies, inits, checksOf, occasion}
+use Rattle.claims.specs.Metered.{memoryMetering, tableMetering, meteringOf, metering}
+use Rattle.claims.specs.Occasions.{holds, granted, reaches, memoryChecks, tableChecks, checksOf, occasion}
 use Rattle.claims.specs.Spans.{Span, Nowhere, InBytes, InCells, InItems, put, spanBytes, fits, AllBut, OnlyIn, WritesSpan}
 use Rattle.claims.specs.Effects.{memoryEffect, tableEffect, effectOf, effects, acceptedStep}
 use Rattle.claims.specs.Bound.{wrote}
 use Rattle.claims.proofs.Checks.{given-1, given-2, growing-some}
 use Rattle.claims.proofs.MemoryExits.{more-bytes}
-use Rattle.claims.proofs.Bound.{fuel-free}
 use Rattle.claims.proofs.Exits.{refusal-leaves, accepted-when, accepted-does}
 
 -- a span replaced inside a list leaves what lies before it and from its end on
@@ -101,9 +100,9 @@ module _ (r : ℕ) (m : Machine) (b : Buffers) (s : soundOver m b ≡ true) wher
       length-cut (b .items) _ n (omega (arith, within-is from n _ h, segment-places (segmentAt m i) _ (segment-sound m _ _ _ s i (ltb-true _ _ k))))
 
   -- 11 to 14, 30: what is written to a memory
-  memory-fits : (i : ℕ) (o : MemoryOp) → ltb i (m .counts .memories) ≡ true → holds (granted m) (memoryChecks r m i o) ≡ true → fits b (memoryEffect (memoryAt m i) (b .bytes) o .span) ≡ true
+  memory-fits : (i : ℕ) (pays : Bool) (o : MemoryOp) → ltb i (m .counts .memories) ≡ true → holds (granted m) (memoryChecks (memoryAt m i) pays o) ≡ true → fits b (memoryEffect (memoryAt m i) (b .bytes) o .span) ≡ true
   unfolding fits memoryEffect holds memoryChecks reaches
-  memory-fits i (memory.Grow pages) k e =
+  memory-fits i pays (memory.Grow pages) k e =
       let old = memoryAt m i in
       let sound = memory-sound m _ _ _ s i (ltb-true _ _ k) in
       let is = sound-is old _ sound in
@@ -115,19 +114,19 @@ module _ (r : ℕ) (m : Machine) (b : Buffers) (s : soundOver m b ≡ true) wher
       (λ t.
       let held : grownSize old pages ≤ old .room = leb-true _ _ (both-2 _ _ (both-2 _ _ (both-2 _ _ (growing-some _ pages _ _ t e)))) in
       omega (arith, held, is .inside, is .held)))
-  memory-fits i memory.Size k e = refl
-  memory-fits i (memory.Load kind pointer offset) k e = refl
-  memory-fits i (memory.Store kind pointer offset bits) k e =
+  memory-fits i pays memory.Size k e = refl
+  memory-fits i pays (memory.Load kind pointer offset) k e = refl
+  memory-fits i pays (memory.Store kind pointer offset bits) k e =
       let is = sound-is (memoryAt m i) _ (memory-sound m _ _ _ s i (ltb-true _ _ k)) in
       let n = widthBytes (storeWidth kind) in
       inside-of (memoryAt m i .start + (pointer + offset)) n (length (b .bytes)) (leBytes n bits) (length-bytes n bits)
       (omega (arith, within-is (pointer + offset) _ _ (both-2 _ _ e), is .inside, is .held))
-  memory-fits i (memory.LinkCheck wanted) k e = refl
+  memory-fits i pays (memory.LinkCheck wanted) k e = refl
 
   -- 21 to 25: what is written to a table
-  table-fits : (i : ℕ) (o : TableOp) → ltb i (m .counts .tables) ≡ true → holds (granted m) (tableChecks r m i o) ≡ true → fits b (tableEffect (tableAt m i) (b .cells) o .span) ≡ true
+  table-fits : (i : ℕ) (pays : Bool) (o : TableOp) → ltb i (m .counts .tables) ≡ true → holds (granted m) (tableChecks (tableAt m i) pays o) ≡ true → fits b (tableEffect (tableAt m i) (b .cells) o .span) ≡ true
   unfolding fits tableEffect holds tableChecks
-  table-fits i (table.Grow cells value) k e =
+  table-fits i pays (table.Grow cells value) k e =
       let old = tableAt m i in
       let size = sound-size old _ (table-sound m _ _ _ s i (ltb-true _ _ k)) in
       filled-inside (old .start + old .size) cells (value .raw .bits) (length (b .cells))
@@ -136,30 +135,30 @@ module _ (r : ℕ) (m : Machine) (b : Buffers) (s : soundOver m b ≡ true) wher
       (λ t.
       let held : old .size + cells ≤ old .room = leb-true _ _ (both-2 _ _ (both-2 _ _ (both-2 _ _ (both-2 _ _ (growing-some _ cells _ _ t (given-2 _ _ _ e)))))) in
       omega (arith, table-inside i (old .size + cells) k held)))
-  table-fits i table.Size k e = refl
-  table-fits i (table.Get index) k e = refl
-  table-fits i (table.Set index value) k e =
+  table-fits i pays table.Size k e = refl
+  table-fits i pays (table.Get index) k e = refl
+  table-fits i pays (table.Set index value) k e =
       let size = sound-size (tableAt m i) _ (table-sound m _ _ _ s i (ltb-true _ _ k)) in
       let below = ltb-true index _ (both-2 _ _ e) in
       filled-inside (tableAt m i .start + index) 1 (value .raw .bits) (length (b .cells))
       (omega (arith, table-inside i (index + 1) k (omega (arith, size, below))))
-  table-fits i (table.Fill start value len) k e =
+  table-fits i pays (table.Fill start value len) k e =
       filled-inside (tableAt m i .start + start) len (value .raw .bits) (length (b .cells)) (cells-inside i start len k (both-1 _ _ (both-2 _ _ e)))
 
   -- what any operation writes lies inside its buffer
   span-fits : (op : Operation) → occasion r m b op ≡ true → fits b (effects r m b op .span) ≡ true
-  unfolding fits effectOf holds checksOf copies inits
+  unfolding fits effectOf holds checksOf
   span-fits (op.Fuel o) e = refl
   span-fits (op.NewMemory room wanted) e =
       let free = leb-true room _ (both-2 _ _ (both-1 _ _ (both-1 _ _ e))) in
       let least = leb-true _ room (both-2 _ _ (both-2 _ _ e)) in
       filled-inside (nextByte m) (leastBytes wanted) 0 (length (b .bytes)) (omega (arith, free, least, next-byte-inside m _ _ _ s))
-  span-fits (op.Memory number o) e = memory-fits number o (given-1 _ _ _ e) (given-2 _ _ _ e)
+  span-fits (op.Memory number o) e = memory-fits number _ o (given-1 _ _ _ e) (given-2 _ _ _ e)
   span-fits (op.NewTable room wanted first) e =
       let free = leb-true room _ (both-2 _ _ (both-1 _ _ (both-1 _ _ e))) in
       let least = leb-true _ room (both-2 _ _ (both-2 _ _ e)) in
       filled-inside (nextCell m) (wanted .limits .minimum) (first .raw .bits) (length (b .cells)) (omega (arith, free, least, next-cell-inside m _ _ _ s))
-  span-fits (op.Table number o) e = table-fits number o (given-1 _ _ _ e) (given-2 _ _ _ e)
+  span-fits (op.Table number o) e = table-fits number _ o (given-1 _ _ _ e) (given-2 _ _ _ e)
   span-fits (op.TableCopy into source span) e =
       let known = both-1 _ _ e in
       let within = both-1 _ _ (both-2 _ _ (both-2 _ _ e)) in
@@ -178,9 +177,9 @@ module _ (r : ℕ) (m : Machine) (b : Buffers) (s : soundOver m b ≡ true) wher
       inside-of (nextItem m) (length (itemsOf items)) (length (b .items)) (itemsOf items) refl (omega (arith, free, next-item-inside m _ _ _ s))
 
   -- the bytes of a span of a memory
-  memory-bytes : (i : ℕ) (o : MemoryOp) → ltb i (m .counts .memories) ≡ true → meets (memoryMetering i o) ≡ true
-      → lengthOf r m (memoryMetering i o) ≡ spanBytes r (memoryEffect (memoryAt m i) (b .bytes) o .span)
-  unfolding memoryMetering meets lengthOf memoryEffect spanBytes
+  memory-bytes : (i : ℕ) (o : MemoryOp) → ltb i (m .counts .memories) ≡ true → metering r m (op.Memory i o) .meets ≡ true
+      → metering r m (op.Memory i o) .bytes ≡ spanBytes r (memoryEffect (memoryAt m i) (b .bytes) o .span)
+  unfolding memoryMetering memoryEffect spanBytes meteringOf
   memory-bytes i (memory.Grow pages) k p =
       let old = memoryAt m i in
       let long = length-replicate {A = ℕ} (grownSize old pages - old .size) 0 in
@@ -191,8 +190,8 @@ module _ (r : ℕ) (m : Machine) (b : Buffers) (s : soundOver m b ≡ true) wher
   memory-bytes i (memory.LinkCheck wanted) k p = absurd (false≢true p)
 
   -- of a span of a table
-  table-bytes : (i : ℕ) (o : TableOp) → meets (tableMetering i o) ≡ true → lengthOf r m (tableMetering i o) ≡ spanBytes r (tableEffect (tableAt m i) (b .cells) o .span)
-  unfolding tableMetering meets lengthOf tableEffect spanBytes
+  table-bytes : (i : ℕ) (o : TableOp) → tableMetering r o .meets ≡ true → tableMetering r o .bytes ≡ spanBytes r (tableEffect (tableAt m i) (b .cells) o .span)
+  unfolding tableMetering tableEffect spanBytes
   table-bytes i (table.Grow cells value) p = ap (λ (n : ℕ). n * r) (sym (length-replicate cells _))
   table-bytes i table.Size p = absurd (false≢true p)
   table-bytes i (table.Get index) p = absurd (false≢true p)
@@ -200,9 +199,9 @@ module _ (r : ℕ) (m : Machine) (b : Buffers) (s : soundOver m b ≡ true) wher
   table-bytes i (table.Fill start value len) p = ap (λ (n : ℕ). n * r) (sym (length-replicate len _))
 
   -- the byte length of an operation that meets the fuel step is its span's
-  span-length : (op : Operation) → meets (meteringOf op) ≡ true → occasion r m b op ≡ true → bytesOf r m op ≡ spanBytes r (effects r m b op .span)
-  unfolding meteringOf meets lengthOf holds checksOf copies inits effectOf spanBytes
-  span-length (op.Fuel o) p e = absurd (false≢true (sym (fuel-free r m b o) ∙ p))
+  span-length : (op : Operation) → metering r m op .meets ≡ true → occasion r m b op ≡ true → metering r m op .bytes ≡ spanBytes r (effects r m b op .span)
+  unfolding meteringOf holds checksOf effectOf spanBytes
+  span-length (op.Fuel o) p e = absurd (false≢true p)
   span-length (op.NewMemory room wanted) p e = absurd (false≢true p)
   span-length (op.Memory number o) p e = memory-bytes number o (given-1 _ _ _ e) p
   span-length (op.NewTable room wanted first) p e = absurd (false≢true p)
@@ -227,7 +226,7 @@ module _ (r : ℕ) (m : Machine) (b : Buffers) (op : Operation) where
       record { new = new; inside = held; alone = subst (OnlyIn (effects r m b op .span) b) (sym new) (only-in b (effects r m b op .span) held) }
 
   -- and counts exactly its bytes where it meets the fuel step
-  pub span-counted : accepted (step r m b op .answer) ≡ true → meets (meteringOf op) ≡ true → wrote r m b op ≡ spanBytes r (effects r m b op .span)
+  pub span-counted : accepted (step r m b op .answer) ≡ true → metering r m op .meets ≡ true → wrote r m b op ≡ spanBytes r (effects r m b op .span)
   unfolding wrote
   span-counted e p =
       let when = both-2 _ _ (sym (accepted-when r m b op) ∙ e) in

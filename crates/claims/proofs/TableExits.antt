@@ -22,6 +22,7 @@ use Rattle.types.proofs.Picks.{pick-true, pick-false, both-true, both-left, bot
 use Rattle.types.proofs.Spans.{over-nil}
 use Rattle.types.specs.IndexType.{maxSize}
 use Rattle.types.specs.Limits.{admitsOf}
+use Rattle.types.specs.TableType.{elementMatches}
 use Rattle.table.specs.Table.{resized, soundTable, getTable, setSound, setTable}
 use Rattle.table.specs.New.{refused, newTable}
 use Rattle.table.specs.Grow.{answered, cellsPrice, growTable}
@@ -52,13 +53,13 @@ use Rattle.machine.specs.declared.operation.TableOp.{TableOp}
 use Rattle.machine.specs.declared.operation.TableOp.the-variants as table
 use Rattle.machine.proofs.Rooms.{table-sound, segment-sound}
 use Rattle.claims.specs.Answers.{accepted}
-use Rattle.claims.specs.Metered.{tableMetering, meteringOf, meets, grows, lengthOf, priceOf, affords}
-use Rattle.claims.specs.Occasions.{given, holds, comes, granted, ofKind, tableChecks, copies, inits, checksOf, occasion, question}
+use Rattle.claims.specs.Metered.{tableMetering, meteringOf, priceOf, affords}
+use Rattle.claims.specs.Occasions.{given, holds, comes, granted, tableChecks, checksOf, occasion, question}
 use Rattle.claims.specs.Spans.{put}
-use Rattle.claims.specs.Effects.{tableEffect, effectOf, fuelBy, acceptedStep}
+use Rattle.claims.specs.Effects.{tableEffect, effectOf, acceptedStep}
 use Rattle.claims.proofs.Checks.{given-holds, given-comes, growing, used-holds, used-comes}
 use Rattle.claims.proofs.Exit.{Exit, accepts}
-use Rattle.claims.proofs.Exiting.{branch, surely, put-back-stays, named, table-put-back, nothing-put, Ends, accepted-is, ending, accepting, accepting-by, refusing, leaving-by, leaving, creating, paying, spanning, unknown}
+use Rattle.claims.proofs.Exiting.{branch, surely, put-back-stays, named, table-put-back, nothing-put, Ends, accepted-is, ending, accepting, accepting-paid, accepting-by, refusing, leaving-by, leaving, creating, paying, spanning, unknown}
 use Rattle.claims.proofs.Growth.{Grew, grew, grew-exit}
 use Rattle.claims.proofs.TableExiting.{cells-sound, items-sound, own-kind, over-none, two-sound}
 
@@ -66,18 +67,18 @@ module _ (r : ℕ) (m : Machine) (b : Buffers) where
   -- 20: 17, 1, 14, limiter 3/4, 5 with notice
   pub new-table-exit : (room : ℕ) (wanted : WantedTable) (initial : TypedRawRef) → soundOver m b ≡ true → wellFormed (op.NewTable room wanted initial) ≡ true
       → Exit r m b (op.NewTable room wanted initial) (occasion r m b (op.NewTable room wanted initial))
-  unfolding perform newTableOn newTable madeTable holds checksOf given comes effectOf meteringOf fuelBy put grows accepted
+  unfolding perform newTableOn newTable madeTable holds checksOf given comes effectOf meteringOf put accepted
   new-table-exit room wanted initial e w =
       ending e w
       (branch (λ (d : Done Outcome). Ends r m b (op.NewTable room wanted initial) (onCells d b)) _ _ _
       (λ h.
       creating (λ (c : Done CreatedTable). onCells (tableMade m c) b) (λ l x. done (refused l x) (b .cells)) _ _ _ _ _ 14
-      e w (cells-sound m b e _ (both-2 _ _ h)) (named 14 refl refl) (λ x l k o t. leaving-by x l k refl o t) (both-then _ _ h) refl (λ q o. accepting-by (moved (m .limiter)) refl (sym (pick-true _ _ _ q)) o refl))
+      e w (cells-sound m b e _ (both-2 _ _ h)) (named 14 refl refl) (λ x l k o t. leaving-by x l k refl o t) (both-then _ _ h) refl (λ q o. accepting-by (m .fuel) (moved (m .limiter)) (sym (pick-false _ _ _ refl)) (sym (pick-true _ _ _ q)) o refl))
       (λ h. leaving (refusal 17 0) (named 17 refl refl) refl (both-left _ _ h) (both-left _ _ (both-left _ _ h))))
 
   -- 28: 16
   pub drop-segment-exit : (i : ℕ) → soundOver m b ≡ true → wellFormed (op.DropSegment i) ≡ true → Exit r m b (op.DropSegment i) (occasion r m b (op.DropSegment i))
-  unfolding perform dropOn holds checksOf given comes effectOf meteringOf fuelBy put grows accepted
+  unfolding perform dropOn holds checksOf given comes effectOf meteringOf put accepted
   drop-segment-exit i e w =
       ending e w
       (branch (λ (o : Outcome). Ends r m b (op.DropSegment i) (onNone o b)) _ _ _
@@ -87,7 +88,7 @@ module _ (r : ℕ) (m : Machine) (b : Buffers) where
   -- 29: 17
   pub new-segment-exit : (element : RefType) (items : Items) → soundOver m b ≡ true → wellFormed (op.NewSegment element items) ≡ true
       → Exit r m b (op.NewSegment element items) (occasion r m b (op.NewSegment element items))
-  unfolding perform newSegmentOn newSegment madeSegment holds checksOf given comes effectOf meteringOf fuelBy put grows accepted
+  unfolding perform newSegmentOn newSegment madeSegment holds checksOf given comes effectOf meteringOf put accepted
   new-segment-exit element items e w =
       ending e w
       (branch (λ (d : Done Outcome). Ends r m b (op.NewSegment element items) (onItems d b)) _ _ _
@@ -99,13 +100,13 @@ module _ (r : ℕ) (m : Machine) (b : Buffers) where
   -- within one table the kind is its own: 12, 7
   within-ends : (i : ℕ) (s : CopySpan) → soundOver m b ≡ true → ltb i (m .counts .tables) ≡ true
       → Ends r m b (op.TableCopy i i s) (onCells (spannedDone m (copyWithin r (tableAt m i) (b .cells) s (m .fuel))) b)
-  unfolding copyWithin holds checksOf given copies comes effectOf meteringOf lengthOf fuelBy put grows accepted
+  unfolding copyWithin holds checksOf given comes effectOf meteringOf put accepted
   within-ends i s e h =
       surely Within _ _ _ (table-sound m _ _ _ e i (ltb-true i _ h))
       (branch Within _ _ _
       (λ q.
       paying change.Nothing (nothing-put m) refl refl _ _ (both-then _ _ (both-true _ _ h h) ∙ both-then _ _ (own-kind (tableAt m i .ty)) ∙ both-then _ _ q)
-      (λ o. accepting refl refl o refl))
+      (λ o. accepting-paid refl refl o refl))
       (λ q. leaving (refusal 12 0) (named 12 refl refl) refl refl (both-right _ _ (both-right _ _ (both-left _ _ q)))))
     where
       Within : Done Spanned → Type 0
@@ -114,7 +115,7 @@ module _ (r : ℕ) (m : Machine) (b : Buffers) where
   -- 26: 16, 14, 12, 7
   pub table-copy-exit : (into source : ℕ) (s : CopySpan) → soundOver m b ≡ true → wellFormed (op.TableCopy into source s) ≡ true
       → Exit r m b (op.TableCopy into source s) (occasion r m b (op.TableCopy into source s))
-  unfolding perform copyOn copyKnown copyTable holds checksOf given copies comes effectOf meteringOf lengthOf fuelBy put grows accepted
+  unfolding perform copyOn copyKnown copyTable holds checksOf given comes effectOf meteringOf put accepted
   table-copy-exit into source s e w =
       ending e w
       (branch (Copies source) _ _ _
@@ -127,7 +128,7 @@ module _ (r : ℕ) (m : Machine) (b : Buffers) where
       surely (λ (d : Done Spanned). Copies source (spannedDone m d)) _ _ _
       (two-sound m b into source e (ltb-true into _ (both-1 _ _ h)) (ltb-true source _ (both-2 _ _ h)) (eqb-false into source z))
       (spanning change.Nothing (nothing-put m) refl refl _ _ _ 12 _ (named 12 refl refl) (both-then _ _ h)
-      (λ o. paying change.Nothing (nothing-put m) refl refl _ _ o (λ o. accepting refl refl o refl)))))
+      (λ o. paying change.Nothing (nothing-put m) refl refl _ _ o (λ o. accepting-paid refl refl o refl)))))
       (λ h. unknown refl (both-left _ _ h)))
     where
       Copies : ℕ → Done Outcome → Type 0
@@ -136,7 +137,7 @@ module _ (r : ℕ) (m : Machine) (b : Buffers) where
   -- 27: 16, 14, 13, length 0 without fuel, 7
   pub table-init-exit : (i segment : ℕ) (s : CopySpan) → soundOver m b ≡ true → wellFormed (op.TableInit i segment s) ≡ true
       → Exit r m b (op.TableInit i segment s) (occasion r m b (op.TableInit i segment s))
-  unfolding perform initOn initTable holds checksOf given inits comes effectOf meteringOf lengthOf fuelBy put grows accepted
+  unfolding perform initOn initTable holds checksOf given comes effectOf meteringOf put accepted
   table-init-exit i segment s e w =
       ending e w
       (branch (λ (d : Done Outcome). Ends r m b init (onCells d b)) _ _ _
@@ -154,7 +155,7 @@ module _ (r : ℕ) (m : Machine) (b : Buffers) where
       (λ z.
       let n : s .len ≡ 0 → ⊥ = eqb-false (s .len) 0 z in
       paying change.Nothing (nothing-put m) refl refl _ _ (o ∙ pick-false _ _ _ z)
-      (λ o. accepting (sym (pick-true _ _ _ (lt-ltb 0 (s .len) (omega arith)))) refl o refl)))))
+      (λ o. accepting-paid (lt-ltb 0 (s .len) (omega arith)) refl o refl)))))
       (λ h. unknown refl (both-left _ _ h)))
     where
       init : Operation
@@ -180,7 +181,7 @@ module _ (r : ℕ) (m : Machine) (b : Buffers) (i : ℕ) where
 
     -- of its kind, below the index type's largest size; and what is tested after the limiter's grant
     abbrev kind : Bool
-    kind = ofKind m i v
+    kind = elementMatches (old .ty) (v .ty)
 
     abbrev may : Bool
     may = ltb (old .size + n) (maxSize (old .ty .index))
@@ -190,7 +191,7 @@ module _ (r : ℕ) (m : Machine) (b : Buffers) (i : ℕ) where
 
     -- by 0 cells the size stays, and no cell is new
     by-none : n ≡ 0 → question r m b grow ≡ false → after m (out (done (answered (accept (old .size)) old (m .fuel) (m .limiter)) (b .cells))) ≡ acceptedStep r m b grow
-    unfolding both effectOf tableEffect meteringOf tableMetering fuelBy grows meets put
+    unfolding both effectOf tableEffect meteringOf tableMetering put
     by-none z u =
         let q : old .size + n ≡ old .size = omega arith in
         let p : ltb 0 n ≡ false = le-ltb 0 n (omega arith) in
@@ -200,7 +201,7 @@ module _ (r : ℕ) (m : Machine) (b : Buffers) (i : ℕ) where
 
     -- 21: 16, 14, by 0, 6 at the index type's largest size, limiter 6/4, 6, 7 and 8 with notice
     pub table-grew : Grew r m b grow (ltb i (m .counts .tables)) n (admitsOf (old .ty .limits) (old .size + n))
-    unfolding both perform onTable performTable growTable wellFormed holds checksOf given tableChecks comes effectOf tableEffect meteringOf tableMetering lengthOf fuelBy grows meets put accepted
+    unfolding both perform onTable performTable growTable wellFormed holds checksOf given tableChecks comes effectOf tableEffect meteringOf tableMetering put accepted
     table-grew =
         grew r m b grow (ltb i (m .counts .tables)) n (admitsOf (old .ty .limits) (old .size + n)) out
         (λ x f l. done (answered (answer.Refusal x) old f l) (b .cells))
@@ -226,7 +227,7 @@ module _ (r : ℕ) (m : Machine) (b : Buffers) (i : ℕ) where
   -- 21 to 25, of a table in use: 14, 9, 10, 11, 7
   used-table : (o : TableOp) → soundOver m b ≡ true → ltb i (m .counts .tables) ≡ true → soundTable old (length (b .cells)) ≡ true
       → On o (performTable r old (b .cells) (m .fuel) (m .limiter) o)
-  unfolding performTable getTable setTable setSound fillTable holds checksOf given tableChecks comes effectOf tableEffect meteringOf tableMetering lengthOf fuelBy grows put accepted
+  unfolding performTable getTable setTable setSound fillTable holds checksOf given tableChecks comes effectOf tableEffect meteringOf tableMetering put accepted
   used-table (table.Grow cells value) e h s = λ q. grew-exit r m b _ _ _ _ refl (table-grew cells value e)
   used-table table.Size e h s = accepting refl refl (both-true _ _ h refl) refl
   used-table (table.Get index) e h s =
@@ -255,7 +256,7 @@ module _ (r : ℕ) (m : Machine) (b : Buffers) (i : ℕ) where
   used-table (table.Fill start value len) e h s =
       surely (λ (d : Done Spanned). On (table.Fill start value len) (tableSpanned old (m .limiter) d)) _ _ _ s
       (spanning (change.Table i old) (table-put-back m i) refl refl _ _ _ 11 _ (named 11 refl refl) (both-then _ _ h)
-      (λ o. paying (change.Table i old) (table-put-back m i) refl refl _ _ o (λ o. accepting refl refl o refl)))
+      (λ o. paying (change.Table i old) (table-put-back m i) refl refl _ _ o (λ o. accepting-paid refl refl o refl)))
 
   -- 16, then these
   pub table-exit : (o : TableOp) → soundOver m b ≡ true → wellFormed (op.Table i o) ≡ true → Exit r m b (op.Table i o) (occasion r m b (op.Table i o))

@@ -2,7 +2,7 @@
 use Rattle.types.specs.Prelude.{ℕ, _+_, _-_, _*_, true, false, List, [], _∷_, eqb, replicate}
 use Rattle.types.specs.Names.{pick, both, nullOf, RefType}
 use Rattle.machine.specs.Names.{Buffers, buffers, noLimits, step, Machine, Operation, FuelOp, MemoryOp, TableOp}
-use Rattle.claims.specs.{Answers.accepted, Metered.meteringOf, Metered.meets, Metered.bytesOf, Metered.passes}
+use Rattle.claims.specs.{Answers.accepted, Metered.metering, Metered.passes}
 
 -- over a list of operations: the bytes written, F and K
 pub record Totals : Type 0 where
@@ -12,7 +12,7 @@ pub record Totals : Type 0 where
 
 -- the bytes that one operation writes
 unfoldable pub wrote : ℕ → Machine → Buffers → Operation → ℕ
-wrote r m b op = pick (both (meets (meteringOf op)) (accepted (step r m b op .answer))) (bytesOf r m op) 0
+wrote r m b op = pick (both (metering r m op .meets) (accepted (step r m b op .answer))) (metering r m op .bytes) 0
 
 -- the units that it pays at the fuel step: what the fuel fell by
 unfoldable pub pays : ℕ → Machine → Buffers → Operation → ℕ

@@ -20,7 +20,7 @@ use Rattle.lent.proofs.operate.operate_kept.Reads as lent-reads
 use Rattle.lent.proofs.operate.operate_kept.Kinds as lent-kinds
 use Rattle.claims.specs.{Answers.accepted, Answers.valueOrListed, Answers.never, Metered.Leaves, Occasions.acceptedWhen, Effects.effects, Effects.acceptedStep}
 use Rattle.claims.specs.{Bound.wrote, Bound.totals, Bound.mostR, Bound.mostBytes, Bound.fullestRun, Bound.zeros, Ledger.blank, Ledger.limiterSays}
-use Rattle.claims.specs.{Metered.meteringOf, Metered.meets, Spans.spanBytes, Spans.WritesSpan}
+use Rattle.claims.specs.{Metered.metering, Spans.spanBytes, Spans.WritesSpan}
 use Rattle.claims.specs.{Ledger.book, Cases.allHold, Cases.cases, Sessions.readAll, Sessions.replies, Sessions.answersIn}
 use Rattle.claims.specs.{Script.scriptAfter, Sessions.sessionText, Alike.Watched, Alike.namesOnly, Alike.allNameOnly, Alike.Agree, Alike.SameStep, Alike.SameRun}
 
@@ -49,7 +49,7 @@ pub record Claims : Type 0 where
   pub span-alone : (r : ℕ) (m : Machine) (b : Buffers) (op : Operation) → accepted (step r m b op .answer) ≡ true
       → WritesSpan (effects r m b op .span) b (step r m b op .buffers)
   -- where it meets the fuel step, what the bound counts is exactly the bytes of that span;
-  pub span-counted : (r : ℕ) (m : Machine) (b : Buffers) (op : Operation) → accepted (step r m b op .answer) ≡ true → meets (meteringOf op) ≡ true
+  pub span-counted : (r : ℕ) (m : Machine) (b : Buffers) (op : Operation) → accepted (step r m b op .answer) ≡ true → metering r m op .meets ≡ true
       → wrote r m b op ≡ spanBytes r (effects r m b op .span)
   -- a refused one writes nothing and counts 0.
   pub refused-writes-none : (r : ℕ) (m : Machine) (b : Buffers) (op : Operation) → accepted (step r m b op .answer) ≡ false

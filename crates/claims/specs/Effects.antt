@@ -1,13 +1,14 @@
 -- Document 01, "First check wins", "Fuel" and "Operation lines": what an accepted operation answers, changes, takes and writes.
-use Rattle.types.specs.Prelude.{ℕ, _+_, _-_, List, ltb, length, getD, replicate}
+use Rattle.types.specs.Prelude.{ℕ, _+_, _-_, List, length, getD, replicate}
 use Rattle.types.specs.Names.{pick, cut, accept, left, paid, limiterOf, moved, matchMemory, Answer, Fuel, Limiter}
 use Rattle.memory.specs.Names.{loadedOf, leBytes, widthBytes, storeWidth, resized as resizedMemory, pagesOf, memoryOf, grownSize}
 use Rattle.memory.specs.Names.{wanted as typeOf, leastBytes as leastOf, Memory}
 use Rattle.table.specs.Names.{resized as resizedTable, wanted as tableTypeOf, tableOf, dropped, Table}
-use Rattle.machine.specs.Names.{Buffers, memoryAt, tableAt, segmentAt, nextByte, nextCell, nextItem, scriptOf, itemsOf, changed, standing}
+use Rattle.machine.specs.{Outcome.settled, Fueling.fueled, declared.outcome.Outcome.Outcome, declared.fueling.Fueled.Fueled}
+use Rattle.machine.specs.Names.{Buffers, memoryAt, tableAt, segmentAt, nextByte, nextCell, nextItem, scriptOf, itemsOf}
 use Rattle.machine.specs.Names.{oneMemoryMore, oneTableMore, oneSegmentMore, Stepped, Machine, Counts, Change, Operation, FuelOp, MemoryOp, TableOp}
-use Rattle.claims.specs.Metered.{Metering, Free, Sets, Charges, GrowsPages, GrowsCells, Spans, Inits, meteringOf, priceOf}
-use Rattle.claims.specs.{Occasions.question, Spans.Span, Spans.Nowhere, Spans.InBytes, Spans.InCells, Spans.InItems, Spans.put}
+use Rattle.claims.specs.{Metered.metering, Metered.priceOf, Occasions.question}
+use Rattle.claims.specs.Spans.{Span, Nowhere, InBytes, InCells, InItems, put}
 
 -- what an accepted operation on one memory or table answers, the size after it, and the span that it writes
 pub record OnOne : Type 0 where
@@ -36,87 +37,66 @@ tableEffect x cells (TableOp.Get index) = onOne (accept (getD cells (x .start + 
 tableEffect x cells (TableOp.Set index value) = onOne (accept 0) (x .size) (InCells (x .start + index) (replicate 1 (value .raw .bits)))
 tableEffect x cells (TableOp.Fill start value len) = onOne (accept 0) (x .size) (InCells (x .start + start) (replicate len (value .raw .bits)))
 
--- what any accepted operation answers, the record that it makes or names, the numbers in use and the limiter after it, and the span that it writes
+-- on fuel and limiter: 01 sets the fuel, 03 takes from it, 02 and 03 answer what is left, 04 hands over its script
+unfoldable pub fuelEffect : Fuel → Limiter → FuelOp → Fueled
+fuelEffect f l (FuelOp.SetFuel amount) = fueled (accept 0) (left f amount) l
+fuelEffect f l FuelOp.GetFuel = fueled (accept (f .remaining)) f l
+fuelEffect f l (FuelOp.Charge units) = fueled (accept (f .remaining - units)) (left f (f .remaining - units)) l
+fuelEffect f l (FuelOp.SetLimiter script) = fueled (accept 0) f (limiterOf (scriptOf script))
+
+-- what any accepted operation gives back (its answer, the record that it makes or names, the numbers in use, fuel and limiter), and the span that it writes
 pub record Effect : Type 0 where
-  pub answer : Answer
-  pub change : Change
-  pub counts : Counts
-  pub limiter : Limiter
+  pub out : Outcome
   pub span : Span
 
-abbrev pub effect : Answer → Change → Counts → Limiter → Span → Effect
-effect a c k l s = record { answer = a; change = c; counts = k; limiter = l; span = s }
+abbrev pub effect : Answer → Change → Counts → Fuel → Limiter → Span → Effect
+effect a c k f l s = record { out = record { answer = a; change = c; counts = k; fuel = f; limiter = l }; span = s }
 
--- of 01 to 04: 02 and 03 answer the fuel left
-unfoldable pub fuelAnswer : Machine → FuelOp → Answer
-fuelAnswer m (FuelOp.SetFuel amount) = accept 0
-fuelAnswer m FuelOp.GetFuel = accept (m .fuel .remaining)
-fuelAnswer m (FuelOp.Charge units) = accept (m .fuel .remaining - units)
-fuelAnswer m (FuelOp.SetLimiter script) = accept 0
-
--- 04 hands over its script
-unfoldable pub handedTo : Limiter → FuelOp → Limiter
-handedTo l (FuelOp.SetFuel amount) = l
-handedTo l FuelOp.GetFuel = l
-handedTo l (FuelOp.Charge units) = l
-handedTo l (FuelOp.SetLimiter script) = limiterOf (scriptOf script)
-
--- with the limiter l after its question: a creation takes the next number and answers it; of a record in use only the size
+-- with the fuel f after the fuel step and the limiter l after its question: a creation takes the next number and answers it; of a record in use only the size
 -- may be another; a copy and an init write what their source held before
-unfoldable pub effectOf : Machine → Buffers → Limiter → Operation → Effect
-effectOf m b l (Operation.Fuel o) = effect (fuelAnswer m o) Change.Nothing (m .counts) (handedTo l o) Nowhere
-effectOf m b l (Operation.NewMemory room wanted) =
+unfoldable pub effectOf : Machine → Buffers → Fuel → Limiter → Operation → Effect
+effectOf m b f l (Operation.Fuel o) =
+    let d = fuelEffect f l o in
+    effect (d .answer) Change.Nothing (m .counts) (d .fuel) (d .limiter) Nowhere
+effectOf m b f l (Operation.NewMemory room wanted) =
     effect (accept (m .counts .memories)) (Change.Memory (m .counts .memories) (memoryOf (typeOf wanted) (nextByte m) room (leastOf wanted)))
-    (oneMemoryMore (m .counts)) l (InBytes (nextByte m) (replicate (leastOf wanted) 0))
-effectOf m b l (Operation.Memory number o) =
+    (oneMemoryMore (m .counts)) f l (InBytes (nextByte m) (replicate (leastOf wanted) 0))
+effectOf m b f l (Operation.Memory number o) =
     let x = memoryAt m number in
     let d = memoryEffect x (b .bytes) o in
-    effect (d .answer) (Change.Memory number (resizedMemory x (d .size))) (m .counts) l (d .span)
-effectOf m b l (Operation.NewTable room wanted initial) =
+    effect (d .answer) (Change.Memory number (resizedMemory x (d .size))) (m .counts) f l (d .span)
+effectOf m b f l (Operation.NewTable room wanted initial) =
     effect (accept (m .counts .tables)) (Change.Table (m .counts .tables) (tableOf (tableTypeOf wanted) (nextCell m) room (wanted .limits .minimum)))
-    (oneTableMore (m .counts)) l (InCells (nextCell m) (replicate (wanted .limits .minimum) (initial .raw .bits)))
-effectOf m b l (Operation.Table number o) =
+    (oneTableMore (m .counts)) f l (InCells (nextCell m) (replicate (wanted .limits .minimum) (initial .raw .bits)))
+effectOf m b f l (Operation.Table number o) =
     let x = tableAt m number in
     let d = tableEffect x (b .cells) o in
-    effect (d .answer) (Change.Table number (resizedTable x (d .size))) (m .counts) l (d .span)
-effectOf m b l (Operation.TableCopy into source span) =
-    effect (accept 0) Change.Nothing (m .counts) l
+    effect (d .answer) (Change.Table number (resizedTable x (d .size))) (m .counts) f l (d .span)
+effectOf m b f l (Operation.TableCopy into source span) =
+    effect (accept 0) Change.Nothing (m .counts) f l
     (InCells (tableAt m into .start + span .to) (cut (b .cells) (tableAt m source .start + span .from) (span .len)))
-effectOf m b l (Operation.TableInit table segment span) =
-    effect (accept 0) Change.Nothing (m .counts) l
+effectOf m b f l (Operation.TableInit table segment span) =
+    effect (accept 0) Change.Nothing (m .counts) f l
     (InCells (tableAt m table .start + span .to) (cut (b .items) (segmentAt m segment .start + span .from) (span .len)))
-effectOf m b l (Operation.DropSegment segment) = effect (accept 0) (Change.Segment segment (dropped (segmentAt m segment))) (m .counts) l Nowhere
-effectOf m b l (Operation.NewSegment element items) =
+effectOf m b f l (Operation.DropSegment segment) = effect (accept 0) (Change.Segment segment (dropped (segmentAt m segment))) (m .counts) f l Nowhere
+effectOf m b f l (Operation.NewSegment element items) =
     let n = length (itemsOf items) in
     effect (accept (m .counts .segments)) (Change.Segment (m .counts .segments) (record { ty = element; start = nextItem m; places = n; size = n }))
-    (oneSegmentMore (m .counts)) l (InItems (nextItem m) (itemsOf items))
+    (oneSegmentMore (m .counts)) f l (InItems (nextItem m) (itemsOf items))
 
--- the fuel after it: set, charged, or less the price where it meets the fuel step
-unfoldable pub fuelBy : Fuel → ℕ → Metering → Fuel
-fuelBy f p Free = f
-fuelBy f p (Sets amount) = left f amount
-fuelBy f p (Charges units) = left f (f .remaining - units)
-fuelBy f p (GrowsPages memory pages) = pick (ltb 0 pages) (paid f p) f
-fuelBy f p (GrowsCells table cells) = pick (ltb 0 cells) (paid f p) f
-fuelBy f p (Spans len) = paid f p
-fuelBy f p (Inits len) = pick (ltb 0 len) (paid f p) f
+-- the fuel after the fuel step, and the limiter after its question, where it comes to them
+abbrev pub spent : ℕ → Machine → Operation → Fuel
+spent r m op = pick (metering r m op .meets) (paid (m .fuel) (priceOf r m op)) (m .fuel)
 
-abbrev pub fuelAfter : ℕ → Machine → Operation → Fuel
-fuelAfter r m op = fuelBy (m .fuel) (priceOf r m op) (meteringOf op)
-
--- the limiter after its one question, if it comes to that
-abbrev pub askedOf : ℕ → Machine → Buffers → Operation → Limiter
-askedOf r m b op = pick (question r m b op) (moved (m .limiter)) (m .limiter)
-
-abbrev pub effects : ℕ → Machine → Buffers → Operation → Effect
-effects r m b op = effectOf m b (askedOf r m b op) op
+abbrev pub asked : ℕ → Machine → Buffers → Operation → Limiter
+asked r m b op = pick (question r m b op) (moved (m .limiter)) (m .limiter)
 
 -- an accepted operation, whole
+abbrev pub effects : ℕ → Machine → Buffers → Operation → Effect
+effects r m b op = effectOf m b (spent r m op) (asked r m b op) op
+
 unfoldable pub acceptedStep : ℕ → Machine → Buffers → Operation → Stepped
+unfolding settled
 acceptedStep r m b op =
     let e = effects r m b op in
-    record {
-      answer = e .answer;
-      machine = standing (changed (e .change) m) (e .counts) (fuelAfter r m op) (e .limiter);
-      buffers = put b (e .span);
-    }
+    record { answer = e .out .answer; machine = settled m (e .out); buffers = put b (e .span) }

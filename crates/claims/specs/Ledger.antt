@@ -1,11 +1,8 @@
 -- Demand 3's ledger: the amount last set and the charges since, from the operations, their answers and the limiter's alone.
-use Rattle.types.specs.Prelude.{ℕ, _+_, _-_, _*_, _^_, Bool, true, List, [], _∷_, _++_, eqb, leb, ltb, length, getD, set}
+use Rattle.types.specs.Prelude.{ℕ, _+_, _-_, _^_, Bool, true, List, [], _∷_, _++_, eqb, leb, ltb, length, getD, set}
 use Rattle.types.specs.Names.{pick, both, price, numberOf, admitsOf, Answer, Limits}
-use Rattle.machine.specs.Names.{Buffers, noLimits, step, Machine, Operation}
-use Rattle.claims.specs.Answers.{accepted}
-use Rattle.claims.specs.Metered.{Metering, Free, Sets, Charges, GrowsPages, GrowsCells, Spans, Inits, fuelMetering, memoryMetering}
-use Rattle.claims.specs.Metered.{tableMetering}
-use Rattle.claims.specs.Script.{heard, saysTo}
+use Rattle.machine.specs.Names.{Buffers, noLimits, step, Machine, Operation, FuelOp}
+use Rattle.claims.specs.{Answers.accepted, Metered.Metering, Metered.tableMetering, Metered.meteringOf, Script.heard, Script.saysTo}
 
 -- what the accepted creations and growths say of a table: its limits as asked for, and its size
 pub record Row : Type 0 where
@@ -48,35 +45,40 @@ growthCharge k a said admits p =
     pick (accepted a) p
     (pick (eqb (numberOf a) 8) p (pick (both (eqb (numberOf a) 4) (erred k said admits p)) p 0))
 
--- a table after an accepted growth by n
-unfoldable pub grown : Book → ℕ → ℕ → Answer → Book
-grown k i n a =
-    pick (accepted a) (withTables k (set (k .tables) i (record { limits = rowAt k i .limits; size = rowAt k i .size + n }))) k
+-- what the fuel step took of one that meets it: of a growth that, of any other its price where it is accepted
+unfoldable pub took : ℕ → Book → Metering → Bool → Answer → List ℕ → ℕ
+took b k x admits a said =
+    let p = price b (x .bytes) in
+    pick (x .meets) (pick (ltb 0 (x .more)) (growthCharge k a said admits p) (pick (accepted a) p 0)) 0
 
--- what an operation enters by what it has to do with fuel, from its answer and the limiter's answers to its question and notice
-unfoldable pub entryBy : ℕ → ℕ → Book → Metering → Answer → List ℕ → Book
-entryBy r b k Free a said = k
-entryBy r b k (Sets amount) a said = pick (accepted a) (record { set = amount; since = 0; pages = k .pages; tables = k .tables }) k
-entryBy r b k (Charges units) a said = pick (accepted a) (charged k units) k
-entryBy r b k (GrowsPages memory pages) a said =
-    pick (ltb 0 pages) (charged k (growthCharge k a said true (price b (pages * getD (k .pages) memory 0)))) k
-entryBy r b k (GrowsCells table cells) a said =
-    pick (ltb 0 cells)
-    (grown (charged k (growthCharge k a said (admitsOf (rowAt k table .limits) (rowAt k table .size + cells)) (price b (cells * r)))) table cells a)
-    k
-entryBy r b k (Spans len) a said = pick (accepted a) (charged k (price b (len * r))) k
-entryBy r b k (Inits len) a said = pick (both (ltb 0 len) (accepted a)) (charged k (price b (len * r))) k
+-- the book after that
+abbrev pub takes : ℕ → ℕ → Book → Operation → Bool → Answer → List ℕ → Book
+takes r b k op admits a said = charged k (took b k (meteringOf r (λ i. getD (k .pages) i 0) op) admits a said)
 
--- the book after one operation: a creation adds the bytes of a page, or a table
+-- an accepted 01 or 03
+unfoldable pub fuelEntry : Book → FuelOp → Book
+fuelEntry k (FuelOp.SetFuel amount) = record { set = amount; since = 0; pages = k .pages; tables = k .tables }
+fuelEntry k FuelOp.GetFuel = k
+fuelEntry k (FuelOp.Charge units) = charged k units
+fuelEntry k (FuelOp.SetLimiter script) = k
+
+-- an accepted operation on a table: it has so many cells more
+abbrev pub grown : Book → Book → ℕ → ℕ → Book
+grown k now i n = withTables now (set (k .tables) i (record { limits = rowAt k i .limits; size = rowAt k i .size + n }))
+
+-- the book after one operation, from its answer and the limiter's answers to its question and notice: a creation adds the bytes of a page, or a table
 unfoldable pub entry : ℕ → ℕ → Book → Operation → Answer → List ℕ → Book
-entry r b k (Operation.Fuel o) a said = entryBy r b k (fuelMetering o) a said
+entry r b k (Operation.Fuel o) a said = pick (accepted a) (fuelEntry k o) k
 entry r b k (Operation.NewMemory room wanted) a said = pick (accepted a) (withPages k (k .pages ++ (2 ^ (wanted .exponent) ∷ []))) k
-entry r b k (Operation.Memory number o) a said = entryBy r b k (memoryMetering number o) a said
+entry r b k (Operation.Memory number o) a said = takes r b k (Operation.Memory number o) true a said
 entry r b k (Operation.NewTable room wanted initial) a said =
     pick (accepted a) (withTables k (k .tables ++ (record { limits = wanted .limits; size = wanted .limits .minimum } ∷ []))) k
-entry r b k (Operation.Table number o) a said = entryBy r b k (tableMetering number o) a said
-entry r b k (Operation.TableCopy into source span) a said = entryBy r b k (Spans (span .len)) a said
-entry r b k (Operation.TableInit table segment span) a said = entryBy r b k (Inits (span .len)) a said
+entry r b k (Operation.Table number o) a said =
+    let n = tableMetering r o .more in
+    let now = takes r b k (Operation.Table number o) (admitsOf (rowAt k number .limits) (rowAt k number .size + n)) a said in
+    pick (accepted a) (grown k now number n) now
+entry r b k (Operation.TableCopy into source span) a said = takes r b k (Operation.TableCopy into source span) true a said
+entry r b k (Operation.TableInit table segment span) a said = takes r b k (Operation.TableInit table segment span) true a said
 entry r b k (Operation.DropSegment segment) a said = k
 entry r b k (Operation.NewSegment element items) a said = k
 

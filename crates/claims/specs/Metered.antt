@@ -2,93 +2,57 @@
 -- "Numbers given back", and demand 1: what a refusal leaves, and the fuel that it takes.
 use Rattle.types.specs.Prelude.{ℕ, _*_, _≡_, Bool, true, false, eqb, leb, ltb}
 use Rattle.types.specs.Names.{pick, both, price, paid, numberOf, noLimiter, saysOf, pageBytes}
-use Rattle.machine.specs.Names.{Buffers, memoryAt, metered, Stepped, step, Machine, Operation, FuelOp, MemoryOp, TableOp}
+use Rattle.machine.specs.Names.{Buffers, memoryAt, metered, Stepped, step, Machine, Operation, MemoryOp, TableOp}
 use Rattle.claims.specs.Answers.{accepted}
 
--- what an operation has to do with fuel
-pub data Metering : Type 0 where
-  Free : Metering
-  Sets : ℕ → Metering
-  Charges : ℕ → Metering
-  GrowsPages : ℕ → ℕ → Metering
-  GrowsCells : ℕ → ℕ → Metering
-  Spans : ℕ → Metering
-  Inits : ℕ → Metering
+-- what an operation has to do with the fuel step: the pages or cells that it grows by, whether it meets the step, and its byte length
+pub record Metering : Type 0 where
+  pub more : ℕ
+  pub meets : Bool
+  pub bytes : ℕ
 
--- of fuel and limiter
-unfoldable pub fuelMetering : FuelOp → Metering
-fuelMetering (FuelOp.SetFuel amount) = Sets amount
-fuelMetering FuelOp.GetFuel = Free
-fuelMetering (FuelOp.Charge units) = Charges units
-fuelMetering (FuelOp.SetLimiter script) = Free
+-- nothing
+abbrev pub free : Metering
+free = record { more = 0; meets = false; bytes = 0 }
 
--- of one memory
+-- a growth by n of so many bytes each: but for one by 0 it meets the step
+abbrev pub growth : ℕ → ℕ → Metering
+growth n each = record { more = n; meets = ltb 0 n; bytes = n * each }
+
+-- of one memory, by the bytes of its page
 unfoldable pub memoryMetering : ℕ → MemoryOp → Metering
-memoryMetering i (MemoryOp.Grow pages) = GrowsPages i pages
-memoryMetering i MemoryOp.Size = Free
-memoryMetering i (MemoryOp.Load kind pointer offset) = Free
-memoryMetering i (MemoryOp.Store kind pointer offset bits) = Free
-memoryMetering i (MemoryOp.LinkCheck wanted) = Free
+memoryMetering page (MemoryOp.Grow pages) = growth pages page
+memoryMetering page MemoryOp.Size = free
+memoryMetering page (MemoryOp.Load kind pointer offset) = free
+memoryMetering page (MemoryOp.Store kind pointer offset bits) = free
+memoryMetering page (MemoryOp.LinkCheck wanted) = free
 
--- of one table
+-- of one table: a reference counts R bytes
 unfoldable pub tableMetering : ℕ → TableOp → Metering
-tableMetering i (TableOp.Grow cells value) = GrowsCells i cells
-tableMetering i TableOp.Size = Free
-tableMetering i (TableOp.Get index) = Free
-tableMetering i (TableOp.Set index value) = Free
-tableMetering i (TableOp.Fill start value len) = Spans len
+tableMetering r (TableOp.Grow cells value) = growth cells r
+tableMetering r TableOp.Size = free
+tableMetering r (TableOp.Get index) = free
+tableMetering r (TableOp.Set index value) = free
+tableMetering r (TableOp.Fill start value len) = record { more = 0; meets = true; bytes = len * r }
 
--- of any operation
-unfoldable pub meteringOf : Operation → Metering
-meteringOf (Operation.Fuel o) = fuelMetering o
-meteringOf (Operation.NewMemory room wanted) = Free
-meteringOf (Operation.Memory number o) = memoryMetering number o
-meteringOf (Operation.NewTable room wanted initial) = Free
-meteringOf (Operation.Table number o) = tableMetering number o
-meteringOf (Operation.TableCopy into source span) = Spans (span .len)
-meteringOf (Operation.TableInit table segment span) = Inits (span .len)
-meteringOf (Operation.DropSegment segment) = Free
-meteringOf (Operation.NewSegment element items) = Free
+-- of any operation, by the bytes of a page of each memory; of the inits one of length 0 does not meet the step
+unfoldable pub meteringOf : ℕ → (ℕ → ℕ) → Operation → Metering
+meteringOf r page (Operation.Fuel o) = free
+meteringOf r page (Operation.NewMemory room wanted) = free
+meteringOf r page (Operation.Memory number o) = memoryMetering (page number) o
+meteringOf r page (Operation.NewTable room wanted initial) = free
+meteringOf r page (Operation.Table number o) = tableMetering r o
+meteringOf r page (Operation.TableCopy into source span) = record { more = 0; meets = true; bytes = span .len * r }
+meteringOf r page (Operation.TableInit table segment span) = record { more = 0; meets = ltb 0 (span .len); bytes = span .len * r }
+meteringOf r page (Operation.DropSegment segment) = free
+meteringOf r page (Operation.NewSegment element items) = free
 
--- growths, fills, copies and inits meet the fuel step, but for a growth by 0 and an init of length 0
-unfoldable pub meets : Metering → Bool
-meets Free = false
-meets (Sets amount) = false
-meets (Charges units) = false
-meets (GrowsPages memory pages) = ltb 0 pages
-meets (GrowsCells table cells) = ltb 0 cells
-meets (Spans len) = true
-meets (Inits len) = ltb 0 len
-
--- growths
-unfoldable pub grows : Metering → Bool
-grows Free = false
-grows (Sets amount) = false
-grows (Charges units) = false
-grows (GrowsPages memory pages) = true
-grows (GrowsCells table cells) = true
-grows (Spans len) = false
-grows (Inits len) = false
-
--- the byte length: a reference counts R bytes, a page those of its memory
-unfoldable pub lengthOf : ℕ → Machine → Metering → ℕ
-lengthOf r m Free = 0
-lengthOf r m (Sets amount) = 0
-lengthOf r m (Charges units) = 0
-lengthOf r m (GrowsPages memory pages) = pages * pageBytes (memoryAt m memory .ty .page)
-lengthOf r m (GrowsCells table cells) = cells * r
-lengthOf r m (Spans len) = len * r
-lengthOf r m (Inits len) = len * r
-
-abbrev pub bytesOf : ℕ → Machine → Operation → ℕ
-bytesOf r m op = lengthOf r m (meteringOf op)
-
--- the price of that length
-abbrev pub priceFor : ℕ → Machine → Metering → ℕ
-priceFor r m x = price (m .fuel .costs .copied) (lengthOf r m x)
+-- on a machine, with its price
+abbrev pub metering : ℕ → Machine → Operation → Metering
+metering r m op = meteringOf r (λ i. pageBytes (memoryAt m i .ty .page)) op
 
 abbrev pub priceOf : ℕ → Machine → Operation → ℕ
-priceOf r m op = priceFor r m (meteringOf op)
+priceOf r m op = price (m .fuel .costs .copied) (metering r m op .bytes)
 
 -- what is left pays a price; with metering off every price is paid
 unfoldable pub affords : Machine → ℕ → Bool
@@ -110,11 +74,11 @@ erredAfter8 r m b op =
 
 -- a growth that paid and is refused: at 8, or at 4 in the notice after 8
 unfoldable pub paidRefusal : ℕ → Machine → Buffers → Operation → Bool
-paidRefusal r m b op = both (grows (meteringOf op)) (pick (eqb (numberOf (step r m b op .answer)) 8) true (erredAfter8 r m b op))
+paidRefusal r m b op = both (ltb 0 (metering r m op .more)) (pick (eqb (numberOf (step r m b op .answer)) 8) true (erredAfter8 r m b op))
 
 -- it passes the fuel step: accepted, or refused after it had paid
 unfoldable pub passes : ℕ → Machine → Buffers → Operation → Bool
-passes r m b op = both (meets (meteringOf op)) (pick (accepted (step r m b op .answer)) true (paidRefusal r m b op))
+passes r m b op = both (metering r m op .meets) (pick (accepted (step r m b op .answer)) true (paidRefusal r m b op))
 
 -- what a refusal leaves
 pub record Leaves (r : ℕ) (m : Machine) (b : Buffers) (op : Operation) (s : Stepped) : Type 0 where

@@ -1,12 +1,12 @@
 -- Document 01, "First check wins", "Access" and "Types", read from the other side: when each operation is accepted.
 use Rattle.types.specs.Prelude.{ℕ, _+_, _-_, _^_, Bool, true, false, eqb, leb, ltb, length}
 use Rattle.types.specs.Names.{pick, both, inside, saysOf, wellFormed as wellFormedScript, maxSize, admitsOf, validExponent, validMemory}
-use Rattle.types.specs.Names.{validTable, elementMatches, WantedMemory, WantedTable, CopySpan, TypedRawRef}
-use Rattle.memory.specs.Names.{widthBytes, loadWidth, storeWidth, pagesOf, wanted as typeOf, leastBytes as leastOf, mayHave, grownSize}
-use Rattle.table.specs.Names.{wanted as tableTypeOf}
+use Rattle.types.specs.Names.{validTable, elementMatches, WantedMemory, CopySpan}
+use Rattle.memory.specs.Names.{widthBytes, loadWidth, storeWidth, pagesOf, wanted as typeOf, leastBytes as leastOf, mayHave, grownSize, Memory}
+use Rattle.table.specs.Names.{wanted as tableTypeOf, Table}
 use Rattle.machine.specs.Names.{Buffers, memoryAt, tableAt, segmentAt, nextByte, nextCell, nextItem, soundOver, scriptOf, itemsOf, wellFormed}
 use Rattle.machine.specs.Names.{Machine, Operation, FuelOp, MemoryOp, TableOp}
-use Rattle.claims.specs.Metered.{GrowsPages, GrowsCells, Spans, Inits, priceFor, affords, grants}
+use Rattle.claims.specs.Metered.{priceOf, affords, grants}
 
 -- an operation's checks: all of them, or those before the limiter's question and those after its grant
 pub data Checks : Type 0 where
@@ -28,16 +28,6 @@ unfoldable pub comes : Checks → Bool
 comes (Unasked all) = false
 comes (Asked first later) = first
 
--- the number is one in use: of a memory, of a table, of a segment
-abbrev pub knownMemory : Machine → ℕ → Bool
-knownMemory m i = ltb i (m .counts .memories)
-
-abbrev pub knownTable : Machine → ℕ → Bool
-knownTable m i = ltb i (m .counts .tables)
-
-abbrev pub knownSegment : Machine → ℕ → Bool
-knownSegment m i = ltb i (m .counts .segments)
-
 -- the limiter grants what it is asked
 abbrev pub granted : Machine → Bool
 granted m = grants (saysOf (m .limiter))
@@ -47,8 +37,8 @@ unfoldable pub validWanted : WantedMemory → Bool
 validWanted w = both (validExponent (w .exponent)) (validMemory (typeOf w))
 
 -- n bytes at pointer plus offset lie in a memory
-unfoldable pub reaches : Machine → ℕ → ℕ → ℕ → ℕ → Bool
-reaches m i pointer offset n = both (ltb (pointer + offset) (2 ^ 64)) (inside (pointer + offset) n (memoryAt m i .size))
+unfoldable pub reaches : Memory → ℕ → ℕ → ℕ → Bool
+reaches x pointer offset n = both (ltb (pointer + offset) (2 ^ 64)) (inside (pointer + offset) n (x .size))
 
 -- 01 to 04: metering is on, and a charge is there; a script is well formed
 unfoldable pub fuelOccasion : Machine → FuelOp → Bool
@@ -57,85 +47,70 @@ fuelOccasion m FuelOp.GetFuel = m .fuel .enabled
 fuelOccasion m (FuelOp.Charge units) = both (m .fuel .enabled) (leb units (m .fuel .remaining))
 fuelOccasion m (FuelOp.SetLimiter script) = wellFormedScript (scriptOf script)
 
--- 11 to 14 and 30, of a memory whose number is known. 11: by 0 always; else the bounds allow the pages, the limiter grants them, the price is there, and
--- they fit the room
-unfoldable pub memoryChecks : ℕ → Machine → ℕ → MemoryOp → Checks
-memoryChecks r m i (MemoryOp.Grow pages) =
-    pick (eqb pages 0) (Unasked true)
-    (Asked (mayHave (memoryAt m i .ty) (pagesOf (memoryAt m i) + pages))
-    (both (affords m (priceFor r m (GrowsPages i pages))) (leb (grownSize (memoryAt m i) pages) (memoryAt m i .room))))
-memoryChecks r m i MemoryOp.Size = Unasked true
-memoryChecks r m i (MemoryOp.Load kind pointer offset) = Unasked (reaches m i pointer offset (widthBytes (loadWidth kind)))
-memoryChecks r m i (MemoryOp.Store kind pointer offset bits) = Unasked (reaches m i pointer offset (widthBytes (storeWidth kind)))
-memoryChecks r m i (MemoryOp.LinkCheck wanted) = Unasked (validWanted wanted)
+-- 11 to 14 and 30, of a memory in use. 11: by 0 always; else the bounds allow the pages, granted, paid, and they fit the room
+unfoldable pub memoryChecks : Memory → Bool → MemoryOp → Checks
+memoryChecks x pays (MemoryOp.Grow pages) =
+    pick (eqb pages 0) (Unasked true) (Asked (mayHave (x .ty) (pagesOf x + pages)) (both pays (leb (grownSize x pages) (x .room))))
+memoryChecks x pays MemoryOp.Size = Unasked true
+memoryChecks x pays (MemoryOp.Load kind pointer offset) = Unasked (reaches x pointer offset (widthBytes (loadWidth kind)))
+memoryChecks x pays (MemoryOp.Store kind pointer offset bits) = Unasked (reaches x pointer offset (widthBytes (storeWidth kind)))
+memoryChecks x pays (MemoryOp.LinkCheck wanted) = Unasked (validWanted wanted)
 
--- the reference is of the table's kind
-abbrev pub ofKind : Machine → ℕ → TypedRawRef → Bool
-ofKind m i v = elementMatches (tableAt m i .ty) (v .ty)
-
--- 21 to 25, of a table whose number is known. 21: by 0 or below the index type's largest size, granted, within the maximum, paid and within the room
-unfoldable pub tableChecks : ℕ → Machine → ℕ → TableOp → Checks
-tableChecks r m i (TableOp.Grow cells value) =
-    given (ofKind m i value)
+-- 21 to 25, of a table in use: a reference is of its kind. 21: by 0 or below the index type's largest size, granted, within the maximum, paid and in the room
+unfoldable pub tableChecks : Table → Bool → TableOp → Checks
+tableChecks x pays (TableOp.Grow cells value) =
+    given (elementMatches (x .ty) (value .ty))
     (pick (eqb cells 0) (Unasked true)
-    (Asked (ltb (tableAt m i .size + cells) (maxSize (tableAt m i .ty .index)))
-    (both (admitsOf (tableAt m i .ty .limits) (tableAt m i .size + cells))
-    (both (affords m (priceFor r m (GrowsCells i cells))) (leb (tableAt m i .size + cells) (tableAt m i .room))))))
-tableChecks r m i TableOp.Size = Unasked true
-tableChecks r m i (TableOp.Get index) = Unasked (ltb index (tableAt m i .size))
-tableChecks r m i (TableOp.Set index value) = Unasked (both (ofKind m i value) (ltb index (tableAt m i .size)))
-tableChecks r m i (TableOp.Fill start value len) =
-    Unasked (both (ofKind m i value) (both (inside start len (tableAt m i .size)) (affords m (priceFor r m (Spans len)))))
+    (Asked (ltb (x .size + cells) (maxSize (x .ty .index)))
+    (both (admitsOf (x .ty .limits) (x .size + cells)) (both pays (leb (x .size + cells) (x .room))))))
+tableChecks x pays TableOp.Size = Unasked true
+tableChecks x pays (TableOp.Get index) = Unasked (ltb index (x .size))
+tableChecks x pays (TableOp.Set index value) = Unasked (both (elementMatches (x .ty) (value .ty)) (ltb index (x .size)))
+tableChecks x pays (TableOp.Fill start value len) = Unasked (both (elementMatches (x .ty) (value .ty)) (both (inside start len (x .size)) pays))
 
--- 26: of one kind, inside both, and paid
-unfoldable pub copies : ℕ → Machine → ℕ → ℕ → CopySpan → Bool
-copies r m into source s =
-    both (both (knownTable m into) (knownTable m source))
-    (both (elementMatches (tableAt m into .ty) (tableAt m source .ty .element))
-    (both (both (inside (s .to) (s .len) (tableAt m into .size)) (inside (s .from) (s .len) (tableAt m source .size)))
-    (affords m (priceFor r m (Spans (s .len))))))
+-- 26 and 27: both in use, of one kind, inside both, and paid
+abbrev pub moves : Bool → Bool → CopySpan → ℕ → ℕ → Bool → Bool
+moves used kind s into source pays =
+    both used (both kind (both (both (inside (s .to) (s .len) into) (inside (s .from) (s .len) source)) pays))
 
--- 27: of one kind, inside both, and of length 0 or paid
-unfoldable pub inits : ℕ → Machine → ℕ → ℕ → CopySpan → Bool
-inits r m i segment s =
-    both (both (knownTable m i) (knownSegment m segment))
-    (both (elementMatches (tableAt m i .ty) (segmentAt m segment .ty))
-    (both (both (inside (s .to) (s .len) (tableAt m i .size)) (inside (s .from) (s .len) (segmentAt m segment .size)))
-    (pick (eqb (s .len) 0) true (affords m (priceFor r m (Inits (s .len)))))))
-
--- 10: a number and the room are free, the type is valid, its minimum is below 2^64 bytes, it is granted and fits the room
-abbrev pub makesMemory : Machine → Buffers → ℕ → WantedMemory → Checks
-makesMemory m b room w =
+-- on a sound machine, with nothing said wrongly, where the price is there or not. 10 and 20: a number and the room are free, the type is valid, its minimum
+-- below 2^64 bytes or the initial reference of its kind, granted, and it fits the room; 27 of length 0 pays nothing
+unfoldable pub checksOf : Machine → Buffers → Bool → Operation → Checks
+checksOf m b pays (Operation.Fuel o) = Unasked (fuelOccasion m o)
+checksOf m b pays (Operation.NewMemory room wanted) =
     Asked
-    (both (both (ltb (m .counts .memories) 8) (leb room (length (b .bytes) - nextByte m))) (both (validWanted w) (ltb (leastOf w) (2 ^ 64))))
-    (leb (leastOf w) room)
-
--- 20: a number and the room are free, the type is valid, the initial reference is of its kind, it is granted and fits the room
-abbrev pub makesTable : Machine → Buffers → ℕ → WantedTable → TypedRawRef → Checks
-makesTable m b room w v =
+    (both (both (ltb (m .counts .memories) 8) (leb room (length (b .bytes) - nextByte m))) (both (validWanted wanted) (ltb (leastOf wanted) (2 ^ 64))))
+    (leb (leastOf wanted) room)
+checksOf m b pays (Operation.Memory number o) = given (ltb number (m .counts .memories)) (memoryChecks (memoryAt m number) pays o)
+checksOf m b pays (Operation.NewTable room wanted initial) =
     Asked
-    (both (both (ltb (m .counts .tables) 8) (leb room (length (b .cells) - nextCell m))) (both (validTable (tableTypeOf w)) (elementMatches (tableTypeOf w) (v .ty))))
-    (leb (w .limits .minimum) room)
-
--- on a sound machine, with nothing said wrongly
-unfoldable pub checksOf : ℕ → Machine → Buffers → Operation → Checks
-checksOf r m b (Operation.Fuel o) = Unasked (fuelOccasion m o)
-checksOf r m b (Operation.NewMemory room wanted) = makesMemory m b room wanted
-checksOf r m b (Operation.Memory number o) = given (knownMemory m number) (memoryChecks r m number o)
-checksOf r m b (Operation.NewTable room wanted initial) = makesTable m b room wanted initial
-checksOf r m b (Operation.Table number o) = given (knownTable m number) (tableChecks r m number o)
-checksOf r m b (Operation.TableCopy into source span) = Unasked (copies r m into source span)
-checksOf r m b (Operation.TableInit table segment span) = Unasked (inits r m table segment span)
-checksOf r m b (Operation.DropSegment segment) = Unasked (knownSegment m segment)
-checksOf r m b (Operation.NewSegment element items) =
+    (both (both (ltb (m .counts .tables) 8) (leb room (length (b .cells) - nextCell m)))
+    (both (validTable (tableTypeOf wanted)) (elementMatches (tableTypeOf wanted) (initial .ty))))
+    (leb (wanted .limits .minimum) room)
+checksOf m b pays (Operation.Table number o) = given (ltb number (m .counts .tables)) (tableChecks (tableAt m number) pays o)
+checksOf m b pays (Operation.TableCopy into source span) =
+    let x = tableAt m into in
+    let y = tableAt m source in
+    Unasked (moves (both (ltb into (m .counts .tables)) (ltb source (m .counts .tables))) (elementMatches (x .ty) (y .ty .element)) span (x .size) (y .size) pays)
+checksOf m b pays (Operation.TableInit table segment span) =
+    let x = tableAt m table in
+    let y = segmentAt m segment in
+    Unasked
+    (moves (both (ltb table (m .counts .tables)) (ltb segment (m .counts .segments))) (elementMatches (x .ty) (y .ty)) span (x .size) (y .size)
+    (pick (eqb (span .len) 0) true pays))
+checksOf m b pays (Operation.DropSegment segment) = Unasked (ltb segment (m .counts .segments))
+checksOf m b pays (Operation.NewSegment element items) =
     Unasked (both (ltb (m .counts .segments) 8) (leb (length (itemsOf items)) (length (b .items) - nextItem m)))
+
+abbrev pub checks : ℕ → Machine → Buffers → Operation → Checks
+checks r m b op = checksOf m b (affords m (priceOf r m op)) op
 
 -- they hold, or come to the limiter's question
 abbrev pub occasion : ℕ → Machine → Buffers → Operation → Bool
-occasion r m b op = holds (granted m) (checksOf r m b op)
+occasion r m b op = holds (granted m) (checks r m b op)
 
 abbrev pub question : ℕ → Machine → Buffers → Operation → Bool
-question r m b op = comes (checksOf r m b op)
+question r m b op = comes (checks r m b op)
 
 -- nothing said wrongly, records and buffers sound, and the operation's own occasion
 abbrev pub acceptedWhen : ℕ → Machine → Buffers → Operation → Bool

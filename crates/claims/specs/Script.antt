@@ -2,7 +2,7 @@
 use Rattle.types.specs.Prelude.{ℕ, zero, suc, Bool, List, [], _∷_}
 use Rattle.types.specs.Names.{pick, both, saysOf, moved, Limiter}
 use Rattle.machine.specs.Names.{Buffers, soundOver, wellFormed, step, Machine, Operation}
-use Rattle.claims.specs.{Answers.accepted, Occasions.granted, Occasions.question, Effects.effectOf}
+use Rattle.claims.specs.{Answers.accepted, Occasions.granted, Occasions.question, Effects.effectOf, Effects.spent}
 
 -- the limiter is asked: nothing said wrongly, records and buffers sound, and the operation comes to its question
 abbrev pub asks : ℕ → Machine → Buffers → Operation → Bool
@@ -23,11 +23,11 @@ saysTo zero l = []
 saysTo (suc n) l = saysOf l ∷ saysTo n (moved l)
 
 -- an accepted 04 puts its script in the old one's place
-abbrev pub replaced : Machine → Buffers → Limiter → Operation → Limiter
-replaced m b l op = effectOf m b l op .limiter
+abbrev pub replaced : ℕ → Machine → Buffers → Limiter → Operation → Limiter
+replaced r m b l op = effectOf m b (spent r m op) l op .out .limiter
 
 -- the script after an operation: the old one moved on by what the limiter heard, or 04's where it is accepted
 unfoldable pub scriptAfter : ℕ → Machine → Buffers → Operation → Limiter
 scriptAfter r m b op =
     let l = movedBy (heard r m b op) (m .limiter) in
-    pick (accepted (step r m b op .answer)) (replaced m b l op) l
+    pick (accepted (step r m b op .answer)) (replaced r m b l op) l
