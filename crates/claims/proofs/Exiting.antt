@@ -11,7 +11,7 @@ use Rattle.types.specs.Pick.{pick, unless, both}
 use Rattle.types.specs.Done.{Done, done, spanDone}
 use Rattle.types.specs.Answer.{refusal, refuse, accept, numberOf}
 use Rattle.types.specs.Fuel.{short, paid}
-use Rattle.types.specs.Limiter.{saysOf, moved, heardOf}
+use Rattle.types.specs.Limiter.{saysOf, moved, heardOf, noLimiter}
 use Rattle.types.specs.declared.answer.Answer.{Answer}
 use Rattle.types.specs.declared.answer.Answer.the-variants as answer
 use Rattle.types.specs.declared.answer.Refusal.{Refusal}
@@ -24,7 +24,7 @@ use Rattle.table.specs.declared.table.Table.{Table}
 use Rattle.machine.specs.Machine.{Buffers, memoryAt, tableAt, noMemory, noTable}
 use Rattle.machine.specs.Sound.{soundOver}
 use Rattle.machine.specs.Operation.{wellFormed}
-use Rattle.machine.specs.Outcome.{leaves, keeps, withMemories, withTables, changed, standing, settled}
+use Rattle.machine.specs.Outcome.{leaves, keeps, withMemories, withTables, changed, standing, metered, settled}
 use Rattle.machine.specs.Step.{Performed, Stepped, onNone, onCells, perform, decide, after, step}
 use Rattle.machine.specs.declared.records.Machine.{Machine}
 use Rattle.machine.specs.declared.records.Counts.{Counts}
@@ -35,7 +35,7 @@ use Rattle.machine.specs.declared.operation.Operation.{Operation}
 use Rattle.machine.specs.declared.operation.Operation.the-variants as op
 use Rattle.machine.specs.declared.operation.FuelOp.{FuelOp}
 use Rattle.claims.specs.Answers.{accepted, listed}
-use Rattle.claims.specs.Metered.{metering, priceOf, affords, grants, unlimited, erredAfter8, paidRefusal}
+use Rattle.claims.specs.Metered.{metering, priceOf, affords, grants, paidRefusal}
 use Rattle.claims.specs.Occasions.{granted, occasion, question}
 use Rattle.claims.specs.Spans.{put}
 use Rattle.claims.specs.Effects.{fuelEffect, effectOf, spent, asked, effects, acceptedStep}
@@ -189,7 +189,7 @@ module _ (r : ℕ) (m : Machine) (b : Buffers) (op : Operation) where
   number = numberOf (step r m b op .answer)
 
   abbrev pub quiet : ℕ
-  quiet = numberOf (step r (unlimited m) b op .answer)
+  quiet = numberOf (step r (metered m (m .fuel) noLimiter) b op .answer)
 
   -- the number of what stays is the refusal's
   pub stays-number : {x : Refusal} {f : Fuel} {l : Limiter} → step r m b op ≡ stays m b x f l → number ≡ x .number
@@ -199,7 +199,7 @@ module _ (r : ℕ) (m : Machine) (b : Buffers) (op : Operation) where
   -- whether a refusal paid, by its number
   pub paid-is : (k : ℕ) → number ≡ k
       → paidRefusal r m b op ≡ both (ltb 0 (metering r m op .more)) (pick (eqb k 8) true (both (eqb k 4) (both (granted m) (eqb quiet 8))))
-  unfolding paidRefusal erredAfter8
+  unfolding paidRefusal
   paid-is k q = ap (λ (j : ℕ). both (ltb 0 (metering r m op .more)) (pick (eqb j 8) true (both (eqb j 4) (both (granted m) (eqb quiet 8))))) q
 
   -- one with another number than 4 and 8 paid nothing

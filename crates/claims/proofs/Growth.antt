@@ -23,7 +23,7 @@ use Rattle.machine.specs.Step.{Performed, Stepped, onNone, perform, after, step
 use Rattle.machine.specs.declared.records.Machine.{Machine}
 use Rattle.machine.specs.declared.operation.Operation.{Operation}
 use Rattle.claims.specs.Answers.{accepted}
-use Rattle.claims.specs.Metered.{metering, priceOf, affords, unlimited, paidRefusal}
+use Rattle.claims.specs.Metered.{metering, priceOf, affords, paidRefusal}
 use Rattle.claims.specs.Occasions.{granted, occasion, question}
 use Rattle.claims.specs.Effects.{effects, acceptedStep}
 use Rattle.claims.specs.Script.{heard}
@@ -171,7 +171,7 @@ module _ (r : ℕ) (m : Machine) (b : Buffers) (op : Operation) where
               told j a h u some g (after-question ∙ both-right _ _ o) x d p
               (ap (λ (s : Stepped). numberOf (s .answer))
               (comes-to noLimiter
-              ∙ ap (λ (x : X). after (unlimited m) (out x))
+              ∙ ap (λ (x : X). after (metered m (m .fuel) noLimiter) (out x))
               (pick-true _ _ _ k ∙ pick-false _ _ _ z ∙ pick-true _ _ _ y ∙ pick-false _ _ _ (ap (λ (t : ℕ). eqb t 1) none-says)
               ∙ pick-false _ _ _ (ap (λ (t : ℕ). eqb t 2) none-says) ∙ q noLimiter)
               ∙ c .stop noLimiter _ _ _)

@@ -1,5 +1,5 @@
 -- The ledger: the fuel left and the charges since make up the amount last set. Assumes nothing.
-use Prim.Native.Nat.{ℕ, _+_, _*_, _^_, _≤_, _<_}
+use Prim.Native.Nat.{ℕ, _+_, _-_, _*_, _^_, _≤_, _<_}
 use mathlib.Core.Path.{_≡_, refl, sym, ap, subst, _∙_}
 use mathlib.Core.Bool.{Bool, true, false, false≢true}
 use mathlib.Core.List.{List, [], _∷_, _++_}
@@ -51,7 +51,7 @@ use Rattle.claims.specs.Metered.{growth, memoryMetering, tableMetering, 
 use Rattle.claims.specs.Occasions.{given, holds, comes, validWanted, fuelOccasion, checksOf, occasion}
 use Rattle.claims.specs.Effects.{memoryEffect, tableEffect, fuelEffect, effectOf, spent, asked, effects, acceptedStep}
 use Rattle.claims.specs.Script.{heard, saysTo}
-use Rattle.claims.specs.Ledger.{Row, Book, blank, left, withPages, withTables, rowAt, erred, growthCharge, took, fuelEntry, grown, entry, limiterSays, book}
+use Rattle.claims.specs.Ledger.{Row, Book, blank, withTables, rowAt, erred, growthCharge, took, fuelEntry, grown, entry, limiterSays, book}
 use Rattle.claims.proofs.Checks.{given-1}
 use Rattle.claims.proofs.Exit.{stays}
 use Rattle.claims.proofs.Exiting.{branch, surely}
@@ -191,9 +191,9 @@ module _ (r c : ℕ) (m : Machine) (b : Buffers) (k : Book) (w : Balanced c m k)
     unfolding erred saysTo both
     erred-once h = subst (λ (j : ℕ). erred k (saysTo j (m .limiter)) admits p ≡ false) (sym h) refl
 
-    erred-twice : heard r m b op ≡ 2 → erred k said admits p ≡ both admits (leb p (left k))
+    erred-twice : heard r m b op ≡ 2 → erred k said admits p ≡ both admits (leb p (k .set - k .since))
     unfolding erred saysTo both
-    erred-twice h = subst (λ (j : ℕ). erred k (saysTo j (m .limiter)) admits p ≡ both admits (leb p (left k))) (sym h) refl
+    erred-twice h = subst (λ (j : ℕ). erred k (saysTo j (m .limiter)) admits p ≡ both admits (leb p (k .set - k .since))) (sym h) refl
 
     -- nothing is taken, and nothing noted
     free : (x : Refusal) (l : Limiter) → eqb (x .number) 8 ≡ false → both (eqb (x .number) 4) (erred k said admits p) ≡ false
@@ -201,10 +201,10 @@ module _ (r c : ℕ) (m : Machine) (b : Buffers) (k : Book) (w : Balanced c m k)
     free x l e d = record { some = λ z. nought (w .fuel) (noted-else k said admits p x e d); none = λ z. w .fuel }
 
     -- the price is there by the book where it is there
-    there-by-book : used ≡ true → affords m (priceOf r m op) ≡ leb p (left k)
+    there-by-book : used ≡ true → affords m (priceOf r m op) ≡ leb p (k .set - k .since)
     unfolding affords
     there-by-book u =
-        let e : left k ≡ m .fuel .remaining = omega (arith, w .fuel .even) in
+        let e : k .set - k .since ≡ m .fuel .remaining = omega (arith, w .fuel .even) in
         pick-true _ _ _ (w .fuel .on) ∙ (λ i. leb (sym (same u .0) i) (sym e i))
 
     -- a refusal of which the limiter is told is noted where it paid
@@ -373,7 +373,7 @@ module _ (r c : ℕ) (m : Machine) (b : Buffers) (k : Book) (w : Balanced c m k)
   unfolding entry meteringOf acceptedStep effectOf changed holds checksOf given validWanted soundMemories
   new-memory-kept room x =
       let make : Operation = op.NewMemory room x in
-      let new : Book = withPages k (k .pages ++ (2 ^ (x .exponent) ∷ [])) in
+      let new : Book = record { set = k .set; since = k .since; pages = k .pages ++ (2 ^ (x .exponent) ∷ []); tables = k .tables } in
       made make new refl
       (λ sound o.
       let free = both-1 _ _ (both-1 _ _ (both-1 _ _ o)) in

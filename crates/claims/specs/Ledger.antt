@@ -19,15 +19,9 @@ pub record Book : Type 0 where
 abbrev pub blank : Book
 blank = record { set = 0; since = 0; pages = []; tables = [] }
 
--- what is left by the book
-abbrev pub left : Book → ℕ
-left k = k .set - k .since
-
+-- with more charges, or with other tables
 abbrev pub charged : Book → ℕ → Book
 charged k n = record { set = k .set; since = k .since + n; pages = k .pages; tables = k .tables }
-
-abbrev pub withPages : Book → List ℕ → Book
-withPages k pages = record { set = k .set; since = k .since; pages = pages; tables = k .tables }
 
 abbrev pub withTables : Book → List Row → Book
 withTables k rows = record { set = k .set; since = k .since; pages = k .pages; tables = rows }
@@ -35,9 +29,9 @@ withTables k rows = record { set = k .set; since = k .since; pages = k .pages; t
 abbrev pub rowAt : Book → ℕ → Row
 rowAt k i = getD (k .tables) i (record { limits = noLimits; size = 0 })
 
--- a growth refused with 4 had paid where the limiter answered twice (it granted, and was told), the type admits the size and the price was there
+-- a growth refused with 4 had paid where the limiter answered twice (it granted, and was told), the type admits the size and what is left paid the price
 unfoldable pub erred : Book → List ℕ → Bool → ℕ → Bool
-erred k said admits p = both (eqb (length said) 2) (both admits (leb p (left k)))
+erred k said admits p = both (eqb (length said) 2) (both admits (leb p (k .set - k .since)))
 
 -- what a growth took: its price where it is accepted, at 8, and at 4 in the notice after 8
 unfoldable pub growthCharge : Book → Answer → List ℕ → Bool → ℕ → ℕ
@@ -69,7 +63,8 @@ grown k now i n = withTables now (set (k .tables) i (record { limits = rowAt k i
 -- the book after one operation, from its answer and the limiter's answers to its question and notice: a creation adds the bytes of a page, or a table
 unfoldable pub entry : ℕ → ℕ → Book → Operation → Answer → List ℕ → Book
 entry r b k (Operation.Fuel o) a said = pick (accepted a) (fuelEntry k o) k
-entry r b k (Operation.NewMemory room wanted) a said = pick (accepted a) (withPages k (k .pages ++ (2 ^ (wanted .exponent) ∷ []))) k
+entry r b k (Operation.NewMemory room wanted) a said =
+    pick (accepted a) (record { set = k .set; since = k .since; pages = k .pages ++ (2 ^ (wanted .exponent) ∷ []); tables = k .tables }) k
 entry r b k (Operation.Memory number o) a said = takes r b k (Operation.Memory number o) true a said
 entry r b k (Operation.NewTable room wanted initial) a said =
     pick (accepted a) (withTables k (k .tables ++ (record { limits = wanted .limits; size = wanted .limits .minimum } ∷ []))) k

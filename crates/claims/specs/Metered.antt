@@ -62,19 +62,12 @@ affords m p = pick (m .fuel .enabled) (leb p (m .fuel .remaining)) true
 unfoldable pub grants : ℕ → Bool
 grants said = pick (eqb said 1) false (pick (eqb said 2) false true)
 
--- the same machine without a limiter
-abbrev pub unlimited : Machine → Machine
-unlimited m = metered m (m .fuel) noLimiter
-
--- 4 in the notice after 8: the limiter granted the growth, and without a limiter the answer is 8
-unfoldable pub erredAfter8 : ℕ → Machine → Buffers → Operation → Bool
-erredAfter8 r m b op =
-    both (eqb (numberOf (step r m b op .answer)) 4)
-    (both (grants (saysOf (m .limiter))) (eqb (numberOf (step r (unlimited m) b op .answer)) 8))
-
--- a growth that paid and is refused: at 8, or at 4 in the notice after 8
+-- a growth that paid and is refused: at 8, or at 4 in the notice after 8: the limiter granted the growth, and without a limiter the answer is 8
 unfoldable pub paidRefusal : ℕ → Machine → Buffers → Operation → Bool
-paidRefusal r m b op = both (ltb 0 (metering r m op .more)) (pick (eqb (numberOf (step r m b op .answer)) 8) true (erredAfter8 r m b op))
+paidRefusal r m b op =
+    let number = numberOf (step r m b op .answer) in
+    let quiet = numberOf (step r (metered m (m .fuel) noLimiter) b op .answer) in
+    both (ltb 0 (metering r m op .more)) (pick (eqb number 8) true (both (eqb number 4) (both (grants (saysOf (m .limiter))) (eqb quiet 8))))
 
 -- it passes the fuel step: accepted, or refused after it had paid
 unfoldable pub passes : ℕ → Machine → Buffers → Operation → Bool

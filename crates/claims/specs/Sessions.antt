@@ -33,17 +33,13 @@ operationsIn (Read.Operation op ∷ xs) = op ∷ operationsIn xs
 operationsIn (Read.Making metering copied ∷ xs) = operationsIn xs
 operationsIn (Read.Malformed ∷ xs) = operationsIn xs
 
--- 18, with the fuel as it was
-abbrev pub eighteen : Fuel → Reply
-eighteen f = record { answer = refuse 18 0; fuel = f }
-
--- a reply a line: the operation's own, else 18
+-- a reply a line: the operation's own, else 18 with the fuel as it was
 unfoldable pub lined : Fuel → List Read → List Reply → List Reply
 lined f [] rs = []
 lined f (Read.Operation op ∷ xs) [] = []
 lined f (Read.Operation op ∷ xs) (x ∷ rs) = x ∷ lined (x .fuel) xs rs
-lined f (Read.Making metering copied ∷ xs) rs = eighteen f ∷ lined f xs rs
-lined f (Read.Malformed ∷ xs) rs = eighteen f ∷ lined f xs rs
+lined f (Read.Making metering copied ∷ xs) rs = record { answer = refuse 18 0; fuel = f } ∷ lined f xs rs
+lined f (Read.Malformed ∷ xs) rs = record { answer = refuse 18 0; fuel = f } ∷ lined f xs rs
 
 -- the answer lines of replies
 unfoldable pub replyText : List Reply → List ℕ
