@@ -347,26 +347,34 @@ module _ (r c : ℕ) (m : Machine) (b : Buffers) (k : Book) (w : Balanced c m k)
       (λ t. taken op (λ (s : Stepped). Balanced c (s .machine) new) t f)
       (λ t. left-alone op t _ _ (subst (λ (x : Fuel). Even c x (k .set) (k .since)) (sym (refused-free op flat t)) (w .fuel)))
 
-  -- 01 to 04, refused or by the amounts after it
-  fuel-kept : (o : FuelOp) (s n : ℕ) → (fuelOccasion m o ≡ true → Even c (fuelEffect (m .fuel) (m .limiter) o .fuel) s n)
-      → Balanced c (step r m b (op.Fuel o) .machine) (pick (accepted (step r m b (op.Fuel o) .answer)) (amounts s n) k)
-  unfolding meteringOf acceptedStep effectOf holds checksOf comes
-  fuel-kept o s n f =
+  -- 01 to 04: the fuel after it is even with the book
+  entered : (o : FuelOp) → fuelOccasion m o ≡ true → Even c (fuelEffect (m .fuel) (m .limiter) o .fuel) (fuelEntry k o .set) (fuelEntry k o .since)
+  unfolding fuelEntry fuelEffect fuelOccasion
+  entered (fuel.SetFuel n) e = record { on = w .fuel .on; rate = w .fuel .rate; even = omega arith }
+  entered fuel.GetFuel e = w .fuel
+  entered (fuel.Charge n) e =
+      record { on = w .fuel .on; rate = w .fuel .rate; even = omega (arith, w .fuel .even, leb-true n (m .fuel .remaining) (both-2 _ _ e)) }
+  entered (fuel.SetLimiter script) e = w .fuel
+
+  -- which has no other entries
+  fuel-made : (o : FuelOp) → amounts (fuelEntry k o .set) (fuelEntry k o .since) ≡ fuelEntry k o → Kept (op.Fuel o)
+  unfolding entry meteringOf acceptedStep effectOf holds checksOf comes
+  fuel-made o e =
       let p : m .fuel ≡ spent r m (op.Fuel o) = sym (pick-false _ _ _ refl) in
       let q : m .limiter ≡ asked r m b (op.Fuel o) = sym (pick-false _ _ _ refl) in
-      made (op.Fuel o) (amounts s n) refl
-      (λ sound e.
-      stands sound (m .counts .segments) _ _ s n
-      (subst (λ (x : Fuel × Limiter). Even c (fuelEffect (x .0) (x .1) o .fuel) s n) (λ i. (p i, q i)) (f e)) change.Nothing tt)
+      let new : Book = fuelEntry k o in
+      made (op.Fuel o) new refl
+      (λ sound when.
+      subst (Balanced c _) e
+      (stands sound (m .counts .segments) _ _ _ _
+      (subst (λ (x : Fuel × Limiter). Even c (fuelEffect (x .0) (x .1) o .fuel) (new .set) (new .since)) (λ i. (p i, q i)) (entered o when)) change.Nothing tt))
 
-  entered : (o : FuelOp) → Kept (op.Fuel o)
-  unfolding entry fuelEntry fuelEffect fuelOccasion
-  entered (fuel.SetFuel n) = fuel-kept (fuel.SetFuel n) n 0 (λ e. record { on = w .fuel .on; rate = w .fuel .rate; even = omega arith })
-  entered fuel.GetFuel = fuel-kept fuel.GetFuel (k .set) (k .since) (λ e. w .fuel)
-  entered (fuel.Charge n) =
-      fuel-kept (fuel.Charge n) (k .set) (k .since + n) (λ e.
-      record { on = w .fuel .on; rate = w .fuel .rate; even = omega (arith, w .fuel .even, leb-true n (m .fuel .remaining) (both-2 _ _ e)) })
-  entered (fuel.SetLimiter script) = fuel-kept (fuel.SetLimiter script) (k .set) (k .since) (λ e. w .fuel)
+  fuel-kept : (o : FuelOp) → Kept (op.Fuel o)
+  unfolding fuelEntry
+  fuel-kept (fuel.SetFuel n) = fuel-made (fuel.SetFuel n) refl
+  fuel-kept fuel.GetFuel = fuel-made fuel.GetFuel refl
+  fuel-kept (fuel.Charge n) = fuel-made (fuel.Charge n) refl
+  fuel-kept (fuel.SetLimiter script) = fuel-made (fuel.SetLimiter script) refl
 
   -- 10: one more memory, and the bytes of its page
   new-memory-kept : (room : ℕ) (x : WantedMemory) → Kept (op.NewMemory room x)
@@ -462,7 +470,7 @@ module _ (r c : ℕ) (m : Machine) (b : Buffers) (k : Book) (w : Balanced c m k)
   -- every operation keeps machine and book alike
   kept : (op : Operation) → Kept op
   unfolding entry meteringOf effectOf
-  kept (op.Fuel o) = entered o
+  kept (op.Fuel o) = fuel-kept o
   kept (op.NewMemory room wanted) = new-memory-kept room wanted
   kept (op.Memory number o) = memory-kept number o
   kept (op.NewTable room wanted initial) = new-table-kept room wanted initial
