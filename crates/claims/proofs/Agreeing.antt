@@ -1,57 +1,32 @@
 -- What an operation leaves of two machines that agree and accept it: the room left, the watched instances, segments and items are the same. Assumes nothing.
-use Prim.Native.Nat.{ℕ, _+_, _-_, _*_, _/_, _≤_, _<_}
-use mathlib.Core.Path.{_≡_, refl, sym, ap, subst, _∙_}
-use mathlib.Core.Bool.{true, false}
-use mathlib.Core.List.{List}
+use Rattle.types.specs.Prelude.{ℕ, _+_, _-_, _*_, _/_, _≤_, _<_, _≡_, true, false, List, eqb, ltb, length, replicate}
+use mathlib.Core.Path.{refl, sym, ap, subst, _∙_}
 use native.Mathlib.Omega.{arith}
-use lib.Dec.{eqb, ltb}
-use lib.ListN.{length, replicate, length-replicate}
+use lib.ListN.{length-replicate}
 use borrow.Author.Tests.{ltb-true, eqb-true, eqb-false}
-use Rattle.types.specs.MemoryType.{pageBytes}
-use Rattle.types.specs.Span.{cut, over}
-use Rattle.types.specs.declared.memory_ty.MemoryType.{MemoryType}
-use Rattle.types.specs.declared.memory_ty.WantedMemory.{WantedMemory}
-use Rattle.types.specs.declared.raw.TypedRawRef.{TypedRawRef}
-use Rattle.types.specs.declared.span.CopySpan.{CopySpan}
-use Rattle.types.specs.declared.table_ty.WantedTable.{WantedTable}
-use Rattle.types.proofs.Picks.{pick-same, pick-ap, both-1, both-2, either}
-use Rattle.types.proofs.Spans.{within-is}
-use Rattle.memory.specs.Access.{widthBytes, storeWidth}
-use Rattle.memory.specs.LittleEndian.{leBytes}
+use Rattle.types.specs.Names.{pageBytes, cut, over, MemoryType, WantedMemory, TypedRawRef, CopySpan, WantedTable}
+use Rattle.types.proofs.{Picks.pick-same, Picks.pick-ap, Picks.both-1, Picks.both-2, Picks.either, Spans.within-is}
+use Rattle.memory.specs.Names.{widthBytes, storeWidth, leBytes, grownSize, Memory}
 use Rattle.memory.specs.Memory.{pagesOf}
-use Rattle.memory.specs.Grow.{grownSize}
 use Rattle.memory.specs.New.{leastBytes as leastOf}
-use Rattle.memory.specs.declared.memory.Memory.{Memory}
-use Rattle.memory.proofs.Sounds.{sound-is, sound-used}
-use Rattle.memory.proofs.Bytes.{length-bytes}
-use Rattle.memory.proofs.Growths.{reach-more}
-use Rattle.table.specs.declared.table.Table.{Table}
-use Rattle.table.specs.declared.element.ElementSegment.{ElementSegment}
+use Rattle.memory.proofs.{Sounds.sound-is, Sounds.sound-used, Bytes.length-bytes, Growths.reach-more}
+use Rattle.table.specs.Names.{Table, ElementSegment}
 use Rattle.table.proofs.Sounds.{sound-room, sound-size, sound-within}
-use Rattle.machine.specs.Machine.{Buffers, buffers, memoryAt, tableAt, segmentAt, nextByte, nextCell, nextItem}
-use Rattle.machine.specs.Sound.{soundOver}
+use Rattle.machine.specs.Names.{Buffers, buffers, memoryAt, tableAt, segmentAt, nextByte, nextCell, soundOver, Stepped, step, Machine, Operation}
+use Rattle.machine.specs.Names.{MemoryOp, TableOp}
+use Rattle.machine.specs.{Machine.nextItem, Outcome.changed}
 use Rattle.machine.specs.Frame.{Target, None, InMemory, InTable, InSegment, NewItems, targetOf}
-use Rattle.machine.specs.Outcome.{changed}
-use Rattle.machine.specs.Step.{Stepped, step}
-use Rattle.machine.specs.declared.records.Machine.{Machine}
-use Rattle.machine.specs.declared.outcome.Change.the-variants as change
-use Rattle.machine.specs.declared.operation.Operation.{Operation}
-use Rattle.machine.specs.declared.operation.Operation.the-variants as op
-use Rattle.machine.specs.declared.operation.MemoryOp.{MemoryOp}
-use Rattle.machine.specs.declared.operation.MemoryOp.the-variants as memory
-use Rattle.machine.specs.declared.operation.TableOp.{TableOp}
-use Rattle.machine.specs.declared.operation.TableOp.the-variants as table
-use Rattle.machine.proofs.Laws.{along}
-use Rattle.machine.proofs.Rooms.{memory-sound, table-sound, next-byte-inside, next-cell-inside}
-use Rattle.claims.specs.Answers.{accepted}
+use Rattle.machine.proofs.{Laws.along, Rooms.memory-sound, Rooms.table-sound, Rooms.next-byte-inside, Rooms.next-cell-inside}
+use Rattle.claims.specs.{Answers.accepted, Spans.put, Effects.memoryEffect, Effects.tableEffect, Effects.effectOf, Effects.effects}
+use Rattle.claims.specs.{Effects.acceptedStep, Alike.SameMemory, Alike.SameTable, Alike.Watched, Alike.namesOnly, Alike.Agree}
 use Rattle.claims.specs.Occasions.{given, holds, reaches, memoryChecks, tableChecks, checksOf}
-use Rattle.claims.specs.Spans.{put}
-use Rattle.claims.specs.Effects.{memoryEffect, tableEffect, effectOf, effects, acceptedStep}
-use Rattle.claims.specs.Alike.{SameMemory, SameTable, Watched, namesOnly, Agree}
-use Rattle.claims.proofs.Cuts.{cut-short, part-alike, first-alike, inside-alike, more-alike, made-alike}
-use Rattle.claims.proofs.Left.{on-occasion, others, byte-room, cell-room, byte-room-less, cell-room-less}
-use Rattle.claims.proofs.Left.{made-memory, made-table, named-memory, named-table, memory-held, table-held}
-use Rattle.claims.proofs.Alike.{beside}
+use Rattle.claims.proofs.{Cuts.cut-short, Cuts.part-alike, Cuts.first-alike, Cuts.inside-alike, Cuts.more-alike, Cuts.made-alike, Alike.beside}
+use Rattle.claims.proofs.Left.{on-occasion, others, byte-room, cell-room, byte-room-less, cell-room-less, made-memory, made-table}
+use Rattle.claims.proofs.Left.{named-memory, named-table, memory-held, table-held}
+use Rattle.machine.specs.declared.outcome.Change.the-variants as change
+use Rattle.machine.specs.declared.operation.Operation.the-variants as op
+use Rattle.machine.specs.declared.operation.MemoryOp.the-variants as memory
+use Rattle.machine.specs.declared.operation.TableOp.the-variants as table
 
 -- what kind of instance an operation's target is
 kindOf : Target → ℕ

@@ -1,71 +1,32 @@
 -- Machines that agree on what an operation names and on fuel, script, numbers, room left and segments: the same answer, fuel and script. Assumes nothing.
-use Prim.Native.Nat.{ℕ, _+_, _-_, _<_}
-use mathlib.Core.Path.{_≡_, refl, sym, ap, _∙_}
-use mathlib.Core.Bool.{Bool, true, false}
-use mathlib.Core.List.{List}
+use Rattle.types.specs.Prelude.{ℕ, _+_, _-_, _<_, _≡_, Bool, true, false, List, leb, length, getD}
+use mathlib.Core.Path.{refl, sym, ap, _∙_}
 use native.Mathlib.Omega.{arith}
-use lib.Dec.{leb}
-use lib.ListN.{length, getD}
 use borrow.Author.Tests.{leb-false, ltb-true, eqb-false}
-use Rattle.types.specs.Pick.{pick}
-use Rattle.types.specs.Done.{Done, done}
-use Rattle.types.specs.declared.answer.Answer.{Answer}
-use Rattle.types.specs.declared.answer.Answer.the-variants as answer
-use Rattle.types.specs.declared.grant.Spanned.{Spanned}
-use Rattle.types.specs.declared.limiter.Limiter.{Limiter}
-use Rattle.types.specs.declared.raw.TypedRawRef.{TypedRawRef}
+use Rattle.types.specs.Names.{pick, Done, done, Answer, Spanned, Limiter, TypedRawRef, CopySpan, WantedMemory, WantedTable}
 use Rattle.types.proofs.Picks.{pick-true, pick-false, pick-ap, both-true, both-1, both-2, either}
-use Rattle.memory.specs.LittleEndian.{leValue}
-use Rattle.memory.specs.Access.{widthBytes, addressOf, loadWidth, extend, loadedOf, loadFound, loadAt, storeFound, storeAt}
-use Rattle.memory.specs.Memory.{pagesOf, soundMemory, loadMemory, storeMemory}
-use Rattle.memory.specs.Grow.{growMemory}
-use Rattle.memory.specs.declared.access.LoadKind.{LoadKind}
-use Rattle.memory.specs.declared.access.StoreKind.{StoreKind}
-use Rattle.memory.specs.declared.access.Address.{Address}
-use Rattle.memory.specs.declared.access.Address.the-variants.{At, Outside}
-use Rattle.memory.specs.declared.memory.Memory.{Memory}
-use Rattle.memory.specs.declared.grow.GrownMemory.{GrownMemory}
+use Rattle.memory.specs.Names.{widthBytes, loadWidth, soundMemory, LoadKind, StoreKind, Memory, GrownMemory, CreatedMemory}
+use Rattle.memory.specs.{LittleEndian.leValue, Access.addressOf, Access.extend, Access.loadedOf, Access.loadFound, Access.loadAt, Access.storeFound}
+use Rattle.memory.specs.{Access.storeAt, Memory.pagesOf, Memory.loadMemory, Memory.storeMemory, Grow.growMemory, declared.access.Address.Address}
+use Rattle.memory.specs.{declared.access.Address.the-variants.At, declared.access.Address.the-variants.Outside, New.newMemory}
 use Rattle.memory.proofs.Accesses.{address-is}
-use Rattle.table.specs.Table.{soundTable, getTable, setSound, setTable}
-use Rattle.table.specs.Grow.{growTable}
-use Rattle.table.specs.Fill.{fillTable}
-use Rattle.table.specs.Copy.{copyTable, copyWithin}
-use Rattle.table.specs.Init.{initTable}
-use Rattle.table.specs.Element.{soundSegment}
-use Rattle.table.specs.declared.table.Table.{Table}
-use Rattle.table.specs.declared.grow.GrownTable.{GrownTable}
-use Rattle.table.specs.declared.element.ElementSegment.{ElementSegment}
-use Rattle.memory.specs.New.{newMemory}
-use Rattle.memory.specs.declared.new.CreatedMemory.{CreatedMemory}
-use Rattle.table.specs.New.{newTable}
-use Rattle.table.specs.declared.new.CreatedTable.{CreatedTable}
-use Rattle.table.specs.declared.element.MadeSegment.{MadeSegment}
-use Rattle.table.specs.declared.element.MadeSegment.the-variants as made-segment
-use Rattle.machine.specs.Machine.{Buffers, buffers, memoryAt, tableAt, segmentAt, nextByte, nextCell, nextItem}
-use Rattle.machine.specs.Sound.{soundOver}
-use Rattle.machine.specs.Operation.{wellFormed}
-use Rattle.machine.specs.Outcome.{settled}
-use Rattle.machine.specs.Fueling.{fueled, onFuel}
+use Rattle.table.specs.Names.{soundTable, soundSegment, Table, GrownTable, ElementSegment, CreatedTable, MadeSegment}
+use Rattle.table.specs.{Grow.growTable, Fill.fillTable, Copy.copyTable, Copy.copyWithin, Init.initTable, New.newTable}
+use Rattle.table.specs.Table.{getTable, setSound, setTable}
+use Rattle.machine.specs.Names.{Buffers, buffers, memoryAt, tableAt, segmentAt, nextByte, nextCell, soundOver, wellFormed, Stepped, Machine}
+use Rattle.machine.specs.Names.{Operation, MemoryOp, TableOp}
+use Rattle.machine.specs.{Machine.nextItem, Outcome.settled, Fueling.fueled, Fueling.onFuel, Segments.initOn, Segments.dropOn, Segments.madeSegment}
+use Rattle.machine.specs.{Segments.newSegmentOn, Step.Performed, Step.perform, Step.decide, Step.step, declared.outcome.Outcome.Outcome}
+use Rattle.machine.specs.{declared.fueling.Fueled.Fueled}
 use Rattle.machine.specs.Memories.{performMemory, linkTo, onMemory, madeMemory, newMemoryOn}
 use Rattle.machine.specs.Tables.{performTable, onTable, madeTable, newTableOn, copyKnown, copyOn}
-use Rattle.machine.specs.Segments.{initOn, dropOn, madeSegment, newSegmentOn}
-use Rattle.machine.specs.Step.{Performed, Stepped, perform, decide, step}
-use Rattle.machine.specs.declared.records.Machine.{Machine}
-use Rattle.machine.specs.declared.outcome.Outcome.{Outcome}
-use Rattle.machine.specs.declared.operation.Operation.{Operation}
-use Rattle.machine.specs.declared.operation.Operation.the-variants as op
-use Rattle.types.specs.declared.span.CopySpan.{CopySpan}
-use Rattle.types.specs.declared.memory_ty.WantedMemory.{WantedMemory}
-use Rattle.types.specs.declared.table_ty.WantedTable.{WantedTable}
 use Rattle.machine.proofs.Rooms.{memory-sound, table-sound, segment-sound, next-byte-inside}
-use Rattle.claims.proofs.Exiting.{room-inside}
-use Rattle.claims.proofs.TableExiting.{cells-sound, two-sound}
-use Rattle.claims.proofs.Cuts.{part-alike, cell-alike}
 use Rattle.claims.specs.Alike.{SameMemory, SameTable, Watched, namesOnly, Agree}
-use Rattle.machine.specs.declared.fueling.Fueled.{Fueled}
-use Rattle.machine.specs.declared.operation.MemoryOp.{MemoryOp}
+use Rattle.claims.proofs.{Exiting.room-inside, TableExiting.cells-sound, TableExiting.two-sound, Cuts.part-alike, Cuts.cell-alike}
+use Rattle.types.specs.declared.answer.Answer.the-variants as answer
+use Rattle.table.specs.declared.element.MadeSegment.the-variants as made-segment
+use Rattle.machine.specs.declared.operation.Operation.the-variants as op
 use Rattle.machine.specs.declared.operation.MemoryOp.the-variants as memory
-use Rattle.machine.specs.declared.operation.TableOp.{TableOp}
 use Rattle.machine.specs.declared.operation.TableOp.the-variants as table
 
 -- what a host sees of a result with its cells; shut, so that it goes down a chain of checks

@@ -1,28 +1,16 @@
 -- Machines that agree on watched instances answer alike an operation that names no other and agree again, and so to the end of any list. Assumes nothing.
-use Prim.Native.Nat.{ℕ}
-use mathlib.Core.Path.{_≡_, refl, sym, ap, subst, _∙_}
-use mathlib.Core.Bool.{true}
-use mathlib.Core.List.{List, [], _∷_}
-use Rattle.types.specs.declared.fuel.Fuel.{Fuel}
-use Rattle.types.specs.declared.limiter.Limiter.{Limiter}
+use Rattle.types.specs.Prelude.{ℕ, _≡_, true, List, [], _∷_}
+use mathlib.Core.Path.{refl, sym, ap, subst, _∙_}
+use Rattle.types.specs.Names.{Fuel, Limiter}
 use Rattle.types.proofs.Picks.{both-1, both-2, either}
-use Rattle.memory.specs.declared.memory.Memory.{Memory}
-use Rattle.table.specs.declared.table.Table.{Table}
-use Rattle.machine.specs.Machine.{Buffers, buffers, nextByte, nextCell}
-use Rattle.machine.specs.Sound.{soundOver}
-use Rattle.machine.specs.Outcome.{metered}
-use Rattle.machine.specs.Step.{Stepped, step, run}
-use Rattle.machine.specs.declared.records.Machine.{Machine}
-use Rattle.machine.specs.declared.operation.Operation.{Operation}
-use Rattle.machine.specs.declared.fueling.Fueled.{Fueled}
-use Rattle.machine.proofs.Laws.{along}
-use Rattle.machine.proofs.Kept.{step-sound}
-use Rattle.claims.specs.Answers.{accepted}
-use Rattle.claims.specs.Effects.{acceptedStep}
+use Rattle.memory.specs.Names.{Memory}
+use Rattle.table.specs.Names.{Table}
+use Rattle.machine.specs.Names.{Buffers, buffers, soundOver, metered, Stepped, step, Machine, Operation}
+use Rattle.machine.specs.{Machine.nextByte, Machine.nextCell, Step.run, declared.fueling.Fueled.Fueled}
+use Rattle.machine.proofs.{Laws.along, Kept.step-sound}
+use Rattle.claims.specs.{Answers.accepted, Effects.acceptedStep}
 use Rattle.claims.specs.Alike.{Watched, namesOnly, allNameOnly, Agree, SameStep, SameRun}
-use Rattle.claims.proofs.Exits.{accepted-does}
-use Rattle.claims.proofs.Left.{refused-keeps}
-use Rattle.claims.proofs.Alike.{beside, ofStep, step-alike}
+use Rattle.claims.proofs.{Exits.accepted-does, Left.refused-keeps, Alike.beside, Alike.ofStep, Alike.step-alike}
 use Rattle.claims.proofs.Agreeing.{segments-after, counts-after, items-after, memories-after, tables-after}
 
 -- what two steps leave agrees

@@ -1,12 +1,8 @@
 -- A list with one entry for each record in use, as records change and are added. Assumes nothing.
-use Prim.Native.Nat.{ℕ, _+_, _<_}
-use mathlib.Core.Path.{_≡_, refl, sym, ap, subst, _∙_}
-use mathlib.Core.Bool.{Bool, true}
-use mathlib.Core.List.{List, [], _∷_, _++_}
+use Rattle.types.specs.Prelude.{ℕ, _+_, _<_, _≡_, Bool, true, List, [], _∷_, _++_, eqb, length, getD, set}
+use mathlib.Core.Path.{refl, sym, ap, subst, _∙_}
 use native.Mathlib.Omega.{arith}
-use lib.Dec.{eqb}
-use lib.ListN.{length, getD, set, length-set, length-append, List·getD-append}
-use lib.Seq.{set-getD, getD-set-same, getD-set-other, getD-append-seam}
+use lib.{ListN.length-set, ListN.length-append, ListN.List·getD-append, Seq.set-getD, Seq.getD-set-same, Seq.getD-set-other, Seq.getD-append-seam}
 use borrow.Author.Tests.{leb-true, eqb-true, eqb-false}
 use Rattle.types.proofs.Picks.{both-1, either}
 use Rattle.machine.specs.Sound.{soundList}

@@ -1,48 +1,27 @@
 -- Demand 3's bound: the bytes written are at most B times the units paid and B - 1 for each operation that passed the fuel step. Assumes nothing.
-use Prim.Native.Nat.{ℕ, _+_, _-_, _*_, _^_, _≤_, _<_}
-use mathlib.Core.Path.{_≡_, refl, sym, ap, subst, _∙_}
-use mathlib.Core.Bool.{Bool, true, false, false≢true}
-use mathlib.Core.List.{List, [], _∷_}
-use native.Mathlib.Omega.{arith}
-use native.Mathlib.Nat.{mul-le-mul, mul-le-mul-right}
-use lib.Dec.{eqb, ltb}
-use lib.ListN.{length}
+use Rattle.types.specs.Prelude.{ℕ, _+_, _-_, _*_, _^_, _≤_, _<_, _≡_, Bool, true, false, List, [], _∷_, eqb, ltb, length}
+use mathlib.Core.{Path.refl, Path.sym, Path.ap, Path.subst, Path._∙_, Bool.false≢true}
+use native.Mathlib.{Omega.arith, Nat.mul-le-mul, Nat.mul-le-mul-right}
 use borrow.Author.Tests.{leb-true, ltb-true, ne-eqb}
-use Rattle.types.specs.Pick.{pick, both}
-use Rattle.types.specs.Price.{price}
-use Rattle.types.specs.Fuel.{left, paid}
-use Rattle.types.specs.Span.{inside}
-use Rattle.types.specs.MemoryType.{pageBytes}
-use Rattle.types.specs.declared.fuel.Fuel.{Fuel}
-use Rattle.types.specs.declared.fuel.FuelCosts.{FuelCosts}
-use Rattle.types.specs.declared.limiter.Limiter.{Limiter}
+use Rattle.types.specs.Names.{pick, both, price, left, paid, inside, pageBytes, Fuel, FuelCosts, Limiter}
+use Rattle.types.proofs.{Prices.price-covers, Spans.within-is}
 use Rattle.types.proofs.Picks.{pick-true, pick-false, both-true, both-1, both-2, either}
-use Rattle.types.proofs.Prices.{price-covers}
-use Rattle.types.proofs.Spans.{within-is}
-use Rattle.memory.specs.Memory.{pagesOf}
+use Rattle.memory.specs.Names.{pagesOf}
 use Rattle.memory.specs.Grow.{mayHave}
 use Rattle.table.proofs.Sounds.{sound-room, sound-size}
-use Rattle.machine.specs.Machine.{Buffers, memoryAt, tableAt, freshMachine}
-use Rattle.machine.specs.Sound.{soundReferences, soundOver}
-use Rattle.machine.specs.Step.{Stepped, step}
-use Rattle.machine.specs.declared.records.Machine.{Machine}
-use Rattle.machine.specs.declared.operation.Operation.{Operation}
-use Rattle.machine.specs.declared.operation.Operation.the-variants as op
-use Rattle.machine.specs.declared.operation.FuelOp.{FuelOp}
-use Rattle.machine.specs.declared.operation.FuelOp.the-variants as fuel
-use Rattle.machine.specs.declared.operation.MemoryOp.{MemoryOp}
-use Rattle.machine.specs.declared.operation.MemoryOp.the-variants as memory
-use Rattle.machine.specs.declared.operation.TableOp.{TableOp}
-use Rattle.machine.specs.declared.operation.TableOp.the-variants as table
+use Rattle.machine.specs.Names.{Buffers, memoryAt, tableAt, soundOver, Stepped, step, Machine, Operation, FuelOp, MemoryOp, TableOp}
+use Rattle.machine.specs.{Machine.freshMachine, Sound.soundReferences}
 use Rattle.machine.proofs.Rooms.{parts, table-sound}
-use Rattle.claims.specs.Answers.{accepted}
+use Rattle.claims.specs.{Answers.accepted, Effects.fuelEffect, Effects.effects, Effects.acceptedStep}
 use Rattle.claims.specs.Metered.{memoryMetering, tableMetering, meteringOf, metering, priceOf, affords, passes}
 use Rattle.claims.specs.Occasions.{holds, memoryChecks, tableChecks, checksOf, occasion}
-use Rattle.claims.specs.Effects.{fuelEffect, effects, acceptedStep}
 use Rattle.claims.specs.Bound.{wrote, pays, totals, mostR, mostBytes}
-use Rattle.claims.proofs.Checks.{given-1, given-2, growing-some}
-use Rattle.claims.proofs.Exiting.{branch, by-kind}
-use Rattle.claims.proofs.Exits.{refusal-leaves, accepted-when, accepted-does}
+use Rattle.claims.proofs.{Checks.given-1, Checks.given-2, Checks.growing-some, Exiting.branch, Exiting.by-kind, Exits.refusal-leaves}
+use Rattle.claims.proofs.{Exits.accepted-when, Exits.accepted-does}
+use Rattle.machine.specs.declared.operation.Operation.the-variants as op
+use Rattle.machine.specs.declared.operation.FuelOp.the-variants as fuel
+use Rattle.machine.specs.declared.operation.MemoryOp.the-variants as memory
+use Rattle.machine.specs.declared.operation.TableOp.the-variants as table
 
 -- the same metering and the same costs
 pub record SameMeter (f g : Fuel) : Type 0 where

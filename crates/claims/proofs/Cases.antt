@@ -1,44 +1,28 @@
 -- The worked cases hold: one claim, computed; of P11 the length of its buffer, too long to be made, is a law. Assumes nothing.
-use Prim.Native.Nat.{ℕ, _-_, _^_}
-use mathlib.Core.Bool.{true}
-use mathlib.Core.Path.{_≡_, refl, ap}
-use mathlib.Core.List.{List, [], _∷_}
-use lib.ListN.{length, length-replicate}
-use Rattle.types.specs.Pick.{pick, both}
-use Rattle.types.specs.Done.{Done}
-use Rattle.types.specs.Price.{capped, price}
-use Rattle.types.specs.Span.{inside, cut, over}
-use Rattle.types.specs.Answer.{bitsOf, float32, float64, numberOf, shownOf}
-use Rattle.types.specs.Fuel.{setFuel, getFuel}
-use Rattle.types.specs.Limiter.{padded, noLimiter, saysOf, moved, heardOf}
-use Rattle.types.specs.Limits.{validLimits, validMaximum, admitsOf}
-use Rattle.types.specs.MemoryType.{pageBound, validMemory, buildMemory, byteSize, minimumBytes}
-use Rattle.types.specs.TableType.{tableBound, validTable, elementMatches}
-use Rattle.types.specs.Raw.{rawBytes}
+use Rattle.types.specs.Prelude.{ℕ, _-_, _^_, true, _≡_, List, [], _∷_, length}
+use mathlib.Core.Path.{refl, ap}
+use lib.ListN.{length-replicate}
+use Rattle.types.specs.Names.{Done}
+use Rattle.types.specs.{Pick.pick, Pick.both, Price.capped, Price.price, Span.inside, Span.cut, Span.over, Answer.bitsOf, Answer.float32}
+use Rattle.types.specs.{Answer.float64, Answer.numberOf, Answer.shownOf, Fuel.setFuel, Fuel.getFuel, Limiter.padded, Limiter.noLimiter}
+use Rattle.types.specs.{Limiter.saysOf, Limiter.moved, Limiter.heardOf, Limits.validLimits, Limits.validMaximum, Limits.admitsOf}
+use Rattle.types.specs.{MemoryType.pageBound, MemoryType.validMemory, MemoryType.buildMemory, MemoryType.byteSize, MemoryType.minimumBytes}
+use Rattle.types.specs.{TableType.tableBound, TableType.validTable, TableType.elementMatches, Raw.rawBytes}
 use Rattle.types.proofs.Picks.{pick-true}
-use Rattle.memory.specs.LittleEndian.{leBytes, leValue}
+use Rattle.memory.specs.{LittleEndian.leBytes, LittleEndian.leValue, New.newMemory}
 use Rattle.memory.specs.Access.{addressOf, extend, loadedOf, loadFound, loadAt, storeFound, storeAt}
 use Rattle.memory.specs.Memory.{pagesOf, soundRoom, soundSize, soundMemory, loadMemory, storeMemory}
-use Rattle.memory.specs.New.{newMemory}
-use Rattle.table.specs.Table as table
-use Rattle.table.specs.Table.{soundBuffer, soundTable}
-use Rattle.table.specs.New.{newTable}
-use Rattle.table.specs.Grow.{growTable}
-use Rattle.table.specs.Fill.{fillTable}
-use Rattle.table.specs.declared.grow.GrownTable.{GrownTable}
-use Rattle.table.specs.Element.{soundSegment, newSegment}
-use Rattle.table.specs.Copy.{copyWithin}
-use Rattle.table.specs.Init.{initTable}
-use Rattle.machine.specs.Machine.{nextByte, nextCell, nextItem, freshMachine}
+use Rattle.table.specs.Names.{GrownTable}
+use Rattle.table.specs.{Table.soundBuffer, Table.soundTable, New.newTable, Grow.growTable, Fill.fillTable, Element.soundSegment, Element.newSegment}
+use Rattle.table.specs.{Copy.copyWithin, Init.initTable}
+use Rattle.machine.specs.{Machine.nextByte, Machine.nextCell, Machine.nextItem, Machine.freshMachine, Outcome.changed, Outcome.settled, Fueling.setBy}
+use Rattle.machine.specs.{Fueling.performFuel, Fueling.onFuel, Memories.performMemory, Memories.onMemory, Memories.madeMemory, Memories.newMemoryOn}
+use Rattle.machine.specs.{Segments.initOn, Segments.madeSegment, Segments.newSegmentOn, Step.perform, Step.decide, Step.step, Step.run}
 use Rattle.machine.specs.Sound.{follow, soundList, soundMemories, soundTables, soundSegments, soundReferences, soundMachine}
 use Rattle.machine.specs.Operation.{narrowStore, storeFields, itemField, itemFields, initFields, fuelWellFormed, memoryWellFormed, wellFormed}
-use Rattle.machine.specs.Outcome.{changed, settled}
-use Rattle.machine.specs.Fueling.{setBy, performFuel, onFuel}
-use Rattle.machine.specs.Memories.{performMemory, onMemory, madeMemory, newMemoryOn}
 use Rattle.machine.specs.Tables.{performTable, onTable, madeTable, newTableOn, copyKnown, copyOn}
-use Rattle.machine.specs.Segments.{initOn, madeSegment, newSegmentOn}
-use Rattle.machine.specs.Step.{perform, decide, step, run}
 use Rattle.claims.specs.Cases.{allHold, builtNumber, shown, answeredAt, same, fullBuffer, nearlyFull, grownBy, cases}
+use Rattle.table.specs.Table as table
 
 -- the buffer is as long as it may be
 full-length : length fullBuffer ≡ 2 ^ 32

@@ -1,24 +1,13 @@
 -- The claims hold. Assumes nothing.
 use mathlib.Core.Path.{sym}
-use Rattle.machine.proofs.Formed.{form-holds}
-use Rattle.machine.proofs.Sizes.{pages-as-12, cells-as-22}
-use Rattle.machine.proofs.Kept.{step-sound, fresh-sound}
-use Rattle.machine.proofs.Apart.{others-stay, only-sizes}
-use Rattle.lines.proofs.Text.{read-write, read-unique}
-use Rattle.lines.proofs.Pieces.{fed-whole}
-use Rattle.lines.proofs.Hosts.{finished-whole}
+use Rattle.machine.proofs.{Formed.form-holds, Sizes.pages-as-12, Sizes.cells-as-22, Kept.step-sound, Kept.fresh-sound, Apart.others-stay}
+use Rattle.machine.proofs.{Apart.only-sizes}
+use Rattle.lines.proofs.{Text.read-write, Text.read-unique, Pieces.fed-whole, Hosts.finished-whole}
 use Rattle.claims.specs.Claims.{Claims}
-use Rattle.claims.proofs.Sessions.{session-is-run, replies-run}
+use Rattle.claims.proofs.{Sessions.session-is-run, Sessions.replies-run, Script.script-moves, Bound.byte-bound, Reached.bound-reached}
+use Rattle.claims.proofs.{Ledger.ledger, AlikeRun.alike, AlikeRun.alike-run, Never.never-unsound, Forms.stays-in-form, Cases.worked-cases}
 use Rattle.claims.proofs.Exits.{answer-or-refusal, refusal-leaves, accepted-when, accepted-does}
-use Rattle.claims.proofs.Script.{script-moves}
-use Rattle.claims.proofs.Bound.{byte-bound}
-use Rattle.claims.proofs.Reached.{bound-reached}
 use Rattle.claims.proofs.Spans.{span-alone, span-counted, refused-writes-none}
-use Rattle.claims.proofs.Ledger.{ledger}
-use Rattle.claims.proofs.AlikeRun.{alike, alike-run}
-use Rattle.claims.proofs.Never.{never-unsound}
-use Rattle.claims.proofs.Forms.{stays-in-form}
-use Rattle.claims.proofs.Cases.{worked-cases}
 
 -- every claim by its law
 pub claims : Claims

@@ -1,12 +1,10 @@
 -- Cells of spans in two lists: a part of a span, a span with some cells replaced or with more cells at its end, a new span. Assumes nothing.
-use Prim.Native.Nat.{ℕ, _+_, _-_, _≤_, _<_}
-use mathlib.Core.Path.{_≡_, refl, sym, ap, _∙_}
-use mathlib.Core.List.{List, _++_}
-use native.Mathlib.Omega.{arith}
-use native.Mathlib.Nat.{add-zero}
-use lib.ListN.{length, take, drop, getD, replicate, length-take, length-replicate}
-use lib.Seq.{take-take, drop-drop, take-add, getD-take, getD-drop}
-use Rattle.types.specs.Span.{cut, over}
+use Rattle.types.specs.Prelude.{ℕ, _+_, _-_, _≤_, _<_, _≡_, List, _++_, length, take, drop, getD, replicate}
+use mathlib.Core.Path.{refl, sym, ap, _∙_}
+use native.Mathlib.{Omega.arith, Nat.add-zero}
+use lib.{ListN.length-take, ListN.length-replicate, Seq.take-take, Seq.drop-drop, Seq.take-add, Seq.getD-take, Seq.getD-drop}
+use Rattle.types.specs.Names.{over}
+use Rattle.types.specs.Span.{cut}
 use Rattle.types.proofs.Spans.{cut-of, cut-before, over-span, over-after}
 
 -- cells within a span, by the span's own

@@ -1,23 +1,10 @@
 -- How an operation ends: accepted where a test holds, or refused, with all that it leaves. Assumes nothing.
-use Prim.Native.Nat.{ℕ}
-use mathlib.Core.Path.{_≡_}
-use mathlib.Core.Bool.{Bool, true, false}
-use Rattle.types.specs.Pick.{pick}
-use Rattle.types.specs.Fuel.{paid}
-use Rattle.types.specs.declared.answer.Refusal.{Refusal}
+use Rattle.types.specs.Prelude.{ℕ, _≡_, Bool, true, false}
+use Rattle.types.specs.Names.{pick, paid, Refusal, Fuel, Limiter}
+use Rattle.machine.specs.Names.{Buffers, soundOver, metered, Stepped, step, Machine, Operation}
+use Rattle.claims.specs.{Answers.accepted, Answers.listed, Metered.priceOf, Metered.paidRefusal, Effects.effects, Effects.acceptedStep}
+use Rattle.claims.specs.{Script.heard, Script.movedBy}
 use Rattle.types.specs.declared.answer.Answer.the-variants as answer
-use Rattle.types.specs.declared.fuel.Fuel.{Fuel}
-use Rattle.types.specs.declared.limiter.Limiter.{Limiter}
-use Rattle.machine.specs.Machine.{Buffers}
-use Rattle.machine.specs.Sound.{soundOver}
-use Rattle.machine.specs.Outcome.{metered}
-use Rattle.machine.specs.Step.{Stepped, step}
-use Rattle.machine.specs.declared.records.Machine.{Machine}
-use Rattle.machine.specs.declared.operation.Operation.{Operation}
-use Rattle.claims.specs.Answers.{accepted, listed}
-use Rattle.claims.specs.Metered.{priceOf, paidRefusal}
-use Rattle.claims.specs.Effects.{effects, acceptedStep}
-use Rattle.claims.specs.Script.{heard, movedBy}
 
 -- what a refusal leaves: all but fuel and limiter
 abbrev pub stays : Machine → Buffers → Refusal → Fuel → Limiter → Stepped

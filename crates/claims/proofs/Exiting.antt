@@ -1,46 +1,27 @@
 -- What every proof of an operation's exits uses: a step comes to its checks, a check has two ways, and each exit is described. Assumes nothing.
-use Prim.Native.Nat.{ℕ, _+_, _-_, _≤_, _<_}
-use mathlib.Core.Path.{_≡_, refl, sym, ap, subst, _∙_}
-use mathlib.Core.Bool.{Bool, true, false}
-use mathlib.Core.List.{List}
+use Rattle.types.specs.Prelude.{ℕ, _+_, _-_, _≤_, _<_, _≡_, Bool, true, false, List, eqb, leb, ltb}
+use mathlib.Core.Path.{refl, sym, ap, subst, _∙_}
 use native.Mathlib.Omega.{arith}
-use lib.Dec.{eqb, leb, ltb}
 use lib.Seq.{set-getD}
 use borrow.Author.Tests.{leb-true, ltb-true, ltb-false, le-leb, lt-leb}
-use Rattle.types.specs.Pick.{pick, unless, both}
-use Rattle.types.specs.Done.{Done, done, spanDone}
-use Rattle.types.specs.Answer.{refusal, refuse, accept, numberOf}
-use Rattle.types.specs.Fuel.{short, paid}
-use Rattle.types.specs.Limiter.{saysOf, moved, heardOf, noLimiter}
-use Rattle.types.specs.declared.answer.Answer.{Answer}
-use Rattle.types.specs.declared.answer.Answer.the-variants as answer
-use Rattle.types.specs.declared.answer.Refusal.{Refusal}
-use Rattle.types.specs.declared.fuel.Fuel.{Fuel}
-use Rattle.types.specs.declared.grant.Spanned.{Spanned}
-use Rattle.types.specs.declared.limiter.Limiter.{Limiter}
+use Rattle.types.specs.Names.{unless, Done, done, spanDone, refusal, refuse, accept, short, paid, saysOf, moved, noLimiter, Answer, Refusal, Fuel}
+use Rattle.types.specs.Names.{Spanned, Limiter}
+use Rattle.types.specs.{Pick.pick, Pick.both, Answer.numberOf, Limiter.heardOf}
 use Rattle.types.proofs.Picks.{pick-true, pick-false, pick-same, both-true, both-left, both-right, both-then}
-use Rattle.memory.specs.declared.memory.Memory.{Memory}
-use Rattle.table.specs.declared.table.Table.{Table}
-use Rattle.machine.specs.Machine.{Buffers, memoryAt, tableAt, noMemory, noTable}
-use Rattle.machine.specs.Sound.{soundOver}
-use Rattle.machine.specs.Operation.{wellFormed}
-use Rattle.machine.specs.Outcome.{leaves, keeps, withMemories, withTables, changed, standing, metered, settled}
-use Rattle.machine.specs.Step.{Performed, Stepped, onNone, onCells, perform, decide, after, step}
-use Rattle.machine.specs.declared.records.Machine.{Machine}
-use Rattle.machine.specs.declared.records.Counts.{Counts}
-use Rattle.machine.specs.declared.outcome.Outcome.{Outcome}
-use Rattle.machine.specs.declared.outcome.Change.{Change}
-use Rattle.machine.specs.declared.outcome.Change.the-variants as change
-use Rattle.machine.specs.declared.operation.Operation.{Operation}
-use Rattle.machine.specs.declared.operation.Operation.the-variants as op
-use Rattle.machine.specs.declared.operation.FuelOp.{FuelOp}
-use Rattle.claims.specs.Answers.{accepted, listed}
+use Rattle.memory.specs.Names.{Memory}
+use Rattle.table.specs.Names.{Table}
+use Rattle.machine.specs.Names.{Buffers, memoryAt, tableAt, noMemory, noTable, soundOver, wellFormed, standing, metered, Stepped, Machine, Counts}
+use Rattle.machine.specs.Names.{Change, Operation, FuelOp}
+use Rattle.machine.specs.{Outcome.leaves, Outcome.keeps, Outcome.withMemories, Outcome.withTables, Outcome.changed, Outcome.settled, Step.Performed}
+use Rattle.machine.specs.{Step.onNone, Step.onCells, Step.perform, Step.decide, Step.after, Step.step, declared.outcome.Outcome.Outcome}
+use Rattle.claims.specs.{Answers.accepted, Answers.listed, Occasions.granted, Occasions.occasion, Occasions.question, Spans.put}
 use Rattle.claims.specs.Metered.{metering, priceOf, affords, grants, paidRefusal}
-use Rattle.claims.specs.Occasions.{granted, occasion, question}
-use Rattle.claims.specs.Spans.{put}
 use Rattle.claims.specs.Effects.{fuelEffect, effectOf, spent, asked, effects, acceptedStep}
 use Rattle.claims.proofs.Heard.{Onward, no-question, heard-no, heard-told, moved-once, moved-twice}
 use Rattle.claims.proofs.Exit.{stays, Exit, accepts, refuses}
+use Rattle.types.specs.declared.answer.Answer.the-variants as answer
+use Rattle.machine.specs.declared.outcome.Change.the-variants as change
+use Rattle.machine.specs.declared.operation.Operation.the-variants as op
 
 -- a test's two ways, each with its equation
 pub branch : {A : Type 0} (P : A → Type 0) (t : Bool) (x y : A) → (t ≡ true → P x) → (t ≡ false → P y) → P (pick t x y)

@@ -1,33 +1,19 @@
 -- Every operation on every machine: the claims on answers, refusals and occasions. Assumes nothing.
-use Prim.Native.Nat.{ℕ}
-use mathlib.Core.Path.{_≡_, refl, sym, ap, subst, _∙_}
-use mathlib.Core.Bool.{Bool, true, false, false≢true}
+use Rattle.types.specs.Prelude.{ℕ, _≡_, Bool, true, false, eqb}
+use mathlib.Core.{Path.refl, Path.sym, Path.ap, Path.subst, Path._∙_, Bool.false≢true}
 use native.Mathlib.Omega.{arith}
-use lib.Dec.{eqb}
-use Rattle.types.specs.Pick.{pick, both}
-use Rattle.types.specs.Answer.{refusal, refuse, numberOf}
-use Rattle.types.specs.declared.answer.Answer.{Answer}
-use Rattle.types.specs.declared.answer.Answer.the-variants as answer
+use Rattle.types.specs.Names.{refusal, refuse, Answer}
+use Rattle.types.specs.{Pick.pick, Pick.both, Answer.numberOf}
 use Rattle.types.proofs.Picks.{pick-true, pick-false, both-left, both-right, both-then, either}
-use Rattle.machine.specs.Machine.{Buffers}
-use Rattle.machine.specs.Sound.{soundOver}
-use Rattle.machine.specs.Operation.{wellFormed}
-use Rattle.machine.specs.Outcome.{keeps, metered, changed, settled}
-use Rattle.machine.specs.Step.{Stepped, onNone, after, decide, step}
-use Rattle.machine.specs.declared.records.Machine.{Machine}
-use Rattle.machine.specs.declared.operation.Operation.{Operation}
-use Rattle.machine.specs.declared.operation.Operation.the-variants as op
-use Rattle.claims.specs.Answers.{accepted, listed, valueOrListed}
-use Rattle.claims.specs.Metered.{Leaves}
-use Rattle.claims.specs.Occasions.{occasion, acceptedWhen}
-use Rattle.claims.specs.Effects.{acceptedStep}
-use Rattle.claims.specs.Script.{asks, heard, movedBy}
-use Rattle.claims.proofs.Heard.{unasked}
-use Rattle.claims.proofs.Exit.{Exit, accepts, refuses}
-use Rattle.claims.proofs.Exiting.{stays-number, unpaid}
-use Rattle.claims.proofs.Growth.{value-number}
-use Rattle.claims.proofs.MemoryExits.{fuel-exit, new-memory-exit, memory-exit}
+use Rattle.machine.specs.Names.{Buffers, soundOver, wellFormed, metered, Stepped, Machine, Operation}
+use Rattle.machine.specs.{Outcome.keeps, Outcome.changed, Outcome.settled, Step.onNone, Step.after, Step.decide, Step.step}
+use Rattle.claims.specs.{Answers.accepted, Answers.listed, Answers.valueOrListed, Metered.Leaves, Occasions.occasion, Occasions.acceptedWhen}
+use Rattle.claims.specs.{Effects.acceptedStep, Script.asks, Script.heard, Script.movedBy}
+use Rattle.claims.proofs.{Heard.unasked, Exit.Exit, Exit.accepts, Exit.refuses, Exiting.stays-number, Exiting.unpaid, Growth.value-number}
+use Rattle.claims.proofs.{MemoryExits.fuel-exit, MemoryExits.new-memory-exit, MemoryExits.memory-exit}
 use Rattle.claims.proofs.TableExits.{new-table-exit, table-exit, table-copy-exit, table-init-exit, drop-segment-exit, new-segment-exit}
+use Rattle.types.specs.declared.answer.Answer.the-variants as answer
+use Rattle.machine.specs.declared.operation.Operation.the-variants as op
 
 -- every value is one of the list's answers
 value-listed : (a : Answer) → accepted a ≡ true → valueOrListed a ≡ true

@@ -1,40 +1,21 @@
 -- A row in form is in form after every operation: flags and costs as they were, and a script of answers of at most 2. Assumes nothing.
-use Prim.Native.Nat.{ℕ, zero, suc, _+_, _≤_, _<_}
-use mathlib.Core.Path.{_≡_, sym, subst, _∙_}
-use mathlib.Core.Bool.{true}
-use mathlib.Core.List.{List, [], _∷_, _++_}
+use Rattle.types.specs.Prelude.{ℕ, zero, suc, _+_, _≤_, _<_, _≡_, true, List, [], _∷_, _++_, leb, length, getD, drop, replicate}
+use mathlib.Core.Path.{sym, subst, _∙_}
 use native.Mathlib.Omega.{arith}
-use lib.Dec.{leb}
-use lib.ListN.{length, getD, drop, replicate, length-append, length-drop}
+use lib.ListN.{length-append, length-drop}
 use borrow.Author.Tests.{leb-true}
+use Rattle.types.specs.Names.{Fuel, FuelCosts, Limiter}
 use Rattle.types.specs.Limiter.{moved, padded, allAnswers, wellFormed}
-use Rattle.types.specs.declared.fuel.Fuel.{Fuel}
-use Rattle.types.specs.declared.fuel.FuelCosts.{FuelCosts}
-use Rattle.types.specs.declared.limiter.Limiter.{Limiter}
-use Rattle.types.proofs.Picks.{both-1, both-2, either}
-use Rattle.types.proofs.Scripts.{well-short}
-use Rattle.machine.specs.Machine.{Buffers}
-use Rattle.machine.specs.Operation.{scriptOf}
-use Rattle.machine.specs.Step.{Stepped, step}
+use Rattle.types.proofs.{Picks.both-1, Picks.both-2, Picks.either, Scripts.well-short}
+use Rattle.machine.specs.Names.{Buffers, scriptOf, Stepped, step, Machine, Operation, FuelOp}
+use Rattle.machine.specs.{Row.InRow, Row.operateRow, stages.Rows.Shaped}
 use Rattle.machine.specs.Words.{scriptAt, answerFrom, recordsFrom, limiterFrom, machineFrom, allAt, answerAt, inForm}
-use Rattle.machine.specs.Row.{InRow, operateRow}
-use Rattle.machine.specs.stages.Rows.{Shaped}
-use Rattle.machine.specs.declared.records.Machine.{Machine}
-use Rattle.machine.specs.declared.operation.Operation.{Operation}
-use Rattle.machine.specs.declared.operation.FuelOp.{FuelOp}
-use Rattle.machine.specs.declared.operation.FuelOp.the-variants as fuel
-use Rattle.machine.proofs.Back.{shaped-from}
-use Rattle.machine.proofs.Formed.{form-long}
-use Rattle.machine.proofs.Forming.{put-form}
-use Rattle.machine.proofs.Settling.{Eights, eights, changed-eights}
-use Rattle.claims.specs.Answers.{accepted}
-use Rattle.claims.specs.Occasions.{holds, fuelOccasion, checksOf, occasion}
-use Rattle.claims.specs.Effects.{fuelEffect, effects, acceptedStep}
-use Rattle.claims.specs.Script.{heard, movedBy, scriptAfter}
-use Rattle.claims.proofs.Exiting.{branch, by-kind}
+use Rattle.machine.proofs.{Back.shaped-from, Formed.form-long, Forming.put-form, Settling.Eights, Settling.eights, Settling.changed-eights}
+use Rattle.claims.specs.{Answers.accepted, Occasions.holds, Occasions.fuelOccasion, Occasions.checksOf, Occasions.occasion, Effects.fuelEffect}
+use Rattle.claims.specs.{Effects.effects, Effects.acceptedStep, Script.heard, Script.movedBy, Script.scriptAfter}
+use Rattle.claims.proofs.{Exiting.branch, Exiting.by-kind, Script.script-moves, Bound.meter-stays}
 use Rattle.claims.proofs.Exits.{refusal-leaves, accepted-when, accepted-does}
-use Rattle.claims.proofs.Script.{script-moves}
-use Rattle.claims.proofs.Bound.{meter-stays}
+use Rattle.machine.specs.declared.operation.FuelOp.the-variants as fuel
 
 -- a script of 16 places whose answers are at most 2
 record Answers (l : Limiter) : Type 0 where

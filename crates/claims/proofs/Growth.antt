@@ -1,35 +1,21 @@
 -- How a growth ends, of a memory or of a table: before the limiter's question or at it, after it with notice, or grown. Assumes nothing.
-use Prim.Native.Nat.{ℕ}
-use mathlib.Core.Path.{_≡_, refl, sym, ap, subst, _∙_}
-use mathlib.Core.Bool.{Bool, true, false, false≢true}
+use Rattle.types.specs.Prelude.{ℕ, _≡_, Bool, true, false, eqb, ltb}
+use mathlib.Core.{Path.refl, Path.sym, Path.ap, Path.subst, Path._∙_, Bool.false≢true}
 use native.Mathlib.Omega.{arith}
-use lib.Dec.{eqb, ltb}
 use borrow.Author.Tests.{lt-ltb, eqb-true, eqb-false}
-use Rattle.types.specs.Pick.{pick, unless, both}
-use Rattle.types.specs.Answer.{refusal, refuse, numberOf}
-use Rattle.types.specs.Fuel.{short, paid}
-use Rattle.types.specs.Limiter.{saysOf, moved, heardOf, noticed, noLimiter}
-use Rattle.types.specs.declared.answer.Answer.{Answer}
-use Rattle.types.specs.declared.answer.Answer.the-variants as answer
-use Rattle.types.specs.declared.answer.Refusal.{Refusal}
-use Rattle.types.specs.declared.fuel.Fuel.{Fuel}
-use Rattle.types.specs.declared.limiter.Limiter.{Limiter}
+use Rattle.types.specs.Names.{unless, both, refusal, refuse, short, paid, noticed, Answer, Refusal, Fuel, Limiter}
+use Rattle.types.specs.{Pick.pick, Answer.numberOf, Limiter.saysOf, Limiter.moved, Limiter.heardOf, Limiter.noLimiter}
 use Rattle.types.proofs.Picks.{pick-true, pick-false, both-true, both-left, both-right, both-then, either}
-use Rattle.machine.specs.Machine.{Buffers}
-use Rattle.machine.specs.Sound.{soundMachine, soundOver, soundMemories, soundTables, soundSegments}
-use Rattle.machine.specs.Operation.{wellFormed}
-use Rattle.machine.specs.Outcome.{keeps, changed, metered, settled}
-use Rattle.machine.specs.Step.{Performed, Stepped, onNone, perform, after, step}
-use Rattle.machine.specs.declared.records.Machine.{Machine}
-use Rattle.machine.specs.declared.operation.Operation.{Operation}
-use Rattle.claims.specs.Answers.{accepted}
-use Rattle.claims.specs.Metered.{metering, priceOf, affords, paidRefusal}
-use Rattle.claims.specs.Occasions.{granted, occasion, question}
-use Rattle.claims.specs.Effects.{effects, acceptedStep}
-use Rattle.claims.specs.Script.{heard}
+use Rattle.machine.specs.Names.{Buffers, soundOver, wellFormed, metered, Stepped, step, Machine, Operation}
+use Rattle.machine.specs.{Sound.soundMachine, Sound.soundMemories, Sound.soundTables, Sound.soundSegments, Outcome.keeps, Outcome.changed}
+use Rattle.machine.specs.{Outcome.settled, Step.Performed, Step.onNone, Step.perform, Step.after}
+use Rattle.claims.specs.{Answers.accepted, Metered.metering, Metered.priceOf, Metered.affords, Metered.paidRefusal, Occasions.granted}
+use Rattle.claims.specs.{Occasions.occasion, Occasions.question, Effects.effects, Effects.acceptedStep, Script.heard}
 use Rattle.claims.proofs.Heard.{onward, no-question, heard-no, heard-told, moved-once, moved-twice}
 use Rattle.claims.proofs.Exit.{stays, Exit, accepts}
-use Rattle.claims.proofs.Exiting.{branch, Named, named, named-7, heard-named, grants-no, grants-error, grants-yes, short-not, affords-all, step-is, number, quiet, stays-number, paid-is, unpaid, refused-with}
+use Rattle.claims.proofs.Exiting.{branch, Named, named, named-7, heard-named, grants-no, grants-error, grants-yes, short-not, affords-all}
+use Rattle.claims.proofs.Exiting.{step-is, number, quiet, stays-number, paid-is, unpaid, refused-with}
+use Rattle.types.specs.declared.answer.Answer.the-variants as answer
 
 -- no limiter grants all, and hears of a refusal
 none-says : saysOf noLimiter ≡ 0

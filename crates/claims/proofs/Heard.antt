@@ -1,19 +1,10 @@
 -- How many questions and notices the limiter hears, by how an operation ends. Assumes nothing.
-use Prim.Native.Nat.{ℕ}
-use mathlib.Core.Path.{_≡_, sym, ap, _∙_}
-use mathlib.Core.Bool.{true, false}
-use Rattle.types.specs.Limiter.{moved}
-use Rattle.types.specs.declared.limiter.Limiter.{Limiter}
+use Rattle.types.specs.Prelude.{ℕ, _≡_, true, false}
+use mathlib.Core.Path.{sym, ap, _∙_}
+use Rattle.types.specs.Names.{moved, Limiter}
 use Rattle.types.proofs.Picks.{pick-true, pick-false, both-true, both-right}
-use Rattle.machine.specs.Machine.{Buffers}
-use Rattle.machine.specs.Sound.{soundOver}
-use Rattle.machine.specs.Operation.{wellFormed}
-use Rattle.machine.specs.Step.{step}
-use Rattle.machine.specs.declared.records.Machine.{Machine}
-use Rattle.machine.specs.declared.operation.Operation.{Operation}
-use Rattle.claims.specs.Answers.{accepted}
-use Rattle.claims.specs.Occasions.{granted, question}
-use Rattle.claims.specs.Script.{asks, heard, movedBy, scriptAfter}
+use Rattle.machine.specs.Names.{Buffers, soundOver, wellFormed, step, Machine, Operation}
+use Rattle.claims.specs.{Answers.accepted, Occasions.granted, Occasions.question, Script.asks, Script.heard, Script.movedBy, Script.scriptAfter}
 
 module _ (r : ℕ) (m : Machine) (b : Buffers) (op : Operation) where
   -- the script moved on by what was heard

@@ -1,67 +1,36 @@
 -- The ledger: the fuel left and the charges since make up the amount last set. Assumes nothing.
-use Prim.Native.Nat.{ℕ, _+_, _-_, _*_, _^_, _≤_, _<_}
-use mathlib.Core.Path.{_≡_, refl, sym, ap, subst, _∙_}
-use mathlib.Core.Bool.{Bool, true, false, false≢true}
-use mathlib.Core.List.{List, [], _∷_, _++_}
+use Rattle.types.specs.Prelude.{ℕ, _+_, _-_, _*_, _^_, _≤_, _<_, _≡_, Bool, true, false, List, [], _∷_, _++_, eqb, leb, ltb, getD, set}
+use mathlib.Core.{Path.refl, Path.sym, Path.ap, Path.subst, Path._∙_, Bool.false≢true}
 use native.Mathlib.Omega.{arith}
-use lib.Dec.{eqb, leb, ltb}
-use lib.ListN.{getD, set}
 use borrow.Author.Tests.{lt-ltb, leb-true, ltb-true, eqb-true}
-use Rattle.types.specs.Pick.{pick, both}
-use Rattle.types.specs.Price.{price}
-use Rattle.types.specs.Answer.{refusal, numberOf}
-use Rattle.types.specs.Fuel.{paid}
-use Rattle.types.specs.Limiter.{heardOf}
-use Rattle.types.specs.Limits.{admitsOf}
-use Rattle.types.specs.MemoryType.{pageBytes, pageOf, validExponent}
-use Rattle.types.specs.declared.answer.Answer.{Answer}
-use Rattle.types.specs.declared.answer.Answer.the-variants as answer
-use Rattle.types.specs.declared.answer.Refusal.{Refusal}
-use Rattle.types.specs.declared.fuel.Fuel.{Fuel}
-use Rattle.types.specs.declared.fuel.FuelCosts.{FuelCosts}
-use Rattle.types.specs.declared.limiter.Limiter.{Limiter}
-use Rattle.types.specs.declared.memory_ty.PageSize.the-variants.{One, Wasm}
-use Rattle.types.specs.declared.raw.TypedRawRef.{TypedRawRef}
+use Rattle.types.specs.Names.{price, refusal, paid, admitsOf, pageBytes, pageOf, validExponent, Answer, Refusal, Fuel, FuelCosts, Limiter}
+use Rattle.types.specs.Names.{TypedRawRef, WantedMemory, WantedTable}
+use Rattle.types.specs.{Pick.pick, Pick.both, Answer.numberOf, Limiter.heardOf, declared.memory_ty.PageSize.the-variants.One}
+use Rattle.types.specs.{declared.memory_ty.PageSize.the-variants.Wasm}
 use Rattle.types.proofs.Picks.{pick-true, pick-false, both-left, both-right, both-1, both-2, either}
-use Rattle.memory.specs.declared.memory.Memory.{Memory}
-use Rattle.table.specs.declared.table.Table.{Table}
-use Rattle.machine.specs.Machine.{Buffers, noLimits, noMemory, noTable, memoryAt, tableAt, freshMachine}
-use Rattle.machine.specs.Sound.{soundMemories, soundTables, soundOver}
-use Rattle.machine.specs.Operation.{wellFormed, memoryWellFormed}
-use Rattle.machine.specs.Outcome.{changed, standing, oneMemoryMore, oneTableMore, settled}
-use Rattle.machine.specs.Step.{Stepped, after, decide, step, run}
-use Rattle.machine.specs.declared.records.Counts.{Counts}
-use Rattle.machine.specs.declared.records.Machine.{Machine}
-use Rattle.machine.specs.declared.outcome.Change.{Change}
-use Rattle.machine.specs.declared.outcome.Change.the-variants as change
-use Rattle.machine.specs.declared.operation.Operation.{Operation}
-use Rattle.machine.specs.declared.operation.Operation.the-variants as op
-use Rattle.machine.specs.declared.operation.FuelOp.{FuelOp}
-use Rattle.machine.specs.declared.operation.FuelOp.the-variants as fuel
-use Rattle.machine.specs.declared.operation.MemoryOp.{MemoryOp}
-use Rattle.machine.specs.declared.operation.MemoryOp.the-variants as memory
-use Rattle.machine.specs.declared.operation.TableOp.{TableOp}
-use Rattle.machine.specs.declared.operation.TableOp.the-variants as table
-use Rattle.types.specs.declared.memory_ty.WantedMemory.{WantedMemory}
-use Rattle.types.specs.declared.table_ty.WantedTable.{WantedTable}
-use Rattle.machine.proofs.Rooms.{parts}
-use Rattle.machine.proofs.ListLaws.{few}
-use Rattle.claims.specs.Answers.{accepted}
+use Rattle.memory.specs.Names.{Memory}
+use Rattle.table.specs.Names.{Table}
+use Rattle.machine.specs.Names.{Buffers, noLimits, noMemory, noTable, memoryAt, tableAt, soundOver, standing, oneMemoryMore, oneTableMore, Stepped}
+use Rattle.machine.specs.Names.{Counts, Machine, Change, Operation, FuelOp, MemoryOp, TableOp}
+use Rattle.machine.specs.{Machine.freshMachine, Sound.soundMemories, Sound.soundTables, Operation.wellFormed, Operation.memoryWellFormed}
+use Rattle.machine.specs.{Outcome.changed, Outcome.settled, Step.after, Step.decide, Step.step, Step.run}
+use Rattle.machine.proofs.{Rooms.parts, ListLaws.few}
+use Rattle.claims.specs.{Answers.accepted, Script.heard, Script.saysTo}
 use Rattle.claims.specs.Metered.{growth, memoryMetering, tableMetering, meteringOf, metering, priceOf, affords, paidRefusal}
 use Rattle.claims.specs.Occasions.{given, holds, comes, validWanted, fuelOccasion, checksOf, occasion}
 use Rattle.claims.specs.Effects.{memoryEffect, tableEffect, fuelEffect, effectOf, spent, asked, effects, acceptedStep}
-use Rattle.claims.specs.Script.{heard, saysTo}
 use Rattle.claims.specs.Ledger.{Row, Book, blank, withTables, rowAt, erred, growthCharge, took, fuelEntry, grown, entry, limiterSays, book}
-use Rattle.claims.proofs.Checks.{given-1}
-use Rattle.claims.proofs.Exit.{stays}
-use Rattle.claims.proofs.Exiting.{branch, surely}
-use Rattle.claims.proofs.Growth as growth
-use Rattle.claims.proofs.Growth.{Grew}
-use Rattle.claims.proofs.MemoryExits.{memory-grew}
-use Rattle.claims.proofs.TableExits.{table-grew}
-use Rattle.claims.proofs.Exits.{refusal-leaves, accepted-when, accepted-does}
-use Rattle.claims.proofs.Bound.{payable, affords-is, fuel-after}
+use Rattle.claims.proofs.{Checks.given-1, Exit.stays, Exiting.branch, Exiting.surely, Growth.Grew, MemoryExits.memory-grew}
+use Rattle.claims.proofs.{TableExits.table-grew, Exits.refusal-leaves, Exits.accepted-when, Exits.accepted-does, Bound.payable}
+use Rattle.claims.proofs.{Bound.affords-is, Bound.fuel-after}
 use Rattle.claims.proofs.Beside.{Beside, beside-same, beside-set, beside-add, beside-none}
+use Rattle.types.specs.declared.answer.Answer.the-variants as answer
+use Rattle.machine.specs.declared.outcome.Change.the-variants as change
+use Rattle.machine.specs.declared.operation.Operation.the-variants as op
+use Rattle.machine.specs.declared.operation.FuelOp.the-variants as fuel
+use Rattle.machine.specs.declared.operation.MemoryOp.the-variants as memory
+use Rattle.machine.specs.declared.operation.TableOp.the-variants as table
+use Rattle.claims.proofs.Growth as growth
 
 -- what the book has of a memory
 abbrev pageSize : Memory → ℕ

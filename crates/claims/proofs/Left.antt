@@ -1,46 +1,30 @@
 -- What an operation that a sound machine accepts leaves of it: records, sizes and the room left; and what a refused one leaves. Assumes nothing.
-use Prim.Native.Nat.{ℕ, _+_, _-_, _≤_, _<_}
-use mathlib.Core.Path.{_≡_, sym, ap, subst, _∙_}
-use mathlib.Core.Bool.{true, false}
-use mathlib.Core.List.{List}
+use Rattle.types.specs.Prelude.{ℕ, _+_, _-_, _≤_, _<_, _≡_, true, false, List, eqb, length, getD}
+use mathlib.Core.Path.{sym, ap, subst, _∙_}
 use native.Mathlib.Omega.{arith}
-use lib.Dec.{eqb}
-use lib.ListN.{length, getD}
 use lib.Seq.{getD-set-same}
 use borrow.Author.Tests.{leb-true, lt-ltb, ltb-true, eqb-false, ne-eqb}
-use Rattle.types.specs.Pick.{pick}
-use Rattle.types.specs.declared.memory_ty.WantedMemory.{WantedMemory}
-use Rattle.types.specs.declared.raw.TypedRawRef.{TypedRawRef}
-use Rattle.types.specs.declared.table_ty.WantedTable.{WantedTable}
+use Rattle.types.specs.Names.{pick, WantedMemory, TypedRawRef, WantedTable}
 use Rattle.types.proofs.Picks.{pick-true, pick-false, both-1, both-2, either}
-use Rattle.memory.specs.Memory as of-memory
-use Rattle.memory.specs.New.{memoryOf, wanted as typeOf, leastBytes as leastOf}
-use Rattle.memory.specs.declared.memory.Memory.{Memory}
+use Rattle.memory.specs.Names.{memoryOf, Memory}
+use Rattle.memory.specs.New.{wanted as typeOf, leastBytes as leastOf}
 use Rattle.memory.proofs.Sounds.{sound-is}
-use Rattle.table.specs.Table as of-table
-use Rattle.table.specs.New.{tableOf, wanted as tableTypeOf}
-use Rattle.table.specs.declared.table.Table.{Table}
+use Rattle.table.specs.Names.{tableOf, Table}
+use Rattle.table.specs.New.{wanted as tableTypeOf}
 use Rattle.table.proofs.Sounds.{sound-size}
-use Rattle.machine.specs.Machine.{Buffers, noMemory, noTable, memoryAt, tableAt, memoryEnd, tableEnd, nextByte, nextCell}
-use Rattle.machine.specs.Sound.{soundList, soundMemories, soundTables, soundOver}
-use Rattle.machine.specs.Frame.{OthersStay, OnlySizes}
-use Rattle.machine.specs.Outcome.{metered, changed}
-use Rattle.machine.specs.Step.{Stepped, step}
-use Rattle.machine.specs.declared.records.Machine.{Machine}
-use Rattle.machine.specs.declared.outcome.Change.the-variants as change
-use Rattle.machine.specs.declared.operation.Operation.{Operation}
-use Rattle.machine.specs.declared.operation.Operation.the-variants as op
-use Rattle.machine.specs.declared.operation.MemoryOp.{MemoryOp}
-use Rattle.machine.specs.declared.operation.TableOp.{TableOp}
-use Rattle.machine.proofs.Laws.{along}
-use Rattle.machine.proofs.ListLaws as lists
-use Rattle.machine.proofs.Rooms.{parts, memory-sound, table-sound}
-use Rattle.machine.proofs.Apart.{others-stay, only-sizes}
-use Rattle.machine.proofs.Kept.{step-sound, step-bytes-long, step-cells-long}
-use Rattle.claims.specs.Answers.{accepted}
-use Rattle.claims.specs.Occasions.{given, holds, checksOf, occasion}
+use Rattle.machine.specs.Names.{Buffers, noMemory, noTable, memoryAt, tableAt, memoryEnd, tableEnd, soundOver, OthersStay, OnlySizes, metered}
+use Rattle.machine.specs.Names.{Stepped, step, Machine, Operation, MemoryOp, TableOp}
+use Rattle.machine.specs.{Machine.nextByte, Machine.nextCell, Sound.soundList, Sound.soundMemories, Sound.soundTables, Outcome.changed}
+use Rattle.machine.proofs.{Laws.along, Rooms.parts, Rooms.memory-sound, Rooms.table-sound, Apart.others-stay, Apart.only-sizes, Kept.step-sound}
+use Rattle.machine.proofs.{Kept.step-bytes-long, Kept.step-cells-long}
+use Rattle.claims.specs.{Answers.accepted, Occasions.given, Occasions.holds, Occasions.checksOf, Occasions.occasion}
 use Rattle.claims.specs.Effects.{memoryEffect, tableEffect, effectOf, effects, acceptedStep}
 use Rattle.claims.proofs.Exits.{refusal-leaves, accepted-when, accepted-does}
+use Rattle.memory.specs.Memory as of-memory
+use Rattle.table.specs.Table as of-table
+use Rattle.machine.specs.declared.outcome.Change.the-variants as change
+use Rattle.machine.specs.declared.operation.Operation.the-variants as op
+use Rattle.machine.proofs.ListLaws as lists
 
 -- a refused operation leaves all but fuel and limiter
 abbrev pub kept : Machine → Buffers → Stepped → Stepped

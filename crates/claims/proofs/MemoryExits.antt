@@ -1,69 +1,37 @@
 -- How every operation on fuel, limiter and memories ends: accepted on its occasion, or refused with all that it leaves. Assumes nothing.
-use Prim.Native.Nat.{ℕ, _+_, _-_, _*_, _/_}
-use mathlib.Core.Path.{_≡_, refl, sym, ap, _∙_}
-use mathlib.Core.Bool.{Bool, true, false}
-use mathlib.Core.List.{List}
-use native.Mathlib.Omega.{arith}
-use native.Mathlib.Nat.{add-mul, div-add-mod'}
-use lib.Dec.{leb, ltb}
-use lib.ListN.{length, replicate}
+use Rattle.types.specs.Prelude.{ℕ, _+_, _-_, _*_, _/_, _≡_, Bool, true, false, List, leb, ltb, length, replicate}
+use mathlib.Core.Path.{refl, sym, ap, _∙_}
+use native.Mathlib.{Omega.arith, Nat.add-mul, Nat.div-add-mod'}
 use borrow.Author.Tests.{ltb-true, ltb-false, le-ltb, le-leb, lt-leb}
-use Rattle.types.specs.Pick.{pick, both}
-use Rattle.types.specs.Done.{Done, done}
-use Rattle.types.specs.Span.{over}
-use Rattle.types.specs.Answer.{refusal, accept}
-use Rattle.types.specs.Price.{price}
-use Rattle.types.specs.Fuel.{paid, setFuel, getFuel, consume, consumeUnchecked}
-use Rattle.types.specs.Limiter.{moved, handOver}
-use Rattle.types.specs.declared.answer.Answer.{Answer}
-use Rattle.types.specs.declared.answer.Answer.the-variants as answer
-use Rattle.types.specs.declared.answer.Refusal.{Refusal}
-use Rattle.types.specs.declared.fuel.Fuel.{Fuel}
-use Rattle.types.specs.declared.fuel.FuelStep.{FuelStep}
-use Rattle.types.specs.declared.limiter.Limiter.{Limiter}
-use Rattle.types.specs.declared.limiter.HandedOver.{HandedOver}
+use Rattle.types.specs.Names.{Done, done, over, refusal, accept, price, paid, moved, Answer, Refusal, Fuel, FuelStep, Limiter, HandedOver, pageBytes}
+use Rattle.types.specs.Names.{BuiltMemory, WantedMemory}
+use Rattle.types.specs.{Pick.pick, Pick.both, Limiter.handOver, MemoryType.buildMemory}
+use Rattle.types.specs.Fuel.{setFuel, getFuel, consume, consumeUnchecked}
 use Rattle.types.proofs.Picks.{pick-true, pick-false, both-true, both-left, both-right, both-then, both-2}
 use Rattle.types.proofs.Spans.{over-nil}
-use Rattle.types.specs.MemoryType.{pageBytes, buildMemory}
-use Rattle.types.specs.declared.memory_ty.BuiltMemory.{BuiltMemory}
-use Rattle.memory.specs.Access.{addressOf, loadedOf, loadFound, loadAt, storeFound, storeAt}
-use Rattle.memory.specs.Memory.{pagesOf, resized, soundMemory, loadMemory, storeMemory}
-use Rattle.memory.specs.New.{refused, newMemory}
-use Rattle.memory.specs.Grow.{answered, mayHave, grownSize, growthPrice, growMemory}
-use Rattle.memory.specs.declared.access.Address.{Address}
-use Rattle.memory.specs.declared.access.Address.the-variants.{At, Outside}
-use Rattle.memory.specs.declared.memory.Memory.{Memory}
-use Rattle.memory.specs.declared.grow.GrownMemory.{GrownMemory}
-use Rattle.memory.specs.declared.new.CreatedMemory.{CreatedMemory}
+use Rattle.memory.specs.Names.{resized, soundMemory, mayHave, grownSize, Memory, GrownMemory, CreatedMemory}
+use Rattle.memory.specs.{Access.addressOf, Access.loadedOf, Access.loadFound, Access.loadAt, Access.storeFound, Access.storeAt, Memory.pagesOf}
+use Rattle.memory.specs.{Memory.loadMemory, Memory.storeMemory, New.refused, New.newMemory, Grow.answered, Grow.growthPrice, Grow.growMemory}
+use Rattle.memory.specs.{declared.access.Address.Address, declared.access.Address.the-variants.At, declared.access.Address.the-variants.Outside}
 use Rattle.memory.proofs.Sounds.{sound-is}
-use Rattle.machine.specs.Machine.{Buffers, buffers, memoryAt}
-use Rattle.machine.specs.Sound.{soundOver}
-use Rattle.machine.specs.Operation.{wellFormed, memoryWellFormed}
-use Rattle.machine.specs.Outcome.{metered}
+use Rattle.machine.specs.Names.{Buffers, buffers, memoryAt, soundOver, metered, Machine, Operation, FuelOp, MemoryOp}
+use Rattle.machine.specs.{Operation.wellFormed, Operation.memoryWellFormed, declared.fueling.Fueled.Fueled, declared.outcome.Outcome.Outcome}
 use Rattle.machine.specs.Fueling.{setBy, chargedBy, handedBy, performFuel, fueled, fueledOut, onFuel}
 use Rattle.machine.specs.Memories.{memoryKept, memoryStored, linked, linkTo, performMemory, memoryDone, onMemory, madeMemory, memoryMade, newMemoryOn}
 use Rattle.machine.specs.Step.{Performed, onNone, onBytes, perform, after}
-use Rattle.machine.specs.declared.fueling.Fueled.{Fueled}
-use Rattle.machine.specs.declared.records.Machine.{Machine}
-use Rattle.machine.specs.declared.outcome.Outcome.{Outcome}
-use Rattle.machine.specs.declared.outcome.Change.the-variants as change
-use Rattle.types.specs.declared.memory_ty.WantedMemory.{WantedMemory}
-use Rattle.machine.specs.declared.operation.Operation.{Operation}
-use Rattle.machine.specs.declared.operation.Operation.the-variants as op
-use Rattle.machine.specs.declared.operation.FuelOp.{FuelOp}
-use Rattle.machine.specs.declared.operation.FuelOp.the-variants as fuel
-use Rattle.machine.specs.declared.operation.MemoryOp.{MemoryOp}
-use Rattle.machine.specs.declared.operation.MemoryOp.the-variants as memory
 use Rattle.machine.proofs.Rooms.{memory-sound, next-byte-inside}
-use Rattle.claims.specs.Answers.{accepted}
-use Rattle.claims.specs.Metered.{memoryMetering, meteringOf, priceOf, affords}
+use Rattle.claims.specs.{Answers.accepted, Metered.memoryMetering, Metered.meteringOf, Metered.priceOf, Metered.affords, Spans.put}
+use Rattle.claims.specs.{Effects.memoryEffect, Effects.fuelEffect, Effects.effectOf, Effects.acceptedStep}
 use Rattle.claims.specs.Occasions.{given, holds, comes, granted, validWanted, reaches, fuelOccasion, memoryChecks, checksOf, occasion, question}
-use Rattle.claims.specs.Spans.{put}
-use Rattle.claims.specs.Effects.{memoryEffect, fuelEffect, effectOf, acceptedStep}
+use Rattle.claims.proofs.{Exit.Exit, Growth.Grew, Growth.grew, Growth.grew-exit}
 use Rattle.claims.proofs.Checks.{given-holds, given-comes, used-holds, used-comes}
-use Rattle.claims.proofs.Exit.{Exit}
-use Rattle.claims.proofs.Exiting.{branch, surely, room-inside, put-back-stays, named, named-7, memory-put-back, Ends, accepted-is, ending, accepting, accepting-by, refusing, leaving-by, leaving, creating, unknown}
-use Rattle.claims.proofs.Growth.{Grew, grew, grew-exit}
+use Rattle.claims.proofs.Exiting.{branch, surely, room-inside, put-back-stays, named, named-7, memory-put-back, Ends, accepted-is, ending}
+use Rattle.claims.proofs.Exiting.{accepting, accepting-by, refusing, leaving-by, leaving, creating, unknown}
+use Rattle.types.specs.declared.answer.Answer.the-variants as answer
+use Rattle.machine.specs.declared.outcome.Change.the-variants as change
+use Rattle.machine.specs.declared.operation.Operation.the-variants as op
+use Rattle.machine.specs.declared.operation.FuelOp.the-variants as fuel
+use Rattle.machine.specs.declared.operation.MemoryOp.the-variants as memory
 
 module _ (r : ℕ) (m : Machine) (b : Buffers) where
   -- what is shown of an operation on fuel and limiter that comes to this

@@ -1,17 +1,11 @@
 -- No run from a fresh machine over sound buffers answers 19. Assumes nothing.
-use Prim.Native.Nat.{ℕ}
-use mathlib.Core.Path.{_≡_, refl, _∙_}
-use mathlib.Core.Bool.{Bool, true}
-use mathlib.Core.List.{List, [], _∷_}
-use lib.ListN.{length}
+use Rattle.types.specs.Prelude.{ℕ, _≡_, Bool, true, List, [], _∷_, length}
+use mathlib.Core.Path.{refl, _∙_}
 use borrow.Author.Tests.{ne-eqb}
-use Rattle.types.specs.declared.fuel.FuelCosts.{FuelCosts}
+use Rattle.types.specs.Names.{FuelCosts}
 use Rattle.types.proofs.Picks.{pick-false}
-use Rattle.machine.specs.Machine.{Buffers, freshMachine}
-use Rattle.machine.specs.Sound.{soundReferences, soundOver}
-use Rattle.machine.specs.Step.{step, run}
-use Rattle.machine.specs.declared.records.Machine.{Machine}
-use Rattle.machine.specs.declared.operation.Operation.{Operation}
+use Rattle.machine.specs.Names.{Buffers, freshMachine, soundReferences, soundOver, step, Machine, Operation}
+use Rattle.machine.specs.Step.{run}
 use Rattle.machine.proofs.Kept.{step-sound, fresh-sound}
 use Rattle.claims.specs.Answers.{never}
 use Rattle.claims.proofs.Exits.{not-unsound}

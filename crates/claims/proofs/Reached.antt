@@ -1,53 +1,34 @@
 -- The bound of demand 3 is the least: a run that writes as many bytes as it allows, for any B, F and K at least 1. Assumes nothing.
-use Prim.Native.Nat.{ℕ, zero, suc, _+_, _-_, _*_, _/_, _^_, _≤_, _<_}
-use mathlib.Core.Path.{_≡_, refl, sym, ap, subst, _∙_}
-use mathlib.Core.Bool.{Bool, true, false}
-use mathlib.Core.List.{List, [], _∷_}
-use native.Mathlib.Omega.{arith}
-use native.Mathlib.Nat.{zero-add, mul-one, zero-mul, div-one, mul-add-div, div-eq-of-lt}
-use lib.Dec.{eqb, leb, ltb}
-use lib.ListN.{length, replicate, length-replicate}
+use Rattle.types.specs.Prelude.{ℕ, zero, suc, _+_, _-_, _*_, _/_, _^_, _≤_, _<_, _≡_, Bool, true, false, List, [], _∷_, eqb, leb, ltb, length}
+use Rattle.types.specs.Prelude.{replicate}
+use mathlib.Core.Path.{refl, sym, ap, subst, _∙_}
+use native.Mathlib.{Omega.arith, Nat.zero-add, Nat.mul-one, Nat.zero-mul, Nat.div-one, Nat.mul-add-div, Nat.div-eq-of-lt}
+use lib.ListN.{length-replicate}
 use borrow.Author.Tests.{le-leb, lt-ltb, eqb-true, eqb-false, ne-eqb}
-use Rattle.types.specs.Pick.{pick, both}
-use Rattle.types.specs.Span.{inside}
-use Rattle.types.specs.Price.{price}
-use Rattle.types.specs.Fuel.{paid}
-use Rattle.types.specs.Limiter.{padded, noLimiter, saysOf, moved}
-use Rattle.types.specs.declared.fuel.Fuel.{Fuel}
-use Rattle.types.specs.declared.limiter.Limiter.{Limiter}
-use Rattle.types.proofs.Picks.{pick-true, pick-false, pick-same, both-true, both-left}
-use Rattle.types.proofs.Prices.{price-word}
-use Rattle.types.specs.Limits.{admitsOf, validLimits}
-use Rattle.types.specs.MemoryType.{pageBound, validMemory}
-use Rattle.types.specs.TableType.{tableBound, validTable, elementMatches}
-use Rattle.types.specs.declared.index_ty.IndexType.the-variants.{I64}
-use Rattle.types.specs.declared.memory_ty.PageSize.the-variants.{One}
-use Rattle.types.specs.Raw.{nullOf}
+use Rattle.types.specs.Names.{price, paid, Fuel, Limiter, nullOf}
+use Rattle.types.specs.{Pick.pick, Pick.both, Span.inside, Limiter.padded, Limiter.noLimiter, Limiter.saysOf, Limiter.moved, Limits.admitsOf}
+use Rattle.types.specs.{Limits.validLimits, MemoryType.pageBound, MemoryType.validMemory, TableType.tableBound, TableType.validTable}
+use Rattle.types.specs.{TableType.elementMatches, declared.index_ty.IndexType.the-variants.I64, declared.memory_ty.PageSize.the-variants.One}
+use Rattle.types.proofs.{Picks.pick-true, Picks.pick-false, Picks.pick-same, Picks.both-true, Picks.both-left, Prices.price-word}
+use Rattle.memory.specs.{Memory.pagesOf, Grow.mayHave}
+use Rattle.machine.specs.Names.{Buffers, noLimits, noMemory, noTable, soundOver, metered, Stepped, step, Machine, Operation}
+use Rattle.machine.specs.{Machine.noSegment, Machine.nextByte, Machine.nextCell, Machine.freshMachine, Sound.soundReferences, Outcome.changed}
+use Rattle.machine.proofs.Kept.{fresh-sound, step-sound, step-bytes-long}
+use Rattle.lines.specs.Session.{costsOf}
+use Rattle.claims.specs.Answers.{accepted}
+use Rattle.claims.specs.Metered.{memoryMetering, tableMetering, meteringOf, metering, priceOf, affords, grants, passes}
+use Rattle.claims.specs.Occasions.{given, holds, validWanted, fuelOccasion, memoryChecks, tableChecks, checksOf, occasion, question}
+use Rattle.claims.specs.Occasions.{acceptedWhen}
+use Rattle.claims.specs.Effects.{memoryEffect, tableEffect, fuelEffect, effectOf, acceptedStep}
+use Rattle.claims.specs.Bound.{Totals, wrote, pays, totals, mostBytes, pass, fullestRun, zeros}
+use Rattle.claims.proofs.{Checks.given-holds, Checks.growing-holds, Exiting.branch, Exits.accepted-when, Exits.accepted-does}
+use Rattle.claims.proofs.{Bound.passes-accepted, Bound.pays-price}
 use Rattle.types.specs.declared.raw.RefType.the-variants as ref
-use Rattle.memory.specs.Memory.{pagesOf}
-use Rattle.memory.specs.Grow.{mayHave}
-use Rattle.machine.specs.Machine.{Buffers, noLimits, noMemory, noTable, noSegment, nextByte, nextCell, freshMachine}
-use Rattle.machine.specs.Sound.{soundReferences, soundOver}
 use Rattle.machine.specs.Operation as operation
-use Rattle.machine.specs.Outcome.{changed, metered}
-use Rattle.machine.specs.Step.{Stepped, step}
-use Rattle.machine.specs.declared.records.Machine.{Machine}
-use Rattle.machine.specs.declared.operation.Operation.{Operation}
 use Rattle.machine.specs.declared.operation.Operation.the-variants as op
 use Rattle.machine.specs.declared.operation.FuelOp.the-variants as fuel
 use Rattle.machine.specs.declared.operation.MemoryOp.the-variants as memory
 use Rattle.machine.specs.declared.operation.TableOp.the-variants as table
-use Rattle.lines.specs.Session.{costsOf}
-use Rattle.machine.proofs.Kept.{fresh-sound, step-sound, step-bytes-long}
-use Rattle.claims.specs.Answers.{accepted}
-use Rattle.claims.specs.Metered.{memoryMetering, tableMetering, meteringOf, metering, priceOf, affords, grants, passes}
-use Rattle.claims.specs.Occasions.{given, holds, validWanted, fuelOccasion, memoryChecks, tableChecks, checksOf, occasion, question, acceptedWhen}
-use Rattle.claims.specs.Effects.{memoryEffect, tableEffect, fuelEffect, effectOf, acceptedStep}
-use Rattle.claims.specs.Bound.{Totals, wrote, pays, totals, mostBytes, pass, fullestRun, zeros}
-use Rattle.claims.proofs.Checks.{given-holds, growing-holds}
-use Rattle.claims.proofs.Exiting.{branch}
-use Rattle.claims.proofs.Exits.{accepted-when, accepted-does}
-use Rattle.claims.proofs.Bound.{passes-accepted, pays-price}
 
 -- the price of f units and what is short of one more
 price-most : (b f : ℕ) → 1 ≤ b → b * f + (b - 1) < 2 ^ 64 → price b (b * f + (b - 1)) ≡ f

@@ -1,23 +1,13 @@
 -- The script after every operation, accepted or refused. Assumes nothing.
-use Prim.Native.Nat.{ℕ}
-use mathlib.Core.Path.{_≡_, sym, ap, _∙_}
-use mathlib.Core.Bool.{true}
-use Rattle.types.specs.declared.limiter.Limiter.{Limiter}
+use Rattle.types.specs.Prelude.{ℕ, _≡_, true}
+use mathlib.Core.Path.{sym, ap, _∙_}
+use Rattle.types.specs.Names.{Limiter}
 use Rattle.types.proofs.Picks.{pick-true, both-1, both-2, either}
-use Rattle.machine.specs.Machine.{Buffers}
-use Rattle.machine.specs.Sound.{soundOver}
-use Rattle.machine.specs.Operation.{wellFormed}
-use Rattle.machine.specs.Step.{Stepped, step}
-use Rattle.machine.specs.declared.records.Machine.{Machine}
-use Rattle.machine.specs.declared.operation.Operation.{Operation}
-use Rattle.claims.specs.Answers.{accepted}
-use Rattle.claims.specs.Occasions.{checks, occasion}
-use Rattle.claims.specs.Effects.{asked, acceptedStep}
-use Rattle.claims.specs.Script.{replaced, scriptAfter}
-use Rattle.claims.proofs.Checks.{grant-of}
+use Rattle.machine.specs.Names.{Buffers, soundOver, wellFormed, Stepped, step, Machine, Operation}
+use Rattle.claims.specs.{Answers.accepted, Occasions.checks, Occasions.occasion, Effects.asked, Effects.acceptedStep, Script.replaced}
+use Rattle.claims.specs.{Script.scriptAfter}
+use Rattle.claims.proofs.{Checks.grant-of, Exiting.branch, Exits.refusal-script, Exits.accepted-when, Exits.accepted-does}
 use Rattle.claims.proofs.Heard.{onward, refused-leaves, no-question, heard-done, moved-once}
-use Rattle.claims.proofs.Exiting.{branch}
-use Rattle.claims.proofs.Exits.{refusal-script, accepted-when, accepted-does}
 
 -- an accepted operation on a sound machine moves it by its one question, if it comes to that
 accepted-script : (r : ℕ) (m : Machine) (b : Buffers) (op : Operation) → soundOver m b ≡ true → wellFormed op ≡ true → occasion r m b op ≡ true

@@ -1,22 +1,15 @@
 -- A session's bytes are the answer lines of the run of what its lines say. Assumes nothing.
-use Prim.Native.Nat.{ℕ}
-use mathlib.Core.Path.{_≡_, refl, ap}
-use mathlib.Core.Bool.{true, false}
-use mathlib.Core.List.{List, [], _∷_, _++_}
+use Rattle.types.specs.Prelude.{ℕ, _≡_, true, false, List, [], _∷_, _++_}
+use mathlib.Core.Path.{refl, ap}
+use Rattle.types.specs.Names.{Answer, refuse, accept}
 use Rattle.types.specs.Pick.{pick}
-use Rattle.types.specs.declared.answer.Answer.{Answer}
-use Rattle.types.specs.Answer.{refuse, accept}
-use Rattle.machine.specs.Machine.{Buffers, freshMachine}
-use Rattle.machine.specs.Step.{step, run}
-use Rattle.machine.specs.declared.records.Machine.{Machine}
-use Rattle.machine.specs.declared.operation.Operation.{Operation}
-use Rattle.lines.specs.AnswerLine.{answerLine}
-use Rattle.lines.specs.Code.{readLine}
+use Rattle.machine.specs.Names.{Buffers, freshMachine, step, Machine, Operation}
+use Rattle.machine.specs.Step.{run}
+use Rattle.lines.specs.{AnswerLine.answerLine, Code.readLine, declared.code.Read.Read}
 use Rattle.lines.specs.Session.{Held, costsOf, turnBy, turnOf, textOf, linesOf, answersOf, session}
-use Rattle.lines.specs.declared.code.Read.{Read}
-use Rattle.lines.specs.declared.code.Read.the-variants as read
 use Rattle.claims.specs.Metered.{metering}
 use Rattle.claims.specs.Sessions.{replies, answersIn, readAll, operationsIn, lined, replyText, runText, sessionText}
+use Rattle.lines.specs.declared.code.Read.the-variants as read
 
 -- the replies' answers are the run's
 pub replies-run : (r : ℕ) (m : Machine) (b : Buffers) (ops : List Operation) → answersIn (replies r m b ops) ≡ run r m b ops .answers

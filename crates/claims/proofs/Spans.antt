@@ -1,46 +1,28 @@
 -- An accepted operation writes one span inside its buffer and nothing else, and what the bound counts is that span's bytes. Assumes nothing.
-use Prim.Native.Nat.{ℕ, _+_, _-_, _*_, _≤_}
-use mathlib.Core.Path.{_≡_, refl, sym, ap, subst, _∙_}
-use mathlib.Core.Bool.{Bool, true, false, false≢true}
-use mathlib.Core.List.{List}
+use Rattle.types.specs.Prelude.{ℕ, _+_, _-_, _*_, _≤_, _≡_, Bool, true, false, List, eqb, ltb, length, getD, replicate}
+use mathlib.Core.{Path.refl, Path.sym, Path.ap, Path.subst, Path._∙_, Bool.false≢true}
 use native.Mathlib.Omega.{arith}
-use lib.Dec.{eqb, ltb}
-use lib.ListN.{length, getD, replicate, length-replicate}
-use lib.Seq.{getD-take, getD-drop}
+use lib.{ListN.length-replicate, Seq.getD-take, Seq.getD-drop}
 use borrow.Author.Tests.{le-leb, leb-true, ltb-true, eqb-true}
-use Rattle.types.specs.Span.{inside, cut, over}
-use Rattle.types.specs.MemoryType.{pageBytes}
+use Rattle.types.specs.Names.{cut, over, pageBytes}
+use Rattle.types.specs.Span.{inside}
+use Rattle.types.proofs.{Spans.within-is, Spans.length-over, Spans.over-before, Spans.over-after, Moves.length-cut}
 use Rattle.types.proofs.Picks.{pick-true, pick-false, both-true, both-right, both-1, both-2, either}
-use Rattle.types.proofs.Spans.{within-is, length-over, over-before, over-after}
-use Rattle.types.proofs.Moves.{length-cut}
-use Rattle.memory.specs.Access.{widthBytes, storeWidth}
-use Rattle.memory.specs.LittleEndian.{leBytes}
-use Rattle.memory.specs.New.{leastBytes}
-use Rattle.memory.specs.Grow.{grownSize}
-use Rattle.memory.proofs.Sounds.{sound-is}
-use Rattle.memory.proofs.Bytes.{length-bytes}
+use Rattle.memory.specs.Names.{widthBytes, storeWidth, leBytes, leastBytes, grownSize}
+use Rattle.memory.proofs.{Sounds.sound-is, Bytes.length-bytes}
 use Rattle.table.proofs.Sounds.{sound-room, sound-size, segment-places}
-use Rattle.machine.specs.Machine.{Buffers, memoryAt, tableAt, segmentAt, nextByte, nextCell, nextItem}
-use Rattle.machine.specs.Sound.{soundOver}
-use Rattle.machine.specs.Operation.{itemsOf}
-use Rattle.machine.specs.Step.{Stepped, step}
-use Rattle.machine.specs.declared.records.Machine.{Machine}
-use Rattle.machine.specs.declared.operation.Operation.{Operation}
-use Rattle.machine.specs.declared.operation.Operation.the-variants as op
-use Rattle.machine.specs.declared.operation.MemoryOp.{MemoryOp}
-use Rattle.machine.specs.declared.operation.MemoryOp.the-variants as memory
-use Rattle.machine.specs.declared.operation.TableOp.{TableOp}
-use Rattle.machine.specs.declared.operation.TableOp.the-variants as table
+use Rattle.machine.specs.Names.{Buffers, memoryAt, tableAt, segmentAt, nextByte, nextCell, nextItem, soundOver, itemsOf, Stepped, step, Machine}
+use Rattle.machine.specs.Names.{Operation, MemoryOp, TableOp}
 use Rattle.machine.proofs.Rooms.{memory-sound, table-sound, segment-sound, next-byte-inside, next-cell-inside, next-item-inside}
-use Rattle.claims.specs.Answers.{accepted}
-use Rattle.claims.specs.Metered.{memoryMetering, tableMetering, meteringOf, metering}
+use Rattle.claims.specs.{Answers.accepted, Metered.memoryMetering, Metered.tableMetering, Metered.meteringOf, Metered.metering, Bound.wrote}
 use Rattle.claims.specs.Occasions.{holds, granted, reaches, memoryChecks, tableChecks, checksOf, occasion}
 use Rattle.claims.specs.Spans.{Span, Nowhere, InBytes, InCells, InItems, put, spanBytes, fits, AllBut, OnlyIn, WritesSpan}
 use Rattle.claims.specs.Effects.{memoryEffect, tableEffect, effectOf, effects, acceptedStep}
-use Rattle.claims.specs.Bound.{wrote}
-use Rattle.claims.proofs.Checks.{given-1, given-2, growing-some}
-use Rattle.claims.proofs.MemoryExits.{more-bytes}
-use Rattle.claims.proofs.Exits.{refusal-leaves, accepted-when, accepted-does}
+use Rattle.claims.proofs.{Checks.given-1, Checks.given-2, Checks.growing-some, MemoryExits.more-bytes, Exits.refusal-leaves}
+use Rattle.claims.proofs.{Exits.accepted-when, Exits.accepted-does}
+use Rattle.machine.specs.declared.operation.Operation.the-variants as op
+use Rattle.machine.specs.declared.operation.MemoryOp.the-variants as memory
+use Rattle.machine.specs.declared.operation.TableOp.the-variants as table
 
 -- a span replaced inside a list leaves what lies before it and from its end on
 all-but : (l : List ℕ) (at : ℕ) (new : List ℕ) → inside at (length new) (length l) ≡ true → AllBut at (length new) l (over l at new)

@@ -1,29 +1,17 @@
 -- Small laws of how operations on tables and segments end: kinds, spans of no cells, and what is soundly made or named. Assumes nothing.
-use Prim.Native.Nat.{ℕ, _-_, _^_, _≤_, _<_}
-use mathlib.Core.Path.{_≡_, refl, ap, _∙_}
-use mathlib.Core.Bool.{true}
-use mathlib.Core.List.{List}
+use Rattle.types.specs.Prelude.{ℕ, _-_, _^_, _≤_, _<_, _≡_, true, List, leb, ltb, length}
+use mathlib.Core.Path.{refl, ap, _∙_}
 use native.Mathlib.Omega.{arith}
-use lib.Dec.{leb, ltb}
-use lib.ListN.{length}
 use borrow.Author.Tests.{le-leb, ltb-true, ltb-false}
-use Rattle.types.specs.Pick.{pick}
-use Rattle.types.specs.Span.{inside, cut, over}
-use Rattle.types.proofs.Spans.{over-nil}
-use Rattle.types.proofs.Picks.{pick-true, pick-same, both-true, both-1, both-2, either}
-use Rattle.types.specs.Raw.{sameKind}
-use Rattle.types.specs.TableType.{elementMatches}
-use Rattle.types.specs.declared.table_ty.TableType.{TableType}
-use Rattle.types.specs.declared.raw.RefType.{RefType}
-use Rattle.types.specs.declared.raw.RefType.the-variants.{Func, Extern}
-use Rattle.table.specs.Table.{soundBuffer}
-use Rattle.table.specs.Copy.{roomsApart, soundTwo}
-use Rattle.table.specs.declared.table.Table.{Table}
-use Rattle.machine.specs.Machine.{Buffers, tableAt, noTable, tableEnd, nextCell, nextItem}
-use Rattle.machine.specs.Sound.{soundTables, soundReferences, soundOver}
-use Rattle.machine.specs.declared.records.Machine.{Machine}
-use Rattle.machine.proofs.ListLaws.{rooms-apart}
-use Rattle.machine.proofs.Rooms.{parts, table-sound, next-cell-inside, next-item-inside}
+use Rattle.types.specs.Names.{pick, over, TableType, RefType}
+use Rattle.types.specs.{Span.inside, Span.cut, Raw.sameKind, TableType.elementMatches, declared.raw.RefType.the-variants.Func}
+use Rattle.types.specs.{declared.raw.RefType.the-variants.Extern}
+use Rattle.types.proofs.{Spans.over-nil, Picks.pick-true, Picks.pick-same, Picks.both-true, Picks.both-1, Picks.both-2, Picks.either}
+use Rattle.table.specs.Names.{Table}
+use Rattle.table.specs.{Table.soundBuffer, Copy.roomsApart, Copy.soundTwo}
+use Rattle.machine.specs.Names.{Buffers, tableAt, noTable, tableEnd, nextCell, nextItem, soundOver, Machine}
+use Rattle.machine.specs.Sound.{soundTables, soundReferences}
+use Rattle.machine.proofs.{ListLaws.rooms-apart, Rooms.parts, Rooms.table-sound, Rooms.next-cell-inside, Rooms.next-item-inside}
 use Rattle.claims.proofs.Exiting.{room-inside}
 
 -- a room that fits what is left of a buffer is sound

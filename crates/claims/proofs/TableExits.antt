@@ -1,67 +1,34 @@
 -- How every operation on tables and segments ends: accepted on its occasion, or refused with all that it leaves. Assumes nothing.
-use Prim.Native.Nat.{ℕ, _+_}
-use mathlib.Core.Path.{_≡_, refl, sym, ap, subst, _∙_}
-use mathlib.Core.Bool.{Bool, true, false}
-use mathlib.Core.List.{List}
+use Rattle.types.specs.Prelude.{ℕ, _+_, _≡_, Bool, true, false, List, leb, ltb, length, replicate}
+use mathlib.Core.Path.{refl, sym, ap, subst, _∙_}
 use native.Mathlib.Omega.{arith}
-use lib.Dec.{leb, ltb}
-use lib.ListN.{length, replicate}
 use borrow.Author.Tests.{leb-true, leb-false, ltb-true, lt-ltb, le-ltb, eqb-true, eqb-false}
+use Rattle.types.specs.Names.{Done, done, over, refusal, accept, paid, moved, Answer, Spanned, RefType, TypedRawRef, maxSize, admitsOf}
+use Rattle.types.specs.Names.{elementMatches, WantedTable, CopySpan}
 use Rattle.types.specs.Pick.{both}
-use Rattle.types.specs.Done.{Done, done}
-use Rattle.types.specs.Span.{over}
-use Rattle.types.specs.Answer.{refusal, accept}
-use Rattle.types.specs.Fuel.{paid}
-use Rattle.types.specs.Limiter.{moved}
-use Rattle.types.specs.declared.answer.Answer.{Answer}
-use Rattle.types.specs.declared.answer.Answer.the-variants as answer
-use Rattle.types.specs.declared.grant.Spanned.{Spanned}
-use Rattle.types.specs.declared.raw.RefType.{RefType}
-use Rattle.types.specs.declared.raw.TypedRawRef.{TypedRawRef}
 use Rattle.types.proofs.Picks.{pick-true, pick-false, both-true, both-left, both-right, both-then, both-1, both-2}
 use Rattle.types.proofs.Spans.{over-nil}
-use Rattle.types.specs.IndexType.{maxSize}
-use Rattle.types.specs.Limits.{admitsOf}
-use Rattle.types.specs.TableType.{elementMatches}
-use Rattle.table.specs.Table.{resized, soundTable, getTable, setSound, setTable}
-use Rattle.table.specs.New.{refused, newTable}
-use Rattle.table.specs.Grow.{answered, cellsPrice, growTable}
-use Rattle.table.specs.Fill.{fillTable}
-use Rattle.table.specs.Copy.{copyTable, copyWithin}
-use Rattle.table.specs.Init.{initTable}
-use Rattle.table.specs.Element.{newSegment}
-use Rattle.table.specs.declared.table.Table.{Table}
-use Rattle.table.specs.declared.grow.GrownTable.{GrownTable}
-use Rattle.table.specs.declared.new.CreatedTable.{CreatedTable}
-use Rattle.table.specs.declared.element.MadeSegment.{MadeSegment}
-use Rattle.machine.specs.Machine.{Buffers, buffers, tableAt}
-use Rattle.machine.specs.Sound.{soundOver}
-use Rattle.machine.specs.Operation.{wellFormed}
-use Rattle.machine.specs.Outcome.{metered}
-use Rattle.machine.specs.Tables.{tableKept, tableStored, tableSpanned, performTable, tableDone, onTable, spannedDone, copyKnown, copyOn, madeTable, tableMade, newTableOn}
-use Rattle.machine.specs.Segments.{initOn, dropOn, madeSegment, segmentMade, newSegmentOn}
-use Rattle.machine.specs.Step.{Performed, onNone, onCells, onItems, perform, after}
-use Rattle.machine.specs.declared.records.Machine.{Machine}
-use Rattle.machine.specs.declared.outcome.Outcome.{Outcome}
-use Rattle.machine.specs.declared.outcome.Change.the-variants as change
-use Rattle.types.specs.declared.table_ty.WantedTable.{WantedTable}
-use Rattle.types.specs.declared.span.CopySpan.{CopySpan}
-use Rattle.machine.specs.declared.operation.Items.{Items}
-use Rattle.machine.specs.declared.operation.Operation.{Operation}
-use Rattle.machine.specs.declared.operation.Operation.the-variants as op
-use Rattle.machine.specs.declared.operation.TableOp.{TableOp}
-use Rattle.machine.specs.declared.operation.TableOp.the-variants as table
+use Rattle.table.specs.Names.{resized, soundTable, Table, GrownTable, CreatedTable, MadeSegment}
+use Rattle.table.specs.{Table.getTable, Table.setSound, Table.setTable, New.refused, New.newTable, Grow.answered, Grow.cellsPrice, Grow.growTable}
+use Rattle.table.specs.{Fill.fillTable, Copy.copyTable, Copy.copyWithin, Init.initTable, Element.newSegment}
+use Rattle.machine.specs.Names.{Buffers, buffers, tableAt, soundOver, metered, Machine, Items, Operation, TableOp}
+use Rattle.machine.specs.{Operation.wellFormed, Segments.initOn, Segments.dropOn, Segments.madeSegment, Segments.segmentMade, Segments.newSegmentOn}
+use Rattle.machine.specs.{Step.Performed, Step.onNone, Step.onCells, Step.onItems, Step.perform, Step.after, declared.outcome.Outcome.Outcome}
+use Rattle.machine.specs.Tables.{tableKept, tableStored, tableSpanned, performTable, tableDone, onTable, spannedDone, copyKnown, copyOn, madeTable}
+use Rattle.machine.specs.Tables.{tableMade, newTableOn}
 use Rattle.machine.proofs.Rooms.{table-sound, segment-sound}
-use Rattle.claims.specs.Answers.{accepted}
+use Rattle.claims.specs.{Answers.accepted, Spans.put, Effects.tableEffect, Effects.effectOf, Effects.acceptedStep}
 use Rattle.claims.specs.Metered.{tableMetering, meteringOf, priceOf, affords}
 use Rattle.claims.specs.Occasions.{given, holds, comes, granted, tableChecks, checksOf, occasion, question}
-use Rattle.claims.specs.Spans.{put}
-use Rattle.claims.specs.Effects.{tableEffect, effectOf, acceptedStep}
+use Rattle.claims.proofs.{Exit.Exit, Exit.accepts, Growth.Grew, Growth.grew, Growth.grew-exit}
 use Rattle.claims.proofs.Checks.{given-holds, given-comes, growing, used-holds, used-comes}
-use Rattle.claims.proofs.Exit.{Exit, accepts}
-use Rattle.claims.proofs.Exiting.{branch, surely, put-back-stays, named, table-put-back, nothing-put, Ends, accepted-is, ending, accepting, accepting-paid, accepting-by, refusing, leaving-by, leaving, creating, paying, spanning, unknown}
-use Rattle.claims.proofs.Growth.{Grew, grew, grew-exit}
+use Rattle.claims.proofs.Exiting.{branch, surely, put-back-stays, named, table-put-back, nothing-put, Ends, accepted-is, ending, accepting}
+use Rattle.claims.proofs.Exiting.{accepting-paid, accepting-by, refusing, leaving-by, leaving, creating, paying, spanning, unknown}
 use Rattle.claims.proofs.TableExiting.{cells-sound, items-sound, own-kind, over-none, two-sound}
+use Rattle.types.specs.declared.answer.Answer.the-variants as answer
+use Rattle.machine.specs.declared.outcome.Change.the-variants as change
+use Rattle.machine.specs.declared.operation.Operation.the-variants as op
+use Rattle.machine.specs.declared.operation.TableOp.the-variants as table
 
 module _ (r : ℕ) (m : Machine) (b : Buffers) where
   -- 20: 17, 1, 14, limiter 3/4, 5 with notice
