@@ -1,7 +1,7 @@
 -- Document 01, "Checked by proof", P1 to P11: the definitions, computed, as one list with one claim.
 use Rattle.types.specs.Prelude.{ℕ, _+_, _-_, _^_, Bool, true, false, List, [], _∷_, _++_, eqb, replicate}
 use Rattle.types.specs.Names.{both, price, newFuel, noLimiter, numberOf, shownOf, buildMemory, nullOf, rawBytes}
-use Rattle.types.specs.Names.{Answer, IndexType, Limits, BuiltMemory, CopySpan, RefType}
+use Rattle.types.specs.Names.{Answer, IndexType, Limits, BuiltMemory, RefType}
 use Rattle.memory.specs.Names.{LoadKind, StoreKind}
 use Rattle.table.specs.Names.{growTable, Table}
 use Rattle.machine.specs.Names.{buffers, freshMachine, run, Operation, FuelOp, MemoryOp, TableOp}
@@ -59,9 +59,9 @@ growAndFill n =
     ∷ Operation.Fuel FuelOp.GetFuel
     ∷ []
 
--- no cells, to a place
-abbrev pub noCells : ℕ → CopySpan
-noCells to = record { to = to; from = 0; len = 0 }
+-- an init of length 0
+abbrev pub init : ℕ → Operation
+init to = Operation.TableInit 0 0 (record { to = to; from = 0; len = 0 })
 
 -- a memory of one byte that holds ff
 abbrev pub byteFf : List Operation
@@ -109,9 +109,11 @@ cases =
     ∷ eqb (builtNumber (buildMemory true (atLeast (2 ^ 48)) 16)) 0
     ∷ same (answeredAt rawBytes 64 (Operation.NewMemory 0 (record { wide = true; limits = atLeast (2 ^ 48); exponent = 16 }) ∷ [])) (2 ∷ 0 ∷ [])
     -- P7: init of length 0 at the size passes, one further 13
-    ∷ same (answeredAt rawBytes 64 (tableAndSegment ++ (Operation.TableInit 0 0 (noCells 2) ∷ Operation.TableInit 0 0 (noCells 3) ∷ []))) (0 ∷ 0 ∷ 0 ∷ 0 ∷ 0 ∷ 0 ∷ 13 ∷ 0 ∷ [])
+    ∷ same (answeredAt rawBytes 64 (tableAndSegment ++ (init 2 ∷ init 3 ∷ []))) (0 ∷ 0 ∷ 0 ∷ 0 ∷ 0 ∷ 0 ∷ 13 ∷ 0 ∷ [])
     -- P8: B 0, fuel 5: copy of length 0 gives 7 with 2^64-1, init of length 0 passes
-    ∷ same (answeredAt rawBytes 0 (Operation.Fuel (FuelOp.SetFuel 5) ∷ (tableAndSegment ++ (Operation.TableCopy 0 0 (noCells 0) ∷ Operation.TableInit 0 0 (noCells 0) ∷ []))))
+    ∷ same
+    (answeredAt rawBytes 0
+    (Operation.Fuel (FuelOp.SetFuel 5) ∷ (tableAndSegment ++ (Operation.TableCopy 0 0 (record { to = 0; from = 0; len = 0 }) ∷ init 0 ∷ []))))
     (0 ∷ 0 ∷ 0 ∷ 0 ∷ 0 ∷ 0 ∷ 7 ∷ (2 ^ 64 - 1) ∷ 0 ∷ 0 ∷ [])
     -- P9: byte ff: i32 from 8s is -1, i64 from 8u is 255
     ∷ same (answeredAt rawBytes 64 (byteFf ++ (loads LoadKind.I32From8S 0 0 ∷ loads LoadKind.I64From8U 0 0 ∷ [])))

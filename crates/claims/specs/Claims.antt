@@ -18,11 +18,11 @@ use Rattle.lines.specs.Session.{Held, costsOf, linesOf, session}
 use Rattle.lines.proofs.Pieces.{started}
 use Rattle.lent.proofs.operate.operate_kept.Reads as lent-reads
 use Rattle.lent.proofs.operate.operate_kept.Kinds as lent-kinds
-use Rattle.claims.specs.{Answers.accepted, Answers.valueOrListed, Answers.never, Metered.Leaves, Occasions.acceptedWhen, Effects.effects, Effects.acceptedStep}
-use Rattle.claims.specs.{Bound.wrote, Bound.totals, Bound.mostR, Bound.mostBytes, Bound.fullestRun, Bound.zeros, Ledger.blank, Ledger.limiterSays}
-use Rattle.claims.specs.{Metered.metering, Spans.spanBytes, Spans.WritesSpan}
-use Rattle.claims.specs.{Ledger.book, Cases.allHold, Cases.cases, Sessions.readAll, Sessions.replies, Sessions.answersIn}
-use Rattle.claims.specs.{Script.scriptAfter, Sessions.sessionText, Alike.Watched, Alike.namesOnly, Alike.allNameOnly, Alike.Agree, Alike.SameStep, Alike.SameRun}
+use Rattle.claims.specs.{Answers.accepted, Answers.valueOrListed, Answers.never, Metered.Leaves, Metered.metering, Occasions.acceptedWhen}
+use Rattle.claims.specs.{Effects.effects, Effects.acceptedStep, Spans.spanBytes, Spans.WritesSpan, Script.scriptAfter, Bound.wrote, Bound.totals}
+use Rattle.claims.specs.{Bound.mostR, Bound.mostBytes, Bound.fullestRun, Bound.zeros, Ledger.blank, Ledger.limiterSays, Ledger.book, Alike.Watched}
+use Rattle.claims.specs.{Alike.namesOnly, Alike.allNameOnly, Alike.Agree, Alike.SameStep, Alike.SameRun, Sessions.readAll, Sessions.replies}
+use Rattle.claims.specs.{Sessions.answersIn, Sessions.sessionText, Cases.allHold, Cases.cases}
 
 -- R, the bytes that a reference counts, is a number of its own in every claim; the machine's is 4
 pub record Claims : Type 0 where

@@ -16,6 +16,7 @@ pub record OnOne : Type 0 where
   pub size : ℕ
   pub span : Span
 
+-- from its three parts
 abbrev pub onOne : Answer → ℕ → Span → OnOne
 onOne a n s = record { answer = a; size = n; span = s }
 
@@ -49,11 +50,12 @@ pub record Effect : Type 0 where
   pub out : Outcome
   pub span : Span
 
+-- from all its parts
 abbrev pub effect : Answer → Change → Counts → Fuel → Limiter → Span → Effect
 effect a c k f l s = record { out = record { answer = a; change = c; counts = k; fuel = f; limiter = l }; span = s }
 
--- with the fuel f after the fuel step and the limiter l after its question: a creation takes the next number and answers it; of a record in use only the size
--- may be another; a copy and an init write what their source held before
+-- with the fuel after the fuel step and the limiter after its question: a creation takes the next number and answers it; of a record in use only the
+-- size may be another; a copy and an init write what their source held before
 unfoldable pub effectOf : Machine → Buffers → Fuel → Limiter → Operation → Effect
 effectOf m b f l (Operation.Fuel o) =
     let d = fuelEffect f l o in
@@ -84,17 +86,19 @@ effectOf m b f l (Operation.NewSegment element items) =
     effect (accept (m .counts .segments)) (Change.Segment (m .counts .segments) (record { ty = element; start = nextItem m; places = n; size = n }))
     (oneSegmentMore (m .counts)) f l (InItems (nextItem m) (itemsOf items))
 
--- the fuel after the fuel step, and the limiter after its question, where it comes to them
+-- the fuel after the fuel step, where an operation meets it
 abbrev pub spent : ℕ → Machine → Operation → Fuel
 spent r m op = pick (metering r m op .meets) (paid (m .fuel) (priceOf r m op)) (m .fuel)
 
+-- the limiter after its question, where the operation comes to it
 abbrev pub asked : ℕ → Machine → Buffers → Operation → Limiter
 asked r m b op = pick (question r m b op) (moved (m .limiter)) (m .limiter)
 
--- an accepted operation, whole
+-- what an operation does where a machine accepts it
 abbrev pub effects : ℕ → Machine → Buffers → Operation → Effect
 effects r m b op = effectOf m b (spent r m op) (asked r m b op) op
 
+-- an accepted operation, whole
 unfoldable pub acceptedStep : ℕ → Machine → Buffers → Operation → Stepped
 unfolding settled
 acceptedStep r m b op =

@@ -16,6 +16,7 @@ pub record Book : Type 0 where
   pub pages : List ℕ
   pub tables : List Row
 
+-- nothing entered
 abbrev pub blank : Book
 blank = record { set = 0; since = 0; pages = []; tables = [] }
 
@@ -26,6 +27,7 @@ charged k n = record { set = k .set; since = k .since + n; pages = k .pages; tab
 abbrev pub withTables : Book → List Row → Book
 withTables k rows = record { set = k .set; since = k .since; pages = k .pages; tables = rows }
 
+-- the row of a table
 abbrev pub rowAt : Book → ℕ → Row
 rowAt k i = getD (k .tables) i (record { limits = noLimits; size = 0 })
 

@@ -47,10 +47,11 @@ meteringOf r page (Operation.TableInit table segment span) = record { more = 0; 
 meteringOf r page (Operation.DropSegment segment) = free
 meteringOf r page (Operation.NewSegment element items) = free
 
--- on a machine, with its price
+-- of any operation on a machine
 abbrev pub metering : ℕ → Machine → Operation → Metering
 metering r m op = meteringOf r (λ i. pageBytes (memoryAt m i .ty .page)) op
 
+-- the price of its byte length
 abbrev pub priceOf : ℕ → Machine → Operation → ℕ
 priceOf r m op = price (m .fuel .costs .copied) (metering r m op .bytes)
 
@@ -62,7 +63,7 @@ affords m p = pick (m .fuel .enabled) (leb p (m .fuel .remaining)) true
 unfoldable pub grants : ℕ → Bool
 grants said = pick (eqb said 1) false (pick (eqb said 2) false true)
 
--- a growth that paid and is refused: at 8, or at 4 in the notice after 8: the limiter granted the growth, and without a limiter the answer is 8
+-- a growth that paid and is refused: at 8, or at 4 in the notice after 8, that is, the limiter granted it, and without a limiter the answer is 8
 unfoldable pub paidRefusal : ℕ → Machine → Buffers → Operation → Bool
 paidRefusal r m b op =
     let number = numberOf (step r m b op .answer) in

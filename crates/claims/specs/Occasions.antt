@@ -47,7 +47,7 @@ fuelOccasion m FuelOp.GetFuel = m .fuel .enabled
 fuelOccasion m (FuelOp.Charge units) = both (m .fuel .enabled) (leb units (m .fuel .remaining))
 fuelOccasion m (FuelOp.SetLimiter script) = wellFormedScript (scriptOf script)
 
--- 11 to 14 and 30, of a memory in use. 11: by 0 always; else the bounds allow the pages, granted, paid, and they fit the room
+-- 11 to 14 and 30, of a memory in use, where the price is there or not. 11: by 0 always; else the bounds allow the pages, granted, paid and in the room
 unfoldable pub memoryChecks : Memory → Bool → MemoryOp → Checks
 memoryChecks x pays (MemoryOp.Grow pages) =
     pick (eqb pages 0) (Unasked true) (Asked (mayHave (x .ty) (pagesOf x + pages)) (both pays (leb (grownSize x pages) (x .room))))
@@ -73,8 +73,8 @@ abbrev pub moves : Bool → Bool → CopySpan → ℕ → ℕ → Bool → Bool
 moves used kind s into source pays =
     both used (both kind (both (both (inside (s .to) (s .len) into) (inside (s .from) (s .len) source)) pays))
 
--- on a sound machine, with nothing said wrongly, where the price is there or not. 10 and 20: a number and the room are free, the type is valid, its minimum
--- below 2^64 bytes or the initial reference of its kind, granted, and it fits the room; 27 of length 0 pays nothing
+-- of any operation, on a sound machine, with nothing said wrongly. 10 and 20: a number and the room are free, the type is valid, 10's minimum is below 2^64
+-- bytes, 20's initial reference of its kind, granted, and it fits the room. 27 pays nothing where its length is 0
 unfoldable pub checksOf : Machine → Buffers → Bool → Operation → Checks
 checksOf m b pays (Operation.Fuel o) = Unasked (fuelOccasion m o)
 checksOf m b pays (Operation.NewMemory room wanted) =
@@ -91,7 +91,8 @@ checksOf m b pays (Operation.Table number o) = given (ltb number (m .counts .tab
 checksOf m b pays (Operation.TableCopy into source span) =
     let x = tableAt m into in
     let y = tableAt m source in
-    Unasked (moves (both (ltb into (m .counts .tables)) (ltb source (m .counts .tables))) (elementMatches (x .ty) (y .ty .element)) span (x .size) (y .size) pays)
+    Unasked
+    (moves (both (ltb into (m .counts .tables)) (ltb source (m .counts .tables))) (elementMatches (x .ty) (y .ty .element)) span (x .size) (y .size) pays)
 checksOf m b pays (Operation.TableInit table segment span) =
     let x = tableAt m table in
     let y = segmentAt m segment in
@@ -102,13 +103,15 @@ checksOf m b pays (Operation.DropSegment segment) = Unasked (ltb segment (m .cou
 checksOf m b pays (Operation.NewSegment element items) =
     Unasked (both (ltb (m .counts .segments) 8) (leb (length (itemsOf items)) (length (b .items) - nextItem m)))
 
+-- where the price is there if what is left pays it
 abbrev pub checks : ℕ → Machine → Buffers → Operation → Checks
 checks r m b op = checksOf m b (affords m (priceOf r m op)) op
 
--- they hold, or come to the limiter's question
+-- all of them hold
 abbrev pub occasion : ℕ → Machine → Buffers → Operation → Bool
 occasion r m b op = holds (granted m) (checks r m b op)
 
+-- they come to the limiter's question
 abbrev pub question : ℕ → Machine → Buffers → Operation → Bool
 question r m b op = comes (checks r m b op)
 
