@@ -2,17 +2,14 @@
 use Rattle.types.specs.Prelude.{ℕ, _+_, _-_, _≤_, _<_, _≡_, Bool, true, false, List, eqb, leb, ltb}
 use mathlib.Core.Path.{refl, sym, ap, subst, _∙_}
 use native.Mathlib.Omega.{arith}
-use lib.Seq.{set-getD}
 use borrow.Author.Tests.{leb-true, ltb-true, ltb-false, le-leb, lt-leb}
 use Rattle.types.specs.Names.{unless, Done, done, spanDone, refusal, refuse, accept, short, paid, saysOf, moved, noLimiter, Answer, Refusal, Fuel}
 use Rattle.types.specs.Names.{Spanned, Limiter}
 use Rattle.types.specs.{Pick.pick, Pick.both, Answer.numberOf, Limiter.heardOf}
 use Rattle.types.proofs.Picks.{pick-true, pick-false, pick-same, both-true, both-left, both-right, both-then}
-use Rattle.memory.specs.Names.{Memory}
-use Rattle.table.specs.Names.{Table}
-use Rattle.machine.specs.Names.{Buffers, memoryAt, tableAt, noMemory, noTable, soundOver, wellFormed, standing, metered, Stepped, Machine, Counts}
+use Rattle.machine.specs.Names.{Buffers, soundOver, wellFormed, standing, metered, Stepped, Machine, Counts}
 use Rattle.machine.specs.Names.{Change, Operation, FuelOp}
-use Rattle.machine.specs.{Outcome.leaves, Outcome.keeps, Outcome.withMemories, Outcome.withTables, Outcome.changed, Outcome.settled, Step.Performed}
+use Rattle.machine.specs.{Outcome.leaves, Outcome.keeps, Outcome.changed, Outcome.settled, Step.Performed}
 use Rattle.machine.specs.{Step.onNone, Step.onCells, Step.perform, Step.decide, Step.after, Step.step, declared.outcome.Outcome.Outcome}
 use Rattle.claims.specs.{Answers.accepted, Answers.listed, Occasions.granted, Occasions.occasion, Occasions.question, Spans.put}
 use Rattle.claims.specs.Metered.{metering, priceOf, affords, grants, paidRefusal}
@@ -94,22 +91,7 @@ affords-all m p = go (m .fuel .enabled)
     go true e = le-leb p (m .fuel .remaining) (ltb-false (m .fuel .remaining) p e)
     go false e = refl
 
--- a record that is put back at its place leaves the machine
-pub memory-put-back : (m : Machine) (i : ℕ) → changed (change.Memory i (memoryAt m i)) m ≡ m
-unfolding changed
-memory-put-back m i =
-    branch (λ (x : Machine). x ≡ m) (ltb i 8) _ _
-    (λ t. ap (λ (rs : List Memory). withMemories m rs) (set-getD (m .memories) i noMemory))
-    (λ t. refl)
-
-pub table-put-back : (m : Machine) (i : ℕ) → changed (change.Table i (tableAt m i)) m ≡ m
-unfolding changed
-table-put-back m i =
-    branch (λ (x : Machine). x ≡ m) (ltb i 8) _ _
-    (λ t. ap (λ (rs : List Table). withTables m rs) (set-getD (m .tables) i noTable))
-    (λ t. refl)
-
--- and so does no change
+-- no change leaves the machine
 pub nothing-put : (m : Machine) → changed change.Nothing m ≡ m
 unfolding changed
 nothing-put m = refl

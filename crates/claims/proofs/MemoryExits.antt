@@ -25,7 +25,8 @@ use Rattle.claims.specs.{Effects.memoryEffect, Effects.fuelEffect, Effec
 use Rattle.claims.specs.Occasions.{given, holds, comes, granted, validWanted, reaches, fuelOccasion, memoryChecks, checksOf, occasion, question}
 use Rattle.claims.proofs.{Exit.Exit, Growth.Grew, Growth.grew, Growth.grew-exit}
 use Rattle.claims.proofs.Checks.{given-holds, given-comes, used-holds, used-comes}
-use Rattle.claims.proofs.Exiting.{branch, surely, room-inside, put-back-stays, named, named-7, memory-put-back, Ends, accepted-is, ending}
+use Rattle.machine.proofs.Written.{memory-put-back}
+use Rattle.claims.proofs.Exiting.{branch, surely, room-inside, put-back-stays, named, named-7, Ends, accepted-is, ending}
 use Rattle.claims.proofs.Exiting.{accepting, accepting-by, refusing, leaving-by, leaving, creating, unknown}
 use Rattle.types.specs.declared.answer.Answer.the-variants as answer
 use Rattle.machine.specs.declared.outcome.Change.the-variants as change

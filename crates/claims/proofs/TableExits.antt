@@ -22,7 +22,8 @@ use Rattle.claims.specs.Metered.{tableMetering, meteringOf, priceOf, aff
 use Rattle.claims.specs.Occasions.{given, holds, comes, granted, tableChecks, checksOf, occasion, question}
 use Rattle.claims.proofs.{Exit.Exit, Exit.accepts, Growth.Grew, Growth.grew, Growth.grew-exit}
 use Rattle.claims.proofs.Checks.{given-holds, given-comes, growing, used-holds, used-comes}
-use Rattle.claims.proofs.Exiting.{branch, surely, put-back-stays, named, table-put-back, nothing-put, Ends, accepted-is, ending, accepting}
+use Rattle.machine.proofs.Written.{table-put-back}
+use Rattle.claims.proofs.Exiting.{branch, surely, put-back-stays, named, nothing-put, Ends, accepted-is, ending, accepting}
 use Rattle.claims.proofs.Exiting.{accepting-paid, accepting-by, refusing, leaving-by, leaving, creating, paying, spanning, unknown}
 use Rattle.claims.proofs.TableExiting.{cells-sound, items-sound, own-kind, over-none, two-sound}
 use Rattle.types.specs.declared.answer.Answer.the-variants as answer

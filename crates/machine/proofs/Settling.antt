@@ -23,7 +23,7 @@ use Rattle.machine.specs.Operation.{wellFormed}
 use Rattle.machine.specs.Outcome.{keeps, withMemories, withTables, withSegments, changed, settled}
 use Rattle.machine.specs.Step.{Stepped, onNone, after, perform, decide, step}
 use Rattle.machine.specs.Words.{recordLength, segmentLength, tablesAt, segmentsAt, countsAt, rowLength}
-use Rattle.machine.specs.Words.{memoryWords, tableWords, segmentWords, countWords, fuelWords, placeWords, rowsOf, instanceWords, standingWords, stateWords, wordsOf, machineFrom, inForm}
+use Rattle.machine.specs.Words.{memoryWords, tableWords, segmentWords, rowsOf, instanceWords, standingWords, stateWords, wordsOf, machineFrom, inForm}
 use Rattle.machine.specs.Row.{InRow, rowKeeps, rowAfter, operateRow}
 use Rattle.machine.specs.stages.Rows.{Inside, endsInside, Fits, Shaped, changedRow, changesRecord, handsOver, standingRow, settledRow, rowSettled, Goes, Holds, proceedRow, Steps, Proceeds}
 use Rattle.machine.specs.declared.records.Machine.{Machine}

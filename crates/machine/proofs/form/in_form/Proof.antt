@@ -1,5 +1,5 @@
 -- `machine::form::in_form` meets its contract. Assumes nothing.
-use mathlib.Core.Path.{sym, _∙_}
+use mathlib.Core.Path.{sym}
 use borrow.Author.Tests.{le-leb, lt-leb}
 use Rattle.types.specs.Pick.{both}
 use Rattle.types.proofs.Picks.{both-left, both-then}
