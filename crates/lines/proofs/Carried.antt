@@ -28,9 +28,7 @@ use Rattle.machine.proofs.Formed.{form-long, form-holds}
 use Rattle.machine.proofs.Kept.{step-sound, fresh-sound}
 use Rattle.machine.proofs.Rooms.{parts}
 use Rattle.lines.specs.AnswerLine.{answerLine}
-use Rattle.lines.specs.Session.{heldOn}
-use Rattle.lines.specs.Progress.{progressed, rowWith}
-use Rattle.lines.specs.stages.Runs.{Ready}
+use Rattle.lines.specs.{Progress.progressed, stages.Runs.heldOn, stages.Runs.rowWith, stages.Runs.Ready}
 use Rattle.lines.specs.declared.session.Progress.{Progress}
 use Rattle.lines.proofs.Runs.{reached}
 

@@ -6,7 +6,7 @@ use lib.Dec.{eqb}
 use borrow.Author.Tests.{ne-eqb}
 use Rattle.types.specs.Pick.{pick, both}
 use Rattle.types.proofs.Picks.{pick-false, both-left, both-right, both-then}
-use Rattle.lines.specs.Code.{taken, byCode, meant}
+use Rattle.lines.specs.{Code.taken, Code.byCode, stages.Codes.meant}
 use Rattle.lines.specs.declared.line.Line.{Line}
 use Rattle.lines.specs.declared.code.Read.{Read}
 use Rattle.lines.specs.declared.code.Read.the-variants as read
@@ -21,9 +21,9 @@ pub taken-rest : (c n : ℕ) (a b : Bool) (x : Read) {p : Read} → a ≡ true �
 taken-rest c n a b x e q = q ∙ ap (λ (t : Bool). taken c n t x) (sym (both-then a b e))
 
 -- the code as a number of its own
-pub by-code : (w : Line) (k : ℕ) {p : Read} → w .code ≡ k → p ≡ byCode k w → p ≡ meant w
+pub by-code : (w : Line) (k : ℕ) {p : Read} → w .code ≡ k → p ≡ byCode k (w .count) w → p ≡ meant w
 unfolding meant
-by-code w k e q = q ∙ ap (λ (n : ℕ). byCode n w) (sym e)
+by-code w k e q = q ∙ ap (λ (n : ℕ). byCode n (w .count) w) (sym e)
 
 -- no code of the list
 skip : (t k : ℕ) (a b : Read) {p : Read} → (t ≡ k → ⊥) → p ≡ b → p ≡ pick (eqb t k) a b

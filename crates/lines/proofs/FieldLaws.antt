@@ -4,6 +4,7 @@ use mathlib.Core.Bool.{Bool, true, false}
 use mathlib.Core.List.{List, [], _∷_}
 use Prim.Native.Nat.{ℕ, zero, suc, _+_, _-_, _*_, _<_, _≤_}
 use native.Mathlib.Omega.{arith}
+use native.Mathlib.Numerals.{add-one}
 use lib.Dec.{ltb, eqb}
 use lib.ListN.{length, drop, getD, set, replicate, length-drop, drop-of-length-le}
 use lib.Seq.{drop-cons, drop-drop}
@@ -12,7 +13,8 @@ use Rattle.types.specs.Pick.{pick}
 use Rattle.types.proofs.Picks.{pick-true, pick-false, pick-same}
 use Rattle.lines.specs.Hex.{digitOf, hexFrom}
 use Rattle.types.specs.Span.{over}
-use Rattle.lines.specs.Line.{space, Got, none, some, then, thenField, ended, headed, fieldsOf, filled, noLine, coded, lineOf}
+use Rattle.lines.specs.Line.{space, Got, none, some, thenField, fieldsOf, noLine, coded, lineOf}
+use Rattle.lines.specs.stages.Back.{filled}
 use Rattle.lines.specs.declared.field.Field.{Field}
 use Rattle.lines.specs.declared.field.Field.the-variants.{Value, Bad}
 use Rattle.lines.specs.declared.line.Line.{Line}
@@ -31,23 +33,19 @@ hex-short (suc n) v [] h = refl
 hex-short (suc n) v (b ∷ l) h = pick-bad (ltb (digitOf b) 16) _ (hex-short n (v * 16 + digitOf b) l (omega arith))
 
 -- the fields from a place where a byte stands
-some-left : (k : ℕ) (b : ℕ) (l : List ℕ) (s : List ℕ) → s ≡ b ∷ l
-    → fieldsOf (suc k) s ≡ pick (eqb b space) (thenField (hexFrom 16 0 (drop 1 s)) (fieldsOf k (drop 17 s))) none
-unfolding fieldsOf headed
-some-left k b l s e = ap (λ (z : List ℕ). headed z (hexFrom 16 0 (drop 1 s)) (fieldsOf k (drop 17 s))) e
-
 at-byte : (n at : ℕ) (s : List ℕ) → n ≤ 7 → at < length s →
     fieldsOf (8 - n) (drop at s) ≡ pick (eqb (getD s at 0) space) (thenField (hexFrom 16 0 (drop (at + 1) s)) (fieldsOf (8 - (n + 1)) (drop (at + 17) s))) none
+unfolding fieldsOf
 at-byte n at s h k =
     let j : 8 - n ≡ suc (8 - (n + 1)) = omega arith in
-    let a : drop 1 (drop at s) ≡ drop (at + 1) s = drop-drop 1 at s in
-    let b : drop 17 (drop at s) ≡ drop (at + 17) s = drop-drop 17 at s in
-    let r = some-left (8 - (n + 1)) (getD s at 0) (drop (suc at) s) (drop at s) (drop-cons s at 0 k) in
-    ap (λ (m : ℕ). fieldsOf m (drop at s)) j ∙ (rw (a, b) at r)
+    let a : drop at s ≡ getD s at 0 ∷ drop (at + 1) s = rw add-one (drop-cons s at 0 k) in
+    let e : at + 1 + 16 ≡ at + 17 = omega arith in
+    let b : drop 16 (drop (at + 1) s) ≡ drop (at + 17) s = rw e at (drop-drop 16 (at + 1) s) in
+    rw (j, a, b) refl
 
 -- a field goes into its place
-filled-then : (c n v : ℕ) (list : List ℕ) (g : Got) → n < length list → filled c n list (then v g) ≡ filled c (n + 1) (set list n v) g
-unfolding filled then
+filled-then : (c n v : ℕ) (list : List ℕ) (g : Got) → n < length list → filled c n list (thenField (Value v) g) ≡ filled c (n + 1) (set list n v) g
+unfolding filled thenField
 filled-then c n v list none h = refl
 filled-then c n v list (some l) h =
     let a : n + suc (length l) ≡ (n + 1) + length l = omega arith in
@@ -59,10 +57,9 @@ filled-then c n v list (some l) h =
 pub fields-on : (c n at v : ℕ) (s list : List ℕ) {f : Field} {r : Line} → n ≤ 7 → length list ≡ 8 → at < length s → getD s at 0 ≡ space →
     f ≡ hexFrom 16 0 (drop (at + 1) s) → f ≡ Value v →
     filled c n list (fieldsOf (8 - n) (drop at s)) ≡ r → filled c (n + 1) (set list n v) (fieldsOf (8 - (n + 1)) (drop (at + 17) s)) ≡ r
-unfolding thenField
 fields-on c n at v s list h z k e d g q =
     let rest = fieldsOf (8 - (n + 1)) (drop (at + 17) s) in
-    let w : fieldsOf (8 - n) (drop at s) ≡ then v rest =
+    let w : fieldsOf (8 - n) (drop at s) ≡ thenField (Value v) rest =
     at-byte n at s h k ∙ pick-true _ _ _ (eq-eqb _ _ e) ∙ ap (λ (u : Field). thenField u rest) (sym d ∙ g) in
     sym (filled-then c n v list rest (omega arith)) ∙ ap (λ (u : Got). filled c n list u) (sym w) ∙ q
 
@@ -97,14 +94,14 @@ fields-short c n at s list o h k e q =
 -- something stands behind the eighth field
 pub fields-many : (c n at : ℕ) (s list : List ℕ) {o r : Line} → o ≡ noLine → 7 < n → at < length s →
     filled c n list (fieldsOf (8 - n) (drop at s)) ≡ r → o ≡ r
-unfolding filled fieldsOf ended
+unfolding filled fieldsOf
 fields-many c n at s list o h k q =
     let j : 8 - n ≡ 0 = omega arith in
-    let w : fieldsOf (8 - n) (drop at s) ≡ none = ap (λ (m : ℕ). fieldsOf m (drop at s)) j ∙ ap ended (drop-cons s at 0 k) in
+    let w : fieldsOf (8 - n) (drop at s) ≡ none = ap (λ (m : ℕ). fieldsOf m (drop at s)) j ∙ ap (fieldsOf 0) (drop-cons s at 0 k) in
     o ∙ ap (λ (u : Got). filled c n list u) (sym w) ∙ q
 
 nothing : (k : ℕ) → fieldsOf k [] ≡ some []
-unfolding fieldsOf ended headed
+unfolding fieldsOf
 nothing zero = refl
 nothing (suc k) = refl
 
@@ -113,10 +110,16 @@ pub fields-end : (c n at : ℕ) (s list : List ℕ) {r : Line} → length s ≤ 
     filled c n list (fieldsOf (8 - n) (drop at s)) ≡ r → record { good = true; code = c; count = n; list = list } ≡ r
 unfolding filled
 fields-end c n at s list h q =
-    let w : fieldsOf (8 - n) (drop at s) ≡ some [] = ap (λ (z : List ℕ). fieldsOf (8 - n) z) (drop-of-length-le s h) ∙ nothing (8 - n) in
+    let w : fieldsOf (8 - n) (drop at s) ≡ some [] = ap (fieldsOf (8 - n)) (drop-of-length-le s h) ∙ nothing (8 - n) in
     let a : n ≡ n + 0 = omega arith in
     let e : record { good = true; code = c; count = n; list = list } ≡ filled c n list (some []) = rw (over-nil, ← a) refl in
     e ∙ ap (λ (u : Got). filled c n list u) (sym w) ∙ q
+
+-- a line's numbers, in the definition's terms and in the loop's
+pub coded-filled : (c : ℕ) (g : Got) → coded (Value c) g ≡ filled c 0 (replicate 8 0) g
+unfolding coded filled
+coded-filled c none = refl
+coded-filled c (some l) = let e : length l ≡ 0 + length l = omega arith in ap (λ (n : ℕ). record { good = true; code = c; count = n; list = over (replicate 8 0) 0 l }) e
 
 -- the ways out of reading a line
 pub line-short : (s : List ℕ) {o : Line} → o ≡ noLine → length s < 2 → o ≡ lineOf s
@@ -129,5 +132,5 @@ line-bad s e d g = e ∙ ap (λ (f : Field). coded f (fieldsOf 8 (drop 2 s))) (s
 
 pub line-is : (s : List ℕ) (c : ℕ) {f : Field} {o : Line} → f ≡ hexFrom 2 0 (drop 0 s) → f ≡ Value c
     → o ≡ filled c 0 (replicate 8 0) (fieldsOf 8 (drop 2 s)) → o ≡ lineOf s
-unfolding lineOf coded
-line-is s c d g e = e ∙ ap (λ (f : Field). coded f (fieldsOf 8 (drop 2 s))) (sym (sym d ∙ g))
+unfolding lineOf
+line-is s c d g e = e ∙ sym (coded-filled c (fieldsOf 8 (drop 2 s))) ∙ ap (λ (f : Field). coded f (fieldsOf 8 (drop 2 s))) (sym (sym d ∙ g))

@@ -12,18 +12,20 @@ use Rattle.types.specs.Span.{over}
 use Rattle.types.proofs.Picks.{pick-true, pick-false, either}
 use Rattle.types.proofs.Spans.{length-over}
 use Rattle.lines.specs.Hex.{hexFrom, hexText}
-use Rattle.lines.specs.Line.{space, Got, none, some, then, thenField, ended, headed, fieldsOf, fieldsText, filled, coded, lineOf, lineText}
+use Rattle.lines.specs.Line.{space, Got, none, some, thenField, fieldsOf, fieldsText, coded, lineOf, lineText}
+use Rattle.lines.specs.stages.Back.{filled}
 use Rattle.lines.specs.Sayable.{Small}
 use Rattle.lines.specs.declared.field.Field.{Field}
 use Rattle.lines.specs.declared.field.Field.the-variants.{Value, Bad}
 use Rattle.lines.specs.declared.line.Line.{Line}
+use Rattle.lines.proofs.FieldLaws.{coded-filled}
 use Rattle.lines.proofs.HexText.{hex-all, hex-whole}
 use Rattle.lines.proofs.Writing.{length-hex}
 
 -- one field and the rest of a line
 field-read : (n b : ℕ) (l xs : List ℕ) (f : Field) (g : Got) → b ≡ space → hexFrom 16 0 l ≡ f → ((ys : List ℕ) → g ≡ some ys → drop 16 l ≡ fieldsText ys) →
     thenField f g ≡ some xs → b ∷ l ≡ fieldsText xs
-unfolding thenField then fieldsText
+unfolding thenField fieldsText
 field-read n b l xs Bad g e q r k = let z : _≡_ {A = ℕ} 0 1 = cc in absurd (omega arith)
 field-read n b l xs (Value v) none e q r k = let z : _≡_ {A = ℕ} 0 1 = cc in absurd (omega arith)
 field-read n b l xs (Value v) (some ys) e q r k =
@@ -34,7 +36,7 @@ field-read n b l xs (Value v) (some ys) e q r k =
 
 -- fields, both ways
 pub fields-write : (n : ℕ) (xs : List ℕ) → length xs ≤ n → Small xs → fieldsOf n (fieldsText xs) ≡ some xs
-unfolding fieldsOf fieldsText headed ended Small thenField then
+unfolding fieldsOf fieldsText Small thenField
 fields-write zero [] h a = refl
 fields-write (suc n) [] h a = refl
 fields-write zero (v ∷ xs) h a = absurd (omega arith)
@@ -44,17 +46,17 @@ fields-write (suc n) (v ∷ xs) h a =
     rw (p, d, fields-write n xs (omega arith) (a .1)) (pick-true (eqb space space) (some (v ∷ xs)) none refl)
 
 pub fields-read : (n : ℕ) (l xs : List ℕ) → fieldsOf n l ≡ some xs → l ≡ fieldsText xs
-unfolding fieldsOf fieldsText headed ended
+unfolding fieldsOf fieldsText
 fields-read zero [] xs q = let e : [] ≡ xs = cc in rw (← e) refl
-fields-read zero (b ∷ l) xs q = let z : _≡_ {A = ℕ} 0 1 = cc in absurd (omega arith)
 fields-read (suc n) [] xs q = let e : [] ≡ xs = cc in rw (← e) refl
+fields-read zero (b ∷ l) xs q = let z : _≡_ {A = ℕ} 0 1 = cc in absurd (omega arith)
 fields-read (suc n) (b ∷ l) xs q =
     either (eqb b space)
     (λ t. field-read n b l xs (hexFrom 16 0 l) (fieldsOf n (drop 16 l)) (eqb-true b space t) refl (λ ys. fields-read n (drop 16 l) ys) (sym (pick-true _ _ _ t) ∙ q))
     (λ t. let y = sym (pick-false _ _ _ t) ∙ q in let z : _≡_ {A = ℕ} 0 1 = cc in absurd (omega arith))
 
 field-few : (n : ℕ) (xs : List ℕ) (f : Field) (g : Got) → ((ys : List ℕ) → g ≡ some ys → length ys ≤ n) → thenField f g ≡ some xs → length xs ≤ suc n
-unfolding thenField then
+unfolding thenField
 field-few n xs Bad g r k = let z : _≡_ {A = ℕ} 0 1 = cc in absurd (omega arith)
 field-few n xs (Value v) none r k = let z : _≡_ {A = ℕ} 0 1 = cc in absurd (omega arith)
 field-few n xs (Value v) (some ys) r k =
@@ -62,10 +64,10 @@ field-few n xs (Value v) (some ys) r k =
     rw (← x) (omega (arith, r ys refl))
 
 pub fields-few : (n : ℕ) (l xs : List ℕ) → fieldsOf n l ≡ some xs → length xs ≤ n
-unfolding fieldsOf headed ended
+unfolding fieldsOf
 fields-few zero [] xs q = let e : [] ≡ xs = cc in rw (← e) (omega arith)
-fields-few zero (b ∷ l) xs q = let z : _≡_ {A = ℕ} 0 1 = cc in absurd (omega arith)
 fields-few (suc n) [] xs q = let e : [] ≡ xs = cc in rw (← e) (omega arith)
+fields-few zero (b ∷ l) xs q = let z : _≡_ {A = ℕ} 0 1 = cc in absurd (omega arith)
 fields-few (suc n) (b ∷ l) xs q =
     either (eqb b space)
     (λ t. field-few n xs (hexFrom 16 0 l) (fieldsOf n (drop 16 l)) (λ ys. fields-few n (drop 16 l) ys) (sym (pick-true _ _ _ t) ∙ q))
@@ -73,16 +75,16 @@ fields-few (suc n) (b ∷ l) xs q =
 
 -- a line's text is that of its code and its fields
 pub line-write : (c : ℕ) (xs : List ℕ) → c < 256 → length xs ≤ 8 → Small xs → lineOf (lineText c xs) ≡ filled c 0 (replicate 8 0) (some xs)
-unfolding lineOf coded lineText
+unfolding lineOf lineText
 line-write c xs h k a =
     let p : hexFrom 2 0 (hexText 2 c ++ fieldsText xs) ≡ Value c = hex-all 2 c (fieldsText xs) h in
     let d : drop 2 (hexText 2 c ++ fieldsText xs) ≡ fieldsText xs = drop-at (hexText 2 c) (fieldsText xs) 2 (length-hex 2 c) in
-    rw (p, d, fields-write 8 xs k a) refl
+    rw (p, d, fields-write 8 xs k a) (coded-filled c (some xs))
 
 -- the fields, and zeros up to 8 behind them
-pub take-over : (xs : List ℕ) → take (0 + length xs) (over (replicate 8 0) 0 xs) ≡ xs
+pub take-over : (n : ℕ) (xs : List ℕ) → length xs ≡ n → take n (over (replicate 8 0) 0 xs) ≡ xs
 unfolding over
-take-over xs = take-at xs (drop (0 + length xs) (replicate 8 0)) (0 + length xs) (omega arith)
+take-over n xs e = take-at xs (drop (0 + length xs) (replicate 8 0)) n e
 
 -- a list of 8 that begins with xs
 eight : (xs : List ℕ) → length xs ≤ 8 → length (over (replicate 8 0) 0 xs) ≡ 8
@@ -94,15 +96,14 @@ pub record Told (l : List ℕ) (w : Line) : Type 0 where
   pub long : length (w .list) ≡ 8
 
 told : (l : List ℕ) (f : Field) (g : Got) → hexFrom 2 0 l ≡ f → fieldsOf 8 (drop 2 l) ≡ g → coded f g .good ≡ true → Told l (coded f g)
-unfolding coded filled lineText
+unfolding coded lineText
 told l Bad g e q k = let z : _≡_ {A = ℕ} 0 1 = cc in absurd (omega arith)
 told l (Value c) none e q k = let z : _≡_ {A = ℕ} 0 1 = cc in absurd (omega arith)
 told l (Value c) (some xs) e q k =
     let t : hexText 2 c ≡ take 2 l = hex-whole 2 c l e in
     let d : drop 2 l ≡ fieldsText xs = fields-read 8 (drop 2 l) xs q in
-    let w : take (0 + length xs) (over (replicate 8 0) 0 xs) ≡ xs = take-over xs in
     record {
-      text = rw (w, ← d, t) (sym (take-append-drop 2 l));
+      text = rw (take-over (length xs) xs refl, ← d, t) (sym (take-append-drop 2 l));
       long = eight xs (fields-few 8 (drop 2 l) xs q);
     }
 

@@ -18,11 +18,24 @@ use Rattle.types.proofs.Spans.{over-after, over-span, length-over}
 use Rattle.types.proofs.Moves.{put-turn}
 use Rattle.lines.specs.Line.{lf, longest}
 use Rattle.lines.specs.Session.{Held, malformed, turnOf, textOf, session}
-use Rattle.lines.specs.Pieces.{lfAt, sessionFrom, Run, ahead, wholeLines, closeOf, pieceOf, Host, Feed, ranOf, fed, fedAll, whole}
-use Rattle.lines.specs.Input.{leftOf, keptOf, unended, endedOf, Starts, finished}
+use Rattle.lines.specs.Pieces.{lfAt, Run, ahead, wholeLines, closeOf, pieceOf, Host, Feed, fed, fedAll, whole}
+use Rattle.lines.specs.Input.{keptOf, unended, endedOf, finished}
 use Rattle.lines.proofs.LineEnds.{lf-le, lf-append}
-use Rattle.lines.proofs.Pieces.{no-skip, fed-all, started, none-left, fed-started, fed-whole}
+use Rattle.lines.proofs.Pieces.{sessionFrom, no-skip, fed-all, started, none-left, fed-started, fed-whole}
 use Rattle.lines.proofs.Pieces.{lf-lf, last-behind, close-skip, close-line, close-used, piece-moves}
+
+-- what is left of the first `end` bytes of an input, from `from` on
+abbrev pub leftOf : List ℕ → ℕ → ℕ → List ℕ
+leftOf input from end = drop from (take end input)
+
+-- the first bytes of an input, so many, are these
+pub record Starts (input : List ℕ) (n : ℕ) (l : List ℕ) : Type 0 where
+  pub within : n ≤ length input
+  pub same : take n input ≡ l
+
+-- the run that a host makes when bytes come in
+abbrev pub ranOf : ℕ → Host → Feed → Run
+ranOf r h x = pieceOf (x .room) (h .skip) r (h .held) (h .tail ++ x .bytes)
 
 -- there is a byte more to keep
 pub keep-more : (l s : List ℕ) (from end to at : ℕ) → at ≡ from + to → at < end → at < length s → length s ≡ length l →

@@ -1,14 +1,14 @@
 -- Laws of what the numbers of fields stand for: each way, for every number in range. Assumes nothing.
-use mathlib.Core.Path.{_≡_, refl, ap}
+use mathlib.Core.Path.{_≡_, refl, sym, ap}
 use mathlib.Core.Bool.{Bool, true, false}
-use mathlib.Core.List.{List, [], _∷_, _++_}
+use mathlib.Core.List.{[], _∷_}
 use Prim.Native.Nat.{ℕ, zero, suc, _≤_, min}
 use native.Mathlib.Omega.{arith}
 use lib.Dec.{eqb, leb, eqb→eq}
-use lib.ListN.{length, take, getD, replicate}
-use borrow.Author.Tests.{ltb-true, leb-true, le-leb, eq-eqb}
+use lib.ListN.{replicate, List·getD-eq-default}
+use borrow.Author.Tests.{ltb-true, leb-true, le-leb, eq-eqb, eqb-true, eqb-false}
 use Rattle.types.specs.Pick.{pick, both}
-use Rattle.types.proofs.Picks.{both-true, both-1, both-2}
+use Rattle.types.proofs.Picks.{both-true, both-1, both-2, either}
 use Rattle.types.specs.declared.raw.RefType.{RefType}
 use Rattle.types.specs.declared.raw.RefType.the-variants.{Func, Extern}
 use Rattle.types.specs.declared.raw.TypedRawRef.{TypedRawRef}
@@ -18,8 +18,9 @@ use Rattle.memory.specs.declared.access.StoreKind.{StoreKind}
 use Rattle.memory.specs.declared.access.StoreKind.the-variants as store
 use Rattle.types.specs.declared.memory_ty.WantedMemory.{WantedMemory}
 use Rattle.types.specs.declared.table_ty.WantedTable.{WantedTable}
-use Rattle.lines.specs.Fields.{binary, yes, kindOf, referenceOf, absentAsZero, limitRanges, memoryRanges, wantedMemory, tableRanges, wantedTable}
+use Rattle.lines.specs.Fields.{binary, yes, kindOf, referenceOf, absentAsZero, limitRanges}
 use Rattle.lines.specs.Fields.{loadKinds, storeKinds, loadKindOf, storeKindOf, flag, kindNumber, loadNumber, storeNumber, referenceFields, memoryFields, tableFields}
+use Rattle.lines.specs.stages.Codes.{memoryRanges, wantedMemory, tableRanges, wantedTable}
 use Rattle.lines.specs.Sayable.{LimitsSaid, MemorySaid}
 use Rattle.lines.proofs.Entries.{at}
 
@@ -28,19 +29,17 @@ up : (k n : ℕ) → k ≤ n → (n ≡ k → ⊥) → suc k ≤ n
 up k n h e = omega arith
 
 -- the last of a list stands for all numbers behind it too
-last : {A : Type 0} (xs : List A) (d : A) (n : ℕ) → length xs ≤ n → d ≡ getD (xs ++ d ∷ []) n d
-last [] d zero h = refl
-last [] d (suc n) h = refl
-last (x ∷ xs) d zero h = absurd (omega arith)
-last (x ∷ xs) d (suc n) h = last xs d n (omega arith)
-
 pub load-last : (n : ℕ) → (n ≡ 0 → ⊥) → (n ≡ 1 → ⊥) → (n ≡ 2 → ⊥) → (n ≡ 3 → ⊥) → (n ≡ 4 → ⊥) → (n ≡ 5 → ⊥) → (n ≡ 6 → ⊥) → (n ≡ 7 → ⊥) → (n ≡ 8 → ⊥) → (n ≡ 9 → ⊥) → (n ≡ 10 → ⊥) → (n ≡ 11 → ⊥) → (n ≡ 12 → ⊥) → load.I64From32U ≡ loadKindOf n
 unfolding loadKindOf
-load-last n n0 n1 n2 n3 n4 n5 n6 n7 n8 n9 n10 n11 n12 = last (take 13 loadKinds) load.I64From32U n (up 12 n (up 11 n (up 10 n (up 9 n (up 8 n (up 7 n (up 6 n (up 5 n (up 4 n (up 3 n (up 2 n (up 1 n (up 0 n (omega arith) n0) n1) n2) n3) n4) n5) n6) n7) n8) n9) n10) n11) n12)
+load-last n n0 n1 n2 n3 n4 n5 n6 n7 n8 n9 n10 n11 n12 =
+    either (eqb n 13) (λ e. ap loadKindOf (sym (eqb-true n 13 e)))
+    (λ e. sym (List·getD-eq-default loadKinds load.I64From32U (up 13 n (up 12 n (up 11 n (up 10 n (up 9 n (up 8 n (up 7 n (up 6 n (up 5 n (up 4 n (up 3 n (up 2 n (up 1 n (up 0 n (omega arith) n0) n1) n2) n3) n4) n5) n6) n7) n8) n9) n10) n11) n12) (eqb-false n 13 e))))
 
 pub store-last : (n : ℕ) → (n ≡ 0 → ⊥) → (n ≡ 1 → ⊥) → (n ≡ 2 → ⊥) → (n ≡ 3 → ⊥) → (n ≡ 4 → ⊥) → (n ≡ 5 → ⊥) → (n ≡ 6 → ⊥) → (n ≡ 7 → ⊥) → store.I64To32 ≡ storeKindOf n
 unfolding storeKindOf
-store-last n n0 n1 n2 n3 n4 n5 n6 n7 = last (take 8 storeKinds) store.I64To32 n (up 7 n (up 6 n (up 5 n (up 4 n (up 3 n (up 2 n (up 1 n (up 0 n (omega arith) n0) n1) n2) n3) n4) n5) n6) n7)
+store-last n n0 n1 n2 n3 n4 n5 n6 n7 =
+    either (eqb n 8) (λ e. ap storeKindOf (sym (eqb-true n 8 e)))
+    (λ e. sym (List·getD-eq-default storeKinds store.I64To32 (up 8 n (up 7 n (up 6 n (up 5 n (up 4 n (up 3 n (up 2 n (up 1 n (up 0 n (omega arith) n0) n1) n2) n3) n4) n5) n6) n7) (eqb-false n 8 e))))
 
 -- a number in range comes back
 load-right : ℕ → ℕ → Bool
@@ -124,7 +123,7 @@ limits-in false maximum h = eq-eqb maximum 0 (h refl)
 -- a memory's type, and its fields
 pub memory-in : (t : WantedMemory) → MemorySaid t
     → memoryRanges (flag (t .wide)) (flag (t .limits .bounded)) (t .limits .maximum) (t .exponent) ≡ true
-unfolding memoryRanges MemorySaid LimitsSaid
+unfolding MemorySaid LimitsSaid
 memory-in t h =
     both-true _ _ (flag-said (t .wide) .0) (both-true _ _ (le-leb _ _ (h .0)) (limits-in (t .limits .bounded) (t .limits .maximum) (h .1)))
 
@@ -138,7 +137,7 @@ memory-said t h =
 
 pub memory-fields : (wide bounded minimum maximum exponent : ℕ) → memoryRanges wide bounded maximum exponent ≡ true
     → memoryFields (wantedMemory wide bounded minimum maximum exponent) ≡ wide ∷ bounded ∷ minimum ∷ maximum ∷ exponent ∷ []
-unfolding memoryRanges limitRanges
+unfolding limitRanges
 memory-fields wide bounded minimum maximum exponent h =
     let r = both-2 _ _ h in
     let m : exponent ≤ 255 = leb-true _ _ (both-1 _ _ r) in
@@ -150,7 +149,7 @@ memory-fields wide bounded minimum maximum exponent h =
 -- a table's type and its initial reference, and their fields
 pub table-in : (t : WantedTable) → LimitsSaid (t .limits)
     → tableRanges (kindNumber (t .element)) (flag (t .wide)) (flag (t .limits .bounded)) (t .limits .maximum) ≡ true
-unfolding tableRanges LimitsSaid
+unfolding LimitsSaid
 table-in t h =
     both-true _ _ (kind-said (t .element) .0) (both-true _ _ (flag-said (t .wide) .0) (limits-in (t .limits .bounded) (t .limits .maximum) h))
 
@@ -160,7 +159,7 @@ table-said t = rw (kind-said (t .element) .1, flag-said (t .wide) .1, flag-said 
 
 pub table-fields : (kind wide bounded minimum maximum initial bits : ℕ) → both (binary initial) (tableRanges kind wide bounded maximum) ≡ true
     → tableFields (wantedTable kind wide bounded minimum maximum) (referenceOf initial bits) ≡ kind ∷ wide ∷ bounded ∷ minimum ∷ maximum ∷ initial ∷ bits ∷ []
-unfolding tableRanges limitRanges
+unfolding limitRanges
 table-fields kind wide bounded minimum maximum initial bits h =
     let r = both-2 _ _ h in
     let s = both-2 _ _ r in

@@ -12,9 +12,14 @@ use Rattle.types.proofs.Picks.{pick-true, pick-false, either}
 use Rattle.lines.specs.Line.{lf, longest}
 use Rattle.lines.specs.AnswerLine.{answerBytes}
 use Rattle.lines.specs.Session.{Held, Turn, malformed, turnBy, turnOf, textOf, session}
-use Rattle.lines.specs.Pieces.{lfAt, sessionFrom, Run, still, ahead, wholeLines, closeOf, pieceOf, Host, Feed, ranOf, fed, fedAll, whole}
+use Rattle.lines.specs.Pieces.{lfAt, Run, still, ahead, wholeLines, closeOf, pieceOf, Host, Feed, fed, fedAll, whole}
 use Rattle.lines.proofs.Text.{long-malformed, answer-line-long}
 use Rattle.lines.proofs.LineEnds.{lf-le, lf-append, lf-in, behind, nothing, session-first, whole-used, session-whole}
+
+-- what is left of a session, inside a line that is too long already or not
+unfoldable pub sessionFrom : Bool → ℕ → Held → List ℕ → List ℕ
+sessionFrom false r h l = session r h l
+sessionFrom true r h l = textOf (malformed h) ++ session r (malformed h .held) (drop (lfAt l + 1) l)
 
 -- a line of over 160 bytes is malformed, the first one too
 long-turn : (r : ℕ) (h : Held) (l : List ℕ) → longest < length l → turnOf r h l ≡ malformed h
@@ -108,7 +113,7 @@ fed-on : (r : ℕ) (h : Host) (x : Feed) (more : List ℕ) →
     ≡ h .sent ++ sessionFrom (h .skip) r (h .held) (h .tail ++ (x .bytes ++ more))
 unfolding fed
 fed-on r h x more =
-    let w = ranOf r h x in
+    let w = pieceOf (x .room) (h .skip) r (h .held) (h .tail ++ x .bytes) in
     append-assoc (h .sent) (w .out) (sessionFrom (w .skip) r (w .held) (drop (w .used) (h .tail ++ x .bytes) ++ more))
     ∙ ap (λ (z : List ℕ). h .sent ++ z)
     (sym (piece-on (x .room) (h .skip) r (h .held) (h .tail ++ x .bytes) more) ∙ ap (sessionFrom (h .skip) r (h .held)) (append-assoc (h .tail) (x .bytes) more))

@@ -26,10 +26,10 @@ use Rattle.types.proofs.Spans.{over-nil, over-over, length-over}
 use Rattle.lines.specs.Line.{longest, lineOf}
 use Rattle.lines.specs.Code.{operationOf, readLine}
 use Rattle.lines.specs.AnswerLine.{answerBytes, answerLine}
-use Rattle.lines.specs.Session.{Held, heldOn, Turn, turned, turnedAs, malformed, costsOf, turnBy, turnOf, textOf}
+use Rattle.lines.specs.Session.{Held, Turn, turned, malformed, costsOf, turnBy, turnOf, textOf}
 use Rattle.lines.specs.Pieces.{lfAt, Run, still, ahead, wholeLines, closeOf, pieceOf}
-use Rattle.lines.specs.Progress.{Progressed, rowWith, sessionAs, progressOf, stuck, pieceIn}
-use Rattle.lines.specs.stages.Runs.{skipping, endOf, WholeRan, closedOf}
+use Rattle.lines.specs.Progress.{Progressed, progressOf, pieceIn}
+use Rattle.lines.specs.stages.Runs.{heldOn, rowWith, sessionAs, skipping, endOf, WholeRan, closedOf}
 use Rattle.lines.specs.declared.line.Line.{Line}
 use Rattle.lines.specs.declared.code.Read.{Read}
 use Rattle.lines.specs.declared.code.Read.the-variants as read
@@ -45,9 +45,10 @@ turned-line h l e f q = q ∙ ap (turnBy rawBytes h) (f ∙ ap operationOf e)
 
 -- an operation, 00 on the first line, and 18
 pub turn-does : (m : Machine) (first : Bool) (b : Buffers) (o : Operation) (s : Stepped) {x : Read} → x ≡ read.Operation o → s ≡ step rawBytes m b o
-    → turnedAs s ≡ turnBy rawBytes (record { machine = m; first = first; buffers = b }) x
+    → turned (s .answer) (s .machine) (s .buffers) ≡ turnBy rawBytes (record { machine = m; first = first; buffers = b }) x
 unfolding turnBy
-turn-does m first b o s e q = ap turnedAs q ∙ ap (turnBy rawBytes (record { machine = m; first = first; buffers = b })) (sym e)
+turn-does m first b o s e q =
+    ap (λ (s : Stepped). turned (s .answer) (s .machine) (s .buffers)) q ∙ ap (turnBy rawBytes (record { machine = m; first = first; buffers = b })) (sym e)
 
 pub turn-makes : (m n : Machine) (b : Buffers) (metering : Bool) (copied : ℕ) {x : Read} → x ≡ read.Making metering copied → n ≡ freshMachine metering (costsOf copied)
     → turned (accept 0) n b ≡ turnBy rawBytes (record { machine = m; first = true; buffers = b }) x
@@ -285,7 +286,8 @@ pub by-skip : (t u : Bool) (s : List ℕ) (k r : ℕ) (h : Held) (l o : List ℕ
 by-skip t u s k r h l o e q = q ∙ ap (λ (v : Bool). progressOf s o (pieceOf k v r h l)) (sym e)
 
 -- the two ways of a piece
-pub piece-stuck : (x : Session) (l : List ℕ) (b : Buffers) (input out : List ℕ) → both (inForm l) (soundOver (machineFrom l) b) ≡ false → stuck x l b out ≡ pieceIn x l b input out
+pub piece-stuck : (x : Session) (l : List ℕ) (b : Buffers) (input out : List ℕ) → both (inForm l) (soundOver (machineFrom l) b) ≡ false
+    → record { progress = record { number = 19; session = x; used = 0; wrote = 0 }; words = l; buffers = b; out = out } ≡ pieceIn x l b input out
 unfolding pieceIn
 piece-stuck x l b input out e = sym (pick-false _ _ _ e)
 

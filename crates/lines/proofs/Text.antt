@@ -15,22 +15,19 @@ use Rattle.types.specs.declared.raw.RefType.{RefType}
 use Rattle.types.proofs.Picks.{pick-false, both-1, both-2, either}
 use Rattle.machine.specs.Operation.{itemField, itemFields, itemsOf}
 use Rattle.machine.specs.declared.operation.Items.{Items}
-use Rattle.machine.specs.declared.operation.FuelOp.{FuelOp}
 use Rattle.machine.specs.declared.operation.FuelOp.the-variants as fuel
-use Rattle.machine.specs.declared.operation.MemoryOp.{MemoryOp}
 use Rattle.machine.specs.declared.operation.MemoryOp.the-variants as memory
-use Rattle.machine.specs.declared.operation.TableOp.{TableOp}
 use Rattle.machine.specs.declared.operation.TableOp.the-variants as table
 use Rattle.machine.specs.declared.operation.Operation.{Operation}
 use Rattle.machine.specs.declared.operation.Operation.the-variants as op
 use Rattle.lines.specs.Hex.{hexText}
-use Rattle.lines.specs.Line.{space, lf, longest, lineText, filled, lineOf, at}
-use Rattle.lines.specs.Fields.{kindOf, segmentRanges, flag}
-use Rattle.lines.specs.Code.{taken, itemsFrom, byCode, meant, operationOf, readLine}
-use Rattle.lines.specs.Writing.{fuelCode, memoryCode, tableCode, codeOf, fuelBack, memoryBack, tableBack, fieldsBack, writeLine, writeMaking}
+use Rattle.lines.specs.Line.{space, lf, longest, lineText, lineOf, at}
+use Rattle.lines.specs.Fields.{kindOf, flag}
+use Rattle.lines.specs.Code.{taken, itemsFrom, byCode, operationOf, readLine}
+use Rattle.lines.specs.Writing.{numbersOf, writeLine, writeMaking}
 use Rattle.lines.specs.AnswerLine.{answerText, answerBytes, answerLine}
-use Rattle.lines.specs.Sayable.{Small, MemoryOpSaid, Said, Sayable}
-use Rattle.lines.specs.stages.Back.{backOf, makingBack}
+use Rattle.lines.specs.Sayable.{Small, Said, Sayable}
+use Rattle.lines.specs.{stages.Codes.segmentRanges, stages.Back.filled, stages.Back.backOf, stages.Back.makingBack}
 use Rattle.lines.specs.declared.line.Line.{Line}
 use Rattle.lines.specs.declared.code.Read.{Read}
 use Rattle.lines.specs.declared.code.Read.the-variants as read
@@ -39,66 +36,6 @@ use Rattle.lines.proofs.NumberLaws.{reference-said, reference-fields, m
 use Rattle.lines.proofs.FieldText.{line-write, line-read, Told}
 use Rattle.lines.proofs.BackLaws.{few}
 use Rattle.lines.proofs.Writing.{length-hex, length-line}
-
--- two digits hold every code
-fuel-code : (o : FuelOp) → fuelCode o < 256
-unfolding fuelCode
-fuel-code (fuel.SetFuel amount) = omega arith
-fuel-code fuel.GetFuel = omega arith
-fuel-code (fuel.Charge units) = omega arith
-fuel-code (fuel.SetLimiter script) = omega arith
-
-memory-code : (o : MemoryOp) → memoryCode o < 256
-unfolding memoryCode
-memory-code (memory.Grow pages) = omega arith
-memory-code memory.Size = omega arith
-memory-code (memory.Load kind pointer offset) = omega arith
-memory-code (memory.Store kind pointer offset bits) = omega arith
-memory-code (memory.LinkCheck wanted) = omega arith
-
-table-code : (o : TableOp) → tableCode o < 256
-unfolding tableCode
-table-code (table.Grow cells value) = omega arith
-table-code table.Size = omega arith
-table-code (table.Get index) = omega arith
-table-code (table.Set index value) = omega arith
-table-code (table.Fill start value len) = omega arith
-
-code : (o : Operation) → codeOf o < 256
-unfolding codeOf
-code (op.Fuel o) = fuel-code o
-code (op.NewMemory room wanted) = omega arith
-code (op.Memory number o) = memory-code o
-code (op.NewTable room wanted initial) = omega arith
-code (op.Table number o) = table-code o
-code (op.TableCopy into source span) = omega arith
-code (op.TableInit table segment span) = omega arith
-code (op.DropSegment segment) = omega arith
-code (op.NewSegment element items) = omega arith
-
--- an operation's numbers say it
-fuel-says : (o : FuelOp) → operationOf (backOf (op.Fuel o)) ≡ read.Operation (op.Fuel o)
-unfolding operationOf meant byCode taken backOf codeOf fieldsBack fuelCode fuelBack filled over pick both
-fuel-says (fuel.SetFuel amount) = refl
-fuel-says fuel.GetFuel = refl
-fuel-says (fuel.Charge units) = refl
-fuel-says (fuel.SetLimiter script) = refl
-
-memory-says : (n : ℕ) (o : MemoryOp) → MemoryOpSaid o → operationOf (backOf (op.Memory n o)) ≡ read.Operation (op.Memory n o)
-unfolding operationOf meant byCode taken backOf codeOf fieldsBack memoryCode memoryBack filled over pick both MemoryOpSaid
-memory-says n (memory.Grow pages) h = refl
-memory-says n memory.Size h = refl
-memory-says n (memory.Load kind pointer offset) h = rw (load-said kind .0, load-said kind .1) refl
-memory-says n (memory.Store kind pointer offset bits) h = rw (store-said kind .0, store-said kind .1) refl
-memory-says n (memory.LinkCheck wanted) h = rw (memory-in wanted h, memory-said wanted h) refl
-
-table-says : (n : ℕ) (o : TableOp) → operationOf (backOf (op.Table n o)) ≡ read.Operation (op.Table n o)
-unfolding operationOf meant byCode taken backOf codeOf fieldsBack tableCode tableBack filled over pick both
-table-says n (table.Grow cells value) = rw (kind-said (value .ty) .0, reference-said value) refl
-table-says n table.Size = refl
-table-says n (table.Get index) = refl
-table-says n (table.Set index value) = rw (kind-said (value .ty) .0, reference-said value) refl
-table-says n (table.Fill start value len) = rw (kind-said (value .ty) .0, reference-said value) refl
 
 -- a claim of the counts 0 to 4
 five : (C : ℕ → Type 0) (n : ℕ) → n ≤ 4 → C 0 → C 1 → C 2 → C 3 → C 4 → C n
@@ -122,7 +59,7 @@ module _ (k : RefType) (a b c d : ℕ) where
   items-few n h = leb-true _ _ (both-1 _ _ h)
 
   segment-says : (n : ℕ) → n ≤ 4 → Says n
-  unfolding operationOf meant byCode taken backOf codeOf fieldsBack filled over pick both itemFields itemField
+  unfolding operationOf byCode taken backOf numbersOf filled over pick both itemFields itemField
   segment-says n m =
       let e = kind-said k in
       five Says n m
@@ -149,26 +86,38 @@ module _ (k : RefType) (a b c d : ℕ) where
       rw (e .0, e .1, ed) refl)
       (λ h. rw (e .0, e .1) refl)
 
+-- an operation's numbers say it
 says : (o : Operation) → Said o → operationOf (backOf o) ≡ read.Operation o
-unfolding operationOf meant byCode taken backOf codeOf fieldsBack filled over pick both Said
-says (op.Fuel o) h = fuel-says o
+unfolding operationOf byCode taken backOf numbersOf filled over pick both Said
+says (op.Fuel (fuel.SetFuel amount)) h = refl
+says (op.Fuel fuel.GetFuel) h = refl
+says (op.Fuel (fuel.Charge units)) h = refl
+says (op.Fuel (fuel.SetLimiter script)) h = refl
 says (op.NewMemory room wanted) h = rw (memory-in wanted h, memory-said wanted h) refl
-says (op.Memory number o) h = memory-says number o h
+says (op.Memory n (memory.Grow pages)) h = refl
+says (op.Memory n memory.Size) h = refl
+says (op.Memory n (memory.Load kind pointer offset)) h = rw (load-said kind .0, load-said kind .1) refl
+says (op.Memory n (memory.Store kind pointer offset bits)) h = rw (store-said kind .0, store-said kind .1) refl
+says (op.Memory n (memory.LinkCheck wanted)) h = rw (memory-in wanted h, memory-said wanted h) refl
 says (op.NewTable room wanted initial) h = rw (kind-said (initial .ty) .0, table-in wanted h, table-said wanted, reference-said initial) refl
-says (op.Table number o) h = table-says number o
+says (op.Table n (table.Grow cells value)) h = rw (kind-said (value .ty) .0, reference-said value) refl
+says (op.Table n table.Size) h = refl
+says (op.Table n (table.Get index)) h = refl
+says (op.Table n (table.Set index value)) h = rw (kind-said (value .ty) .0, reference-said value) refl
+says (op.Table n (table.Fill start value len)) h = rw (kind-said (value .ty) .0, reference-said value) refl
 says (op.TableCopy into source span) h = refl
 says (op.TableInit table segment span) h = refl
 says (op.DropSegment segment) h = refl
 says (op.NewSegment k i) h = segment-says k (i .first) (i .second) (i .third) (i .fourth) (i .count) (items-few k (i .first) (i .second) (i .third) (i .fourth) (i .count) h) h
 
 making-says : (m : Bool) (b : ℕ) → b < 2 ^ 32 → operationOf (makingBack m b) ≡ read.Making m b
-unfolding operationOf meant byCode taken makingBack filled over pick both
+unfolding operationOf byCode taken makingBack filled over pick both
 making-says m b h = rw (lt-ltb b (2 ^ 32) h, flag-said m .0, flag-said m .1) refl
 
 -- the way there: what is written is read as what was meant
 pub read-write : (o : Operation) → Sayable o → readLine (writeLine o) ≡ read.Operation o
 unfolding readLine writeLine backOf Sayable
-read-write o h = ap operationOf (line-write (codeOf o) (fieldsBack o) (code o) (few o) (h .0)) ∙ says o (h .1)
+read-write o h = ap operationOf (line-write (numbersOf o .code) (numbersOf o .fields) (few o .0) (few o .1) (h .0)) ∙ says o (h .1)
 
 pub making-write : (m : Bool) (b : ℕ) → b < 2 ^ 32 → readLine (writeMaking m b) ≡ read.Making m b
 unfolding readLine writeMaking makingBack Small
@@ -228,7 +177,7 @@ module _ (l : List ℕ) (w : Line) (r : Read) (g : r ≡ read.Malformed → ⊥)
 
   segment-arm : eqb (w .code) 0x29 ≡ true
       → taken (w .count) (2 + at w 1) (segmentRanges (at w 0) (at w 1)) (read.Operation (op.NewSegment (kindOf (at w 0)) (itemsFrom w))) ≡ r → l ≡ written r
-  unfolding written writeLine codeOf fieldsBack
+  unfolding written writeLine numbersOf
   segment-arm e q =
       let k : 2 + at w 1 ≡ suc (suc (at w 1)) = omega arith in
       arm 0x29 (suc (suc (at w 1))) _ _ e (rw k at q) (λ h.
@@ -236,8 +185,8 @@ module _ (l : List ℕ) (w : Line) (r : Read) (g : r ≡ read.Malformed → ⊥)
       (trim (at w 2) (at w 3) (at w 4) (at w 5) (at w 6) (at w 7) (at w 1) (leb-true _ _ (both-1 _ _ h)))
       ∙ ap (λ (n : ℕ). lineText 0x29 (n ∷ at w 1 ∷ itemsOf (itemsFrom w))) (sym (kind-number (at w 0) (both-2 _ _ h))))
 
-  from-code : meant w ≡ r → l ≡ written r
-  unfolding meant byCode written writeLine writeMaking codeOf fieldsBack fuelCode fuelBack memoryCode memoryBack tableCode tableBack
+  from-code : byCode (w .code) (w .count) w ≡ r → l ≡ written r
+  unfolding byCode written writeLine writeMaking numbersOf
   from-code q =
       try _ _ _ _ q (λ e p. arm 0x00 2 _ _ e p (λ h. ap (λ (n : ℕ). lineText 0x00 (n ∷ at w 1 ∷ [])) (sym (flag-number (at w 0) (both-2 _ _ h))))) (λ q.
       try _ _ _ _ q (λ e p. arm 0x01 1 _ _ e p (λ h. refl)) (λ q.

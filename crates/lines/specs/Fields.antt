@@ -1,5 +1,5 @@
 -- Document 01, "Operation lines": what the numbers of fields stand for, their ranges, and the way back.
-use Rattle.types.specs.Prelude.{ℕ, _^_, min, Bool, true, false, List, [], _∷_, eqb, leb, ltb, getD}
+use Rattle.types.specs.Prelude.{ℕ, Bool, true, false, List, [], _∷_, eqb, ltb, getD}
 use Rattle.types.specs.Names.{pick, both, typedOf, Limits, RefType, TypedRawRef, WantedMemory, WantedTable}
 use Rattle.types.specs.declared.raw.RefType.the-variants.{Func, Extern}
 use Rattle.memory.specs.Names.{LoadKind, StoreKind}
@@ -31,33 +31,6 @@ limitRanges bounded maximum = both (binary bounded) (absentAsZero bounded maximu
 -- limits have: has maximum, minimum, maximum
 abbrev pub limitsOf : ℕ → ℕ → ℕ → Limits
 limitsOf bounded minimum maximum = record { minimum = minimum; bounded = yes bounded; maximum = maximum }
-
--- the ranges of a memory's type: 64-bit, has maximum, maximum, exponent (at most 255)
-unfoldable pub memoryRanges : ℕ → ℕ → ℕ → ℕ → Bool
-memoryRanges wide bounded maximum exponent =
-    both (binary wide) (both (leb exponent 255) (limitRanges bounded maximum))
-
--- a memory's type has: 64-bit, has maximum, minimum, maximum, exponent
-abbrev pub wantedMemory : ℕ → ℕ → ℕ → ℕ → ℕ → WantedMemory
-wantedMemory wide bounded minimum maximum exponent =
-    record { wide = yes wide; limits = limitsOf bounded minimum maximum; exponent = min exponent 255 }
-
--- the ranges of a table's type: kind, 64-bit, has maximum, maximum
-unfoldable pub tableRanges : ℕ → ℕ → ℕ → ℕ → Bool
-tableRanges kind wide bounded maximum = both (binary kind) (both (binary wide) (limitRanges bounded maximum))
-
--- a table's type has: kind, 64-bit, has maximum, minimum, maximum
-abbrev pub wantedTable : ℕ → ℕ → ℕ → ℕ → ℕ → WantedTable
-wantedTable kind wide bounded minimum maximum =
-    record { element = kindOf kind; wide = yes wide; limits = limitsOf bounded minimum maximum }
-
--- the ranges of a machine's making: metering, and B below 2^32
-abbrev pub makingRanges : ℕ → ℕ → Bool
-makingRanges metering copied = both (ltb copied (2 ^ 32)) (binary metering)
-
--- the ranges of a segment: kind, and a count of 0 to 4
-abbrev pub segmentRanges : ℕ → ℕ → Bool
-segmentRanges kind count = both (leb count 4) (binary kind)
 
 -- load kinds from 0 on: i32, i64, f32, f64, i32 from 8s, 8u, 16s, 16u, i64 from 8s, 8u, 16s, 16u, 32s, 32u
 abbrev pub loadKinds : List LoadKind

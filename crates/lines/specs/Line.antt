@@ -1,5 +1,5 @@
 -- Document 01, "Operation lines": a two-digit code, then fields of 16 digits, each behind a single space.
-use Rattle.types.specs.Prelude.{ℕ, zero, suc, _+_, true, false, List, [], _∷_, _++_, eqb, ltb, length, drop, getD, replicate}
+use Rattle.types.specs.Prelude.{ℕ, zero, suc, true, false, List, [], _∷_, _++_, eqb, ltb, length, drop, getD, replicate}
 use Rattle.types.specs.Names.{pick, over, Done, done}
 use Rattle.lines.specs.{Hex.hexFrom, Hex.hexText, declared.field.Field.Field, declared.line.Line.Line}
 
@@ -19,44 +19,28 @@ pub data Got : Type 0 where
   none : Got
   some : List ℕ → Got
 
--- a number, and the fields that follow it
-unfoldable pub then : ℕ → Got → Got
-then v none = none
-then v (some l) = some (v ∷ l)
-
 -- a field, and what follows it
 unfoldable pub thenField : Field → Got → Got
 thenField Field.Bad g = none
-thenField (Field.Value v) g = then v g
+thenField (Field.Value v) none = none
+thenField (Field.Value v) (some l) = some (v ∷ l)
 
--- nothing follows the last field
-unfoldable pub ended : List ℕ → Got
-ended [] = some []
-ended (b ∷ l) = none
-
--- nothing, or a space, a field and what follows it
-unfoldable pub headed : List ℕ → Field → Got → Got
-headed [] f g = some []
-headed (b ∷ l) f g = pick (eqb b space) (thenField f g) none
-
--- at most n fields, up to the end
+-- at most n fields, each behind a space, up to the end
 unfoldable pub fieldsOf : ℕ → List ℕ → Got
-fieldsOf zero l = ended l
-fieldsOf (suc n) l = headed l (hexFrom 16 0 (drop 1 l)) (fieldsOf n (drop 17 l))
+fieldsOf zero [] = some []
+fieldsOf zero (b ∷ l) = none
+fieldsOf (suc n) [] = some []
+fieldsOf (suc n) (b ∷ l) = pick (eqb b space) (thenField (hexFrom 16 0 l) (fieldsOf n (drop 16 l))) none
 
 -- a line as numbers: whether it is a code and fields, the code, how many fields, and the fields with zeros up to 8; this one is none
 abbrev pub noLine : Line
 noLine = record { good = false; code = 0; count = 0; list = replicate 8 0 }
 
--- n fields are in the list, and the rest goes behind them
-unfoldable pub filled : ℕ → ℕ → List ℕ → Got → Line
-filled code n list none = noLine
-filled code n list (some l) = record { good = true; code = code; count = n + length l; list = over list n l }
-
 -- a code, and fields behind it
 unfoldable pub coded : Field → Got → Line
 coded Field.Bad g = noLine
-coded (Field.Value code) g = filled code 0 (replicate 8 0) g
+coded (Field.Value code) none = noLine
+coded (Field.Value code) (some l) = record { good = true; code = code; count = length l; list = over (replicate 8 0) 0 l }
 
 -- a text as a line's numbers
 unfoldable pub lineOf : List ℕ → Line

@@ -2,17 +2,12 @@
 -- A line of over 160 characters is malformed; what of it no piece can hold is passed over, and it has one answer.
 use Rattle.types.specs.Prelude.{ℕ, zero, suc, _+_, Bool, true, false, List, [], _∷_, _++_, ltb, leb, eqb, length, take, drop}
 use Rattle.types.specs.Names.{pick}
-use Rattle.lines.specs.{Line.lf, Line.longest, Session.Held, Session.malformed, Session.turnOf, Session.textOf, Session.session}
+use Rattle.lines.specs.{Line.lf, Line.longest, Session.Held, Session.malformed, Session.turnOf, Session.textOf}
 
 -- the bytes before the first LF
 unfoldable pub lfAt : List ℕ → ℕ
 lfAt [] = 0
 lfAt (b ∷ l) = pick (eqb b lf) 0 (suc (lfAt l))
-
--- what is left of a session, inside a line that is too long already or not
-unfoldable pub sessionFrom : Bool → ℕ → Held → List ℕ → List ℕ
-sessionFrom false r h l = session r h l
-sessionFrom true r h l = textOf (malformed h) ++ session r (malformed h .held) (drop (lfAt l + 1) l)
 
 -- what a run over a piece gives: bytes out, bytes used, what is held, and whether it ended inside a line that is too long
 pub record Run : Type 0 where
@@ -64,14 +59,11 @@ pub record Feed : Type 0 where
   pub room : ℕ
   pub bytes : List ℕ
 
--- the run that a host makes when bytes come in
-abbrev pub ranOf : ℕ → Host → Feed → Run
-ranOf r h x = pieceOf (x .room) (h .skip) r (h .held) (h .tail ++ x .bytes)
-
--- a host after bytes came in
+-- a host after bytes came in: a piece of what was left and of these
 unfoldable pub fed : ℕ → Host → Feed → Host
 fed r h x =
-    record { held = ranOf r h x .held; skip = ranOf r h x .skip; tail = drop (ranOf r h x .used) (h .tail ++ x .bytes); sent = h .sent ++ ranOf r h x .out }
+    let y = pieceOf (x .room) (h .skip) r (h .held) (h .tail ++ x .bytes) in
+    record { held = y .held; skip = y .skip; tail = drop (y .used) (h .tail ++ x .bytes); sent = h .sent ++ y .out }
 
 -- a host after all that came in
 unfoldable pub fedAll : ℕ → Host → List Feed → Host

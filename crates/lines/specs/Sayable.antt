@@ -2,7 +2,7 @@
 use Rattle.types.specs.Prelude.{ℕ, _^_, _<_, _≤_, _≡_, true, false, List, [], _∷_}
 use Rattle.types.specs.Names.{Limits, WantedMemory}
 use Rattle.machine.specs.Names.{itemFields, MemoryOp, Operation}
-use Rattle.lines.specs.Writing.{fieldsBack}
+use Rattle.lines.specs.Writing.{numbersOf}
 
 -- numbers that fields of 16 digits hold
 unfoldable pub Small : List ℕ → Type 0
@@ -17,19 +17,15 @@ LimitsSaid l = l .bounded ≡ false → l .maximum ≡ 0
 unfoldable pub MemorySaid : WantedMemory → Type 0
 MemorySaid t = (t .exponent ≤ 255) × LimitsSaid (t .limits)
 
--- of one memory, what its fields' numbers can stand for
-unfoldable pub MemoryOpSaid : MemoryOp → Type 0
-MemoryOpSaid (MemoryOp.Grow pages) = Unit
-MemoryOpSaid MemoryOp.Size = Unit
-MemoryOpSaid (MemoryOp.Load kind pointer offset) = Unit
-MemoryOpSaid (MemoryOp.Store kind pointer offset bits) = Unit
-MemoryOpSaid (MemoryOp.LinkCheck wanted) = MemorySaid wanted
-
--- of any operation
+-- of an operation, what its fields' numbers can stand for
 unfoldable pub Said : Operation → Type 0
 Said (Operation.Fuel o) = Unit
 Said (Operation.NewMemory room wanted) = MemorySaid wanted
-Said (Operation.Memory number o) = MemoryOpSaid o
+Said (Operation.Memory number (MemoryOp.Grow pages)) = Unit
+Said (Operation.Memory number MemoryOp.Size) = Unit
+Said (Operation.Memory number (MemoryOp.Load kind pointer offset)) = Unit
+Said (Operation.Memory number (MemoryOp.Store kind pointer offset bits)) = Unit
+Said (Operation.Memory number (MemoryOp.LinkCheck wanted)) = MemorySaid wanted
 Said (Operation.NewTable room wanted initial) = LimitsSaid (wanted .limits)
 Said (Operation.Table number o) = Unit
 Said (Operation.TableCopy into source span) = Unit
@@ -39,4 +35,4 @@ Said (Operation.NewSegment element items) = itemFields items ≡ true
 
 -- what a line can say
 unfoldable pub Sayable : Operation → Type 0
-Sayable o = Small (fieldsBack o) × Said o
+Sayable o = Small (numbersOf o .fields) × Said o

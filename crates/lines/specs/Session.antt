@@ -1,7 +1,7 @@
 -- Document 01, "Operation lines": a session, from the bytes that go in to the bytes that come out.
 use Rattle.types.specs.Prelude.{ℕ, Bool, false, List, [], _∷_, _++_, eqb}
 use Rattle.types.specs.Names.{pick, refuse, accept, defaultCosts, Answer, FuelCosts}
-use Rattle.machine.specs.Names.{Buffers, buffers, freshMachine, Stepped, step, Machine, Operation}
+use Rattle.machine.specs.Names.{Buffers, freshMachine, step, Machine}
 use Rattle.lines.specs.{Line.lf, Code.readLine, AnswerLine.answerLine, declared.code.Read.Read}
 use Rattle.lines.specs.declared.code.Read.the-variants as read
 
@@ -10,10 +10,6 @@ pub record Held : Type 0 where
   pub machine : Machine
   pub first : Bool
   pub buffers : Buffers
-
--- a machine, and whether the next line is the first, on three buffers
-abbrev pub heldOn : Machine → Bool → List ℕ → List ℕ → List ℕ → Held
-heldOn m first bytes cells items = record { machine = m; first = first; buffers = buffers bytes cells items }
 
 -- what a line gives: its answer, and what is held after it
 pub record Turn : Type 0 where
@@ -24,10 +20,6 @@ pub record Turn : Type 0 where
 abbrev pub turned : Answer → Machine → Buffers → Turn
 turned a m b = record { answer = a; held = record { machine = m; first = false; buffers = b } }
 
--- what an operation gave
-abbrev pub turnedAs : Stepped → Turn
-turnedAs s = turned (s .answer) (s .machine) (s .buffers)
-
 -- 18, and nothing changes
 abbrev pub malformed : Held → Turn
 malformed h = turned (refuse 18 0) (h .machine) (h .buffers)
@@ -36,14 +28,10 @@ malformed h = turned (refuse 18 0) (h .machine) (h .buffers)
 abbrev pub costsOf : ℕ → FuelCosts
 costsOf copied = record { copied = copied; translated = defaultCosts .translated; validated = defaultCosts .validated }
 
--- 00: the machine is fresh after it, the buffers are as they were
-abbrev pub remade : Buffers → Bool → ℕ → Turn
-remade b metering copied = turned (accept 0) (freshMachine metering (costsOf copied)) b
-
--- a line is one operation on the machine; the first line alone can make it anew; anything else is 18
+-- a line is one operation on the machine; the first line alone can make it anew, by 00, and leaves the buffers; anything else is 18
 unfoldable pub turnBy : ℕ → Held → Read → Turn
-turnBy r h (read.Operation op) = turnedAs (step r (h .machine) (h .buffers) op)
-turnBy r h (read.Making metering copied) = pick (h .first) (remade (h .buffers) metering copied) (malformed h)
+turnBy r h (read.Operation op) = let s = step r (h .machine) (h .buffers) op in turned (s .answer) (s .machine) (s .buffers)
+turnBy r h (read.Making metering copied) = pick (h .first) (turned (accept 0) (freshMachine metering (costsOf copied)) (h .buffers)) (malformed h)
 turnBy r h read.Malformed = malformed h
 
 -- what a line of text gives

@@ -1,3 +1,4 @@
 pub mod Digits
+pub mod Codes
 pub mod Back
 pub mod Runs

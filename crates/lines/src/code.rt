@@ -14,8 +14,9 @@ ghost use mathlib.Core.Bool.{true};
 ghost use Prim.Native.Nat.{_+_};
 ghost use lib.Dec.{leb};
 ghost use Rattle.lines.specs.Line.{at};
-ghost use Rattle.lines.specs.Fields.{binary, yes, kindOf, referenceOf, loadKindOf, storeKindOf, makingRanges, segmentRanges};
-ghost use Rattle.lines.specs.Code.{taken, taking, onFuel, onMemory, memoryIn, memoryOf, tableIn, tableOf, meant, operationOf, readLine};
+ghost use Rattle.lines.specs.Fields.{binary, yes, kindOf, referenceOf, loadKindOf, storeKindOf};
+ghost use Rattle.lines.specs.Code.{taken, onFuel, onMemory, memoryIn, memoryOf, tableIn, tableOf, operationOf, readLine};
+ghost use Rattle.lines.specs.stages.Codes.{taking, makingRanges, segmentRanges, meant};
 
 // What a line says.
 pub enum Read {

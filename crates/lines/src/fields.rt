@@ -10,7 +10,8 @@ use types::table_ty::WantedTable;
 ghost use mathlib.Core.Path.{_≡_};
 ghost use Prim.Native.Nat.{min};
 ghost use Rattle.types.specs.Pick.{both};
-ghost use Rattle.lines.specs.Fields.{binary, kindOf, referenceOf, absentAsZero, limitRanges, limitsOf, memoryRanges, wantedMemory, tableRanges, wantedTable, loadKindOf, storeKindOf, flag, kindNumber, loadNumber, storeNumber};
+ghost use Rattle.lines.specs.Fields.{binary, kindOf, referenceOf, absentAsZero, limitRanges, limitsOf, loadKindOf, storeKindOf, flag, kindNumber, loadNumber, storeNumber};
+ghost use Rattle.lines.specs.stages.Codes.{memoryRanges, wantedMemory, tableRanges, wantedTable};
 
 // An absent maximum is written 0.
 fn absent_as_zero(bounded: u64, maximum: u64) -> bool

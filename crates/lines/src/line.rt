@@ -7,7 +7,8 @@ ghost use lib.ListN.{length, take, drop, replicate};
 ghost use Rattle.types.specs.Done.{done};
 ghost use Rattle.types.specs.Span.{over};
 ghost use Rattle.lines.specs.stages.Digits.{digitTable};
-ghost use Rattle.lines.specs.Line.{noLine, filled, fieldsOf, lineOf, fieldsText, lineText, wroteOf};
+ghost use Rattle.lines.specs.stages.Back.{filled};
+ghost use Rattle.lines.specs.Line.{noLine, fieldsOf, lineOf, fieldsText, lineText, wroteOf};
 
 // A space stands before each field, and LF ends a line.
 pub(crate) const SPACE: u8 = 32;

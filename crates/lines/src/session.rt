@@ -19,11 +19,11 @@ ghost use Rattle.machine.specs.Machine.{buffers};
 ghost use Rattle.machine.specs.Row.{rowed, freshRow};
 ghost use Rattle.machine.specs.Words.{machineFrom};
 ghost use Rattle.lines.specs.AnswerLine.{answerBytes};
-ghost use Rattle.lines.specs.Session.{heldOn, costsOf};
+ghost use Rattle.lines.specs.Session.{costsOf};
 ghost use Rattle.lines.specs.Pieces.{lfAt, pieceOf};
 ghost use Rattle.lines.specs.Progress.{progressed, progressOf, pieceIn};
 ghost use Rattle.lines.specs.stages.Digits.{digitTable};
-ghost use Rattle.lines.specs.stages.Runs.{Ready, Turned, WholeRan, closedOf};
+ghost use Rattle.lines.specs.stages.Runs.{heldOn, Ready, Turned, WholeRan, closedOf};
 
 // A line of more bytes is malformed, whatever it holds.
 const LONGEST: usize = 160;

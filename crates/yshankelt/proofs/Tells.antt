@@ -27,7 +27,7 @@ use Rattle.machine.proofs.Formed.{form-holds}
 use Rattle.lines.specs.Code.{operationOf, readLine}
 use Rattle.lines.specs.Session.{Held, Turn, turnBy, turnOf}
 use Rattle.lines.specs.AnswerLine.{fuelShown}
-use Rattle.lines.specs.Line.{filled, lineOf, lineText}
+use Rattle.lines.specs.{Line.lineOf, Line.lineText, stages.Back.filled}
 use Rattle.lines.specs.Sayable.{Small}
 use Rattle.lines.proofs.FieldText.{line-write}
 use Rattle.lines.specs.declared.line.Line.{Line}

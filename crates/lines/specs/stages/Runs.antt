@@ -1,26 +1,24 @@
 -- For the code alone: what the functions of a session give back, beside the row and the buffers that they are lent.
-use Prim.Native.Nat.{ℕ, _+_, _-_, _/_, _≤_}
-use mathlib.Core.Path.{_≡_}
-use mathlib.Core.Bool.{true}
-use mathlib.Core.List.{List}
-use lib.Dec.{ltb, leb}
-use lib.ListN.{length, drop}
-use Rattle.types.specs.Pick.{pick}
-use Rattle.types.specs.Span.{over}
-use Rattle.types.specs.Raw.{rawBytes}
-use Rattle.types.specs.declared.answer.Answer.{Answer}
-use Rattle.machine.specs.Machine.{Buffers}
-use Rattle.machine.specs.Sound.{soundOver}
-use Rattle.machine.specs.Words.{rowLength, machineFrom}
-use Rattle.machine.specs.stages.Rows.{Holds}
-use Rattle.lines.specs.Line.{longest}
-use Rattle.lines.specs.AnswerLine.{answerBytes}
+use Rattle.types.specs.Prelude.{ℕ, _+_, _-_, _/_, _≤_, _≡_, Bool, true, List, _++_, ltb, leb, length, drop}
+use Rattle.types.specs.Names.{pick, over, rawBytes, Answer}
+use Rattle.machine.specs.Names.{Buffers, buffers, soundOver, Machine}
+use Rattle.machine.specs.{Words.rowLength, Words.wordsOf, Words.machineFrom, stages.Rows.Holds}
 use Rattle.lines.specs.Session.{Held, turned, turnBy}
 use Rattle.lines.specs.Pieces.{lfAt, Run, wholeLines}
-use Rattle.lines.specs.Progress.{Progressed, rowWith, sessionAs}
-use Rattle.lines.specs.declared.code.Read.{Read}
-use Rattle.lines.specs.declared.session.Session.{Session}
-use Rattle.lines.specs.declared.session.Progress.{Progress}
+use Rattle.lines.specs.{Line.longest, AnswerLine.answerBytes, Progress.Progressed, declared.code.Read.Read}
+use Rattle.lines.specs.declared.session.{Session.Session, Progress.Progress}
+
+-- a machine, and whether the next line is the first, on three buffers
+abbrev pub heldOn : Machine → Bool → List ℕ → List ℕ → List ℕ → Held
+heldOn m first bytes cells items = record { machine = m; first = first; buffers = buffers bytes cells items }
+
+-- a row with a machine's words in front
+abbrev pub rowWith : List ℕ → Machine → List ℕ
+rowWith l m = wordsOf m ++ drop rowLength l
+
+-- whether the next line is the first, and whether the input is inside a line that is too long, as a session
+abbrev pub sessionAs : Held → Bool → Session
+sessionAs h skip = record { first = h .first; skip = skip }
 
 -- what is tested once a piece and carried from line to line: the row is long enough and holds its machine's words, and that machine is sound
 pub record Ready (l : List ℕ) (b : Buffers) : Type 0 where

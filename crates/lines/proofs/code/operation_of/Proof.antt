@@ -1,6 +1,6 @@
 -- `lines::code::operation_of` meets its contract. Assumes nothing.
 use Rattle.types.proofs.Picks.{cases}
-use Rattle.lines.specs.Code.{operationOf}
+use Rattle.lines.specs.{Code.operationOf, stages.Codes.meant}
 use borrow.Author.Needs.{needs}
 use Rattle.lines.proofs.code.operation_of.Statement.{statement}
 use Rattle.lines.proofs.code.operation_of.Tie as tie
@@ -9,11 +9,11 @@ operation-by-requires : tie.Need-operation-by-requires
 operation-by-requires c κs = search needs
 
 returns : tie.Need-returns
-unfolding operationOf
+unfolding operationOf meant
 returns c = search cases
 
 returns-2 : tie.Need-returns-2
-unfolding operationOf
+unfolding operationOf meant
 returns-2 c = search cases
 
 pub operation-of-spec : {M : Type 1} → statement M

@@ -1,23 +1,19 @@
 -- `lines::fields::table_ranges` meets its contract. Assumes nothing.
 use Rattle.types.proofs.Picks.{cases}
-use Rattle.lines.specs.Fields.{tableRanges}
 use borrow.Author.Needs.{needs}
 use Rattle.lines.proofs.fields.table_ranges.Statement.{statement}
 use Rattle.lines.proofs.fields.table_ranges.Tie as tie
 
 returns : tie.Need-returns
-unfolding tableRanges
 returns c = search cases
 
 returns-2 : tie.Need-returns-2
-unfolding tableRanges
 returns-2 c = search cases
 
 limit-ranges-requires : tie.Need-limit-ranges-requires
 limit-ranges-requires c κs = search needs
 
 returns-3 : tie.Need-returns-3
-unfolding tableRanges
 returns-3 c = search cases
 
 pub table-ranges-spec : {M : Type 1} → statement M

@@ -6,8 +6,7 @@ use lib.ListN.{length, take}
 use borrow.Author.Needs.{needs}
 use Rattle.types.specs.Span.{over}
 use Rattle.types.proofs.Spans.{over-nil}
-use Rattle.lines.specs.Input.{leftOf}
-use Rattle.lines.proofs.Hosts.{keep-more, keep-turn, keep-end, keep-short}
+use Rattle.lines.proofs.Hosts.{leftOf, keep-more, keep-turn, keep-end, keep-short}
 use Rattle.lines.proofs.input.keep.Statement.{statement}
 use Rattle.lines.proofs.input.keep.Tie as tie
 

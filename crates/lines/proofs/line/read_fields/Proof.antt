@@ -4,7 +4,7 @@ use Prim.Native.Nat.{_≤_, _-_}
 use native.Mathlib.Omega.{arith}
 use borrow.Author.Needs.{needs}
 use lib.ListN.{length, drop, replicate}
-use Rattle.lines.specs.Line.{filled, fieldsOf}
+use Rattle.lines.specs.{Line.fieldsOf, stages.Back.filled}
 use Rattle.lines.proofs.FieldLaws.{fields-on, fields-bad, fields-char, fields-short, fields-many, fields-end}
 use Rattle.lines.proofs.line.read_fields.Statement.{statement}
 use Rattle.lines.proofs.line.read_fields.Tie as tie

@@ -8,7 +8,7 @@ use Prim.Native.Nat.{_-_, _/_}
 use lib.ListN.{length}
 use Rattle.types.specs.Raw.{rawBytes}
 use Rattle.lines.specs.AnswerLine.{answerBytes}
-use Rattle.lines.specs.Session.{heldOn}
+use Rattle.lines.specs.stages.Runs.{heldOn}
 use Rattle.lines.specs.declared.session.Progress.{Progress}
 use Rattle.lines.proofs.Runs.{turned-line, run-stop, run-full, first-on}
 use Rattle.lines.proofs.Carried.{reached-row, row-line}

@@ -11,9 +11,8 @@ use lib.ListN.{length, drop}
 use Rattle.types.specs.Raw.{rawBytes}
 use Rattle.machine.specs.Words.{rowLength}
 use Rattle.lines.specs.AnswerLine.{answerBytes}
-use Rattle.lines.specs.Session.{heldOn}
 use Rattle.lines.specs.Pieces.{wholeLines}
-use Rattle.lines.specs.stages.Runs.{Ready, endOf}
+use Rattle.lines.specs.stages.Runs.{heldOn, Ready, endOf}
 use Rattle.lines.specs.declared.session.Progress.{Progress}
 use Rattle.lines.proofs.Runs.{turned-line, turn-does, turn-later, turn-on, run-stop, run-full, came}
 use Rattle.lines.proofs.Carried.{proceed-ready, proceed-behind, proceed-step, ready-came, reached-row, row-line}

@@ -7,7 +7,7 @@ use Rattle.machine.specs.Machine.{buffers}
 use mathlib.Core.Bool.{true}
 use lib.ListN.{length}
 use Rattle.types.specs.Raw.{rawBytes}
-use Rattle.lines.specs.Session.{heldOn}
+use Rattle.lines.specs.stages.Runs.{heldOn}
 use mathlib.Core.List.{List}
 use Prim.Native.Nat.{ℕ}
 use Rattle.types.specs.Span.{over}

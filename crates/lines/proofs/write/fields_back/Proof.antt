@@ -1,8 +1,7 @@
 -- `lines::write::fields_back` meets its contract. Assumes nothing.
 use Rattle.types.specs.Span.{over}
-use Rattle.lines.specs.Line.{filled}
-use Rattle.lines.specs.Writing.{codeOf, fieldsBack}
-use Rattle.lines.specs.stages.Back.{backOf, wantedBack}
+use Rattle.lines.specs.Writing.{numbersOf}
+use Rattle.lines.specs.stages.Back.{filled, backOf, wantedBack}
 use borrow.Author.Needs.{needs}
 use Rattle.lines.proofs.write.fields_back.Statement.{statement}
 use Rattle.lines.proofs.write.fields_back.Tie as tie
@@ -62,39 +61,39 @@ segment-back-requires : tie.Need-segment-back-requires
 segment-back-requires c κs = search needs
 
 returns : tie.Need-returns
-unfolding backOf wantedBack filled over codeOf fieldsBack
+unfolding backOf wantedBack filled over numbersOf
 returns c = rw (c .before .before .op .given .1) (c .fuel-back .ensures)
 
 returns-2 : tie.Need-returns-2
-unfolding backOf wantedBack filled over codeOf fieldsBack
+unfolding backOf wantedBack filled over numbersOf
 returns-2 c = rw (c .before .before .op2 .given .1) (c .wanted-back .ensures)
 
 returns-3 : tie.Need-returns-3
-unfolding backOf wantedBack filled over codeOf fieldsBack
+unfolding backOf wantedBack filled over numbersOf
 returns-3 c = rw (c .before .before .op3 .given .1) (c .memory-back .ensures)
 
 returns-4 : tie.Need-returns-4
-unfolding backOf wantedBack filled over codeOf fieldsBack
+unfolding backOf wantedBack filled over numbersOf
 returns-4 c = rw (c .before .before .op4 .given .1) (c .new-table-back .ensures)
 
 returns-5 : tie.Need-returns-5
-unfolding backOf wantedBack filled over codeOf fieldsBack
+unfolding backOf wantedBack filled over numbersOf
 returns-5 c = rw (c .before .before .op5 .given .1) (c .table-back .ensures)
 
 returns-6 : tie.Need-returns-6
-unfolding backOf wantedBack filled over codeOf fieldsBack
+unfolding backOf wantedBack filled over numbersOf
 returns-6 c = rw (c .before .before .op6 .given .1) (c .fielded .ensures)
 
 returns-7 : tie.Need-returns-7
-unfolding backOf wantedBack filled over codeOf fieldsBack
+unfolding backOf wantedBack filled over numbersOf
 returns-7 c = rw (c .before .before .op7 .given .1) (c .fielded2 .ensures)
 
 returns-8 : tie.Need-returns-8
-unfolding backOf wantedBack filled over codeOf fieldsBack
+unfolding backOf wantedBack filled over numbersOf
 returns-8 c = rw (c .before .before .op8 .given .1) (c .fielded3 .ensures)
 
 returns-9 : tie.Need-returns-9
-unfolding backOf wantedBack filled over codeOf fieldsBack
+unfolding backOf wantedBack filled over numbersOf
 returns-9 c = rw (c .before .before .op9 .given .1) (c .segment-back .ensures)
 
 pub fields-back-spec : {M : Type 1} → statement M

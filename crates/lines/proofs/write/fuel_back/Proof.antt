@@ -1,8 +1,7 @@
 -- `lines::write::fuel_back` meets its contract. Assumes nothing.
 use Rattle.types.specs.Span.{over}
-use Rattle.lines.specs.Line.{filled}
-use Rattle.lines.specs.Writing.{fuelCode, codeOf, fuelBack, fieldsBack}
-use Rattle.lines.specs.stages.Back.{backOf}
+use Rattle.lines.specs.Writing.{numbersOf}
+use Rattle.lines.specs.stages.Back.{filled, backOf}
 use borrow.Author.Needs.{needs}
 use Rattle.lines.proofs.write.fuel_back.Statement.{statement}
 use Rattle.lines.proofs.write.fuel_back.Tie as tie
@@ -32,19 +31,19 @@ fielded-requires-4 : tie.Need-fielded-requires-4
 fielded-requires-4 c κs = search needs
 
 returns : tie.Need-returns
-unfolding backOf filled over codeOf fieldsBack fuelCode fuelBack
+unfolding backOf filled over numbersOf
 returns c = rw (c .before .before .op .given .1) (c .fielded .ensures)
 
 returns-2 : tie.Need-returns-2
-unfolding backOf filled over codeOf fieldsBack fuelCode fuelBack
+unfolding backOf filled over numbersOf
 returns-2 c = rw (c .before .enum-told .given .1) (c .fielded2 .ensures)
 
 returns-3 : tie.Need-returns-3
-unfolding backOf filled over codeOf fieldsBack fuelCode fuelBack
+unfolding backOf filled over numbersOf
 returns-3 c = rw (c .before .before .op2 .given .1) (c .fielded3 .ensures)
 
 returns-4 : tie.Need-returns-4
-unfolding backOf filled over codeOf fieldsBack fuelCode fuelBack
+unfolding backOf filled over numbersOf
 returns-4 c = rw (c .before .before .op3 .given .1) (c .fielded4 .ensures)
 
 pub fuel-back-spec : {M : Type 1} → statement M

@@ -1,7 +1,6 @@
 -- `lines::write::making_back` meets its contract. Assumes nothing.
 use Rattle.types.specs.Span.{over}
-use Rattle.lines.specs.Line.{filled}
-use Rattle.lines.specs.stages.Back.{makingBack}
+use Rattle.lines.specs.stages.Back.{filled, makingBack}
 use borrow.Author.Needs.{needs}
 use Rattle.lines.proofs.write.making_back.Statement.{statement}
 use Rattle.lines.proofs.write.making_back.Tie as tie

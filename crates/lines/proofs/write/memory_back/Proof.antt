@@ -1,8 +1,7 @@
 -- `lines::write::memory_back` meets its contract. Assumes nothing.
 use Rattle.types.specs.Span.{over}
-use Rattle.lines.specs.Line.{filled}
-use Rattle.lines.specs.Writing.{memoryCode, codeOf, memoryBack, fieldsBack}
-use Rattle.lines.specs.stages.Back.{backOf, wantedBack}
+use Rattle.lines.specs.Writing.{numbersOf}
+use Rattle.lines.specs.stages.Back.{filled, backOf, wantedBack}
 use borrow.Author.Needs.{needs}
 use Rattle.lines.proofs.write.memory_back.Statement.{statement}
 use Rattle.lines.proofs.write.memory_back.Tie as tie
@@ -44,23 +43,23 @@ wanted-back-requires : tie.Need-wanted-back-requires
 wanted-back-requires c κs = search needs
 
 returns : tie.Need-returns
-unfolding backOf wantedBack filled over codeOf fieldsBack memoryCode memoryBack
+unfolding backOf wantedBack filled over numbersOf
 returns c = rw (c .before .before .op .given .1) (c .fielded .ensures)
 
 returns-2 : tie.Need-returns-2
-unfolding backOf wantedBack filled over codeOf fieldsBack memoryCode memoryBack
+unfolding backOf wantedBack filled over numbersOf
 returns-2 c = rw (c .before .enum-told .given .1) (c .fielded2 .ensures)
 
 returns-3 : tie.Need-returns-3
-unfolding backOf wantedBack filled over codeOf fieldsBack memoryCode memoryBack
+unfolding backOf wantedBack filled over numbersOf
 returns-3 c = rw (c .before .before .before .op2 .given .1) (rw (c .before .load-number .ensures) at (c .fielded3 .ensures))
 
 returns-4 : tie.Need-returns-4
-unfolding backOf wantedBack filled over codeOf fieldsBack memoryCode memoryBack
+unfolding backOf wantedBack filled over numbersOf
 returns-4 c = rw (c .before .before .before .op3 .given .1) (rw (c .before .store-number .ensures) at (c .fielded4 .ensures))
 
 returns-5 : tie.Need-returns-5
-unfolding backOf wantedBack filled over codeOf fieldsBack memoryCode memoryBack
+unfolding backOf wantedBack filled over numbersOf
 returns-5 c = rw (c .before .before .op4 .given .1) (c .wanted-back .ensures)
 
 pub memory-back-spec : {M : Type 1} → statement M

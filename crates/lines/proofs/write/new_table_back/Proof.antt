@@ -1,8 +1,7 @@
 -- `lines::write::new_table_back` meets its contract. Assumes nothing.
 use Rattle.types.specs.Span.{over}
-use Rattle.lines.specs.Line.{filled}
-use Rattle.lines.specs.Writing.{codeOf, fieldsBack}
-use Rattle.lines.specs.stages.Back.{backOf}
+use Rattle.lines.specs.Writing.{numbersOf}
+use Rattle.lines.specs.stages.Back.{filled, backOf}
 use borrow.Author.Needs.{needs}
 use Rattle.lines.proofs.write.new_table_back.Statement.{statement}
 use Rattle.lines.proofs.write.new_table_back.Tie as tie
@@ -23,7 +22,7 @@ fielded-requires : tie.Need-fielded-requires
 fielded-requires c κs = search needs
 
 returns : tie.Need-returns
-unfolding backOf filled over codeOf fieldsBack
+unfolding backOf filled over numbersOf
 returns c =
     let d = c .before .before .before in
     rw (d .before .before .before .kind-number .ensures, d .before .before .flag .ensures, d .flag2 .ensures, c .before .before .kind-number2 .ensures) at (c .fielded .ensures)

@@ -1,5 +1,7 @@
 -- `lines::write::segment_back` meets its contract. Assumes nothing.
-use Rattle.lines.proofs.BackLaws.{back-0, back-1, back-2, back-3, back-4}
+use Rattle.types.specs.Span.{over}
+use Rattle.lines.specs.stages.Back.{filled}
+use Rattle.lines.proofs.BackLaws.{so-many, all-four, back-items}
 use borrow.Author.Needs.{needs}
 use Rattle.lines.proofs.write.segment_back.Statement.{statement}
 use Rattle.lines.proofs.write.segment_back.Tie as tie
@@ -23,19 +25,26 @@ fielded-requires-5 : tie.Need-fielded-requires-5
 fielded-requires-5 c κs = search needs
 
 returns : tie.Need-returns
-returns c = back-0 _ _ _ _ (c .before .match .keys1) (c .before .before .kind-number .ensures) (c .fielded .ensures)
+unfolding filled over
+returns c = back-items _ _ _ 0 (so-many _ _ (c .before .match .keys1)) (c .before .before .kind-number .ensures) (c .fielded .ensures)
 
 returns-2 : tie.Need-returns-2
-returns-2 c = back-1 _ _ _ _ (c .before .match .keys2) (c .before .before .kind-number .ensures) (c .fielded2 .ensures)
+unfolding filled over
+returns-2 c = back-items _ _ _ 1 (so-many _ _ (c .before .match .keys2)) (c .before .before .kind-number .ensures) (c .fielded2 .ensures)
 
 returns-3 : tie.Need-returns-3
-returns-3 c = back-2 _ _ _ _ (c .before .match .keys3) (c .before .before .kind-number .ensures) (c .fielded3 .ensures)
+unfolding filled over
+returns-3 c = back-items _ _ _ 2 (so-many _ _ (c .before .match .keys3)) (c .before .before .kind-number .ensures) (c .fielded3 .ensures)
 
 returns-4 : tie.Need-returns-4
-returns-4 c = back-3 _ _ _ _ (c .before .match .keys4) (c .before .before .kind-number .ensures) (c .fielded4 .ensures)
+unfolding filled over
+returns-4 c = back-items _ _ _ 3 (so-many _ _ (c .before .match .keys4)) (c .before .before .kind-number .ensures) (c .fielded4 .ensures)
 
 returns-5 : tie.Need-returns-5
-returns-5 c = let r = c .before .match .rest in back-4 _ _ _ _ (r .0 .0 .0 .1) (r .0 .0 .1) (r .0 .1) (r .1) (c .before .before .kind-number .ensures) (c .fielded5 .ensures)
+unfolding filled over
+returns-5 c =
+    let r = c .before .match .rest in
+    back-items _ _ _ 4 (all-four _ (r .0 .0 .0 .1) (r .0 .0 .1) (r .0 .1) (r .1)) (c .before .before .kind-number .ensures) (c .fielded5 .ensures)
 
 pub segment-back-spec : {M : Type 1} → statement M
 segment-back-spec =

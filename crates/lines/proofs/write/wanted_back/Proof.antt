@@ -1,7 +1,6 @@
 -- `lines::write::wanted_back` meets its contract. Assumes nothing.
 use Rattle.types.specs.Span.{over}
-use Rattle.lines.specs.Line.{filled}
-use Rattle.lines.specs.stages.Back.{wantedBack}
+use Rattle.lines.specs.stages.Back.{filled, wantedBack}
 use borrow.Author.Needs.{needs}
 use Rattle.lines.proofs.write.wanted_back.Statement.{statement}
 use Rattle.lines.proofs.write.wanted_back.Tie as tie
