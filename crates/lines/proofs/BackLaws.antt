@@ -1,6 +1,5 @@
 -- Laws of an operation as a line's numbers. Assumes nothing.
 use mathlib.Core.Path.{_≡_, sym, ap, _∙_}
-use mathlib.Core.Bool.{Bool}
 use mathlib.Core.List.{List, [], _∷_}
 use Prim.Native.Nat.{ℕ, _+_, _<_, _≤_}
 use native.Mathlib.Omega.{arith}
@@ -15,9 +14,9 @@ use Rattle.machine.specs.declared.operation.TableOp.the-variants as table
 use Rattle.machine.specs.declared.operation.Operation.{Operation}
 use Rattle.machine.specs.declared.operation.Operation.the-variants as op
 use Rattle.lines.specs.Line.{some, lineText, wroteOf}
-use Rattle.lines.specs.Fields.{flag, kindNumber}
-use Rattle.lines.specs.Writing.{numbersOf, writeLine, writeMaking}
-use Rattle.lines.specs.stages.Back.{filled, backOf, makingBack}
+use Rattle.lines.specs.Fields.{kindNumber}
+use Rattle.lines.specs.Writing.{numbersOf, writeLine}
+use Rattle.lines.specs.stages.Back.{filled, backOf}
 use Rattle.lines.specs.declared.line.Line.{Line}
 use Rattle.lines.proofs.FieldText.{take-over}
 use Rattle.lines.proofs.Writing.{length-line}
@@ -68,29 +67,14 @@ pub fits : (o : Operation) → length (writeLine o) ≤ 138
 unfolding writeLine
 fits o = omega (arith, few o .1, length-line (numbersOf o .code) (numbersOf o .fields))
 
--- the text of a code and fields
-back-text : (c : ℕ) (l : List ℕ) (w : Line) → w ≡ filled c 0 (replicate 8 0) (some l) → lineText (w .code) (take (w .count) (w .list)) ≡ lineText c l
-unfolding filled
-back-text c l w e = ap (λ (x : Line). lineText (x .code) (take (x .count) (x .list))) e ∙ ap (lineText c) (take-over (0 + length l) l (omega arith))
+-- a line of a code and at most 8 fields: how many they are, and their text
+module _ (c : ℕ) (l : List ℕ) {w : Line} (e : w ≡ filled c 0 (replicate 8 0) (some l)) where
+  pub line-few : length l ≤ 8 → w .count ≤ 8
+  unfolding filled
+  line-few h = omega (arith, ap (λ (x : Line). x .count) e)
 
-back-count : (c : ℕ) (l : List ℕ) (w : Line) → w ≡ filled c 0 (replicate 8 0) (some l) → w .count ≡ length l
-unfolding filled
-back-count c l w e = let h : w .count ≡ 0 + length l = ap (λ (x : Line). x .count) e in omega arith
-
-pub back-few : (w : Line) (o : Operation) → w ≡ backOf o → w .count ≤ 8
-unfolding backOf
-back-few w o e = omega (arith, few o .1, back-count (numbersOf o .code) (numbersOf o .fields) w e)
-
-pub back-wrote : (w : Line) (o : Operation) (l : List ℕ) {r : Done ℕ} → w ≡ backOf o
-    → r ≡ wroteOf l (lineText (w .code) (take (w .count) (w .list))) → r ≡ wroteOf l (writeLine o)
-unfolding backOf writeLine
-back-wrote w o l e q = q ∙ ap (wroteOf l) (back-text (numbersOf o .code) (numbersOf o .fields) w e)
-
-pub making-few : (w : Line) (m : Bool) (b : ℕ) → w ≡ makingBack m b → w .count ≤ 8
-unfolding makingBack
-making-few w m b e = omega (arith, back-count 0 (flag m ∷ b ∷ []) w e)
-
-pub making-wrote : (w : Line) (m : Bool) (b : ℕ) (l : List ℕ) {r : Done ℕ} → w ≡ makingBack m b
-    → r ≡ wroteOf l (lineText (w .code) (take (w .count) (w .list))) → r ≡ wroteOf l (writeMaking m b)
-unfolding makingBack writeMaking
-making-wrote w m b l e q = q ∙ ap (wroteOf l) (back-text 0 (flag m ∷ b ∷ []) w e)
+  pub line-wrote : (o : List ℕ) {r : Done ℕ} → r ≡ wroteOf o (lineText (w .code) (take (w .count) (w .list))) → r ≡ wroteOf o (lineText c l)
+  unfolding filled
+  line-wrote o q =
+      q ∙ ap (λ (x : Line). wroteOf o (lineText (x .code) (take (x .count) (x .list)))) e
+      ∙ ap (λ (z : List ℕ). wroteOf o (lineText c z)) (take-over (0 + length l) l (omega arith))

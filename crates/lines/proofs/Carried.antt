@@ -117,10 +117,7 @@ module _ (l : List ℕ) (b : Buffers) (metering : Bool) (costs : FuelCosts) (r :
 
 -- where two ways meet
 pub ready-came : {ws bs cs is ws₁ bs₁ cs₁ is₁ : List ℕ} → ws ≡ ws₁ → bs ≡ bs₁ → cs ≡ cs₁ → is ≡ is₁ → Ready ws₁ (buffers bs₁ cs₁ is₁) → Ready ws (buffers bs cs is)
-ready-came {ws = ws} {bs = bs} {cs = cs} {bs₁ = bs₁} {cs₁ = cs₁} {is₁ = is₁} a b c d r =
-    subst (λ (v : List ℕ). Ready ws (buffers bs cs v)) (sym d)
-    (subst (λ (v : List ℕ). Ready ws (buffers bs v is₁)) (sym c)
-    (subst (λ (v : List ℕ). Ready ws (buffers v cs₁ is₁)) (sym b) (subst (λ (v : List ℕ). Ready v (buffers bs₁ cs₁ is₁)) (sym a) r)))
+ready-came a b c d r = rw (a, b, c, d) r
 
 -- a run that stops on a row that is ready
 pub reached-row : (s l bytes cells items out : List ℕ) (first : Bool) (used wrote : ℕ) {p : Progress} → Ready l (buffers bytes cells items) → drop rowLength l ≡ drop rowLength s

@@ -63,42 +63,39 @@ fields-on c n at v s list h z k e d g q =
     at-byte n at s h k ∙ pick-true _ _ _ (eq-eqb _ _ e) ∙ ap (λ (u : Field). thenField u rest) (sym d ∙ g) in
     sym (filled-then c n v list rest (omega arith)) ∙ ap (λ (u : Got). filled c n list u) (sym w) ∙ q
 
+-- the rest is no fields
+no-more : (c n : ℕ) (list : List ℕ) (g : Got) {o r : Line} → o ≡ noLine → g ≡ none → filled c n list g ≡ r → o ≡ r
+unfolding filled
+no-more c n list g e w q = e ∙ ap (filled c n list) (sym w) ∙ q
+
 -- no number stands there
 pub fields-bad : (c n at : ℕ) (s list : List ℕ) {f : Field} {o r : Line} → o ≡ noLine → n ≤ 7 → at < length s → getD s at 0 ≡ space →
     f ≡ hexFrom 16 0 (drop (at + 1) s) → f ≡ Bad → filled c n list (fieldsOf (8 - n) (drop at s)) ≡ r → o ≡ r
-unfolding thenField filled
+unfolding thenField
 fields-bad c n at s list o h k e d g q =
     let rest = fieldsOf (8 - (n + 1)) (drop (at + 17) s) in
-    let w : fieldsOf (8 - n) (drop at s) ≡ none =
-    at-byte n at s h k ∙ pick-true _ _ _ (eq-eqb _ _ e) ∙ ap (λ (u : Field). thenField u rest) (sym d ∙ g) in
-    o ∙ ap (λ (u : Got). filled c n list u) (sym w) ∙ q
+    no-more c n list _ o (at-byte n at s h k ∙ pick-true _ _ _ (eq-eqb _ _ e) ∙ ap (λ (u : Field). thenField u rest) (sym d ∙ g)) q
 
 -- no space stands there
 pub fields-char : (c n at : ℕ) (s list : List ℕ) {o r : Line} → o ≡ noLine → n ≤ 7 → at < length s → (getD s at 0 ≡ space → ⊥) →
     filled c n list (fieldsOf (8 - n) (drop at s)) ≡ r → o ≡ r
-unfolding filled
-fields-char c n at s list o h k e q =
-    o ∙ ap (λ (u : Got). filled c n list u) (sym (at-byte n at s h k ∙ pick-false _ _ _ (ne-eqb _ _ e))) ∙ q
+fields-char c n at s list o h k e q = no-more c n list _ o (at-byte n at s h k ∙ pick-false _ _ _ (ne-eqb _ _ e)) q
 
 -- too few bytes are left
 pub fields-short : (c n at : ℕ) (s list : List ℕ) {o r : Line} → o ≡ noLine → n ≤ 7 → at < length s → length s - at < 17 →
     filled c n list (fieldsOf (8 - n) (drop at s)) ≡ r → o ≡ r
-unfolding thenField filled
+unfolding thenField
 fields-short c n at s list o h k e q =
-    let rest = fieldsOf (8 - (n + 1)) (drop (at + 17) s) in
     let b : hexFrom 16 0 (drop (at + 1) s) ≡ Bad = hex-short 16 0 (drop (at + 1) s) (omega (arith, length-drop (at + 1) s)) in
-    let w : fieldsOf (8 - n) (drop at s) ≡ none =
-    at-byte n at s h k ∙ ap (λ (u : Field). pick (eqb (getD s at 0) space) (thenField u rest) none) b ∙ pick-same (eqb (getD s at 0) space) none in
-    o ∙ ap (λ (u : Got). filled c n list u) (sym w) ∙ q
+    no-more c n list _ o (at-byte n at s h k ∙ rw b (pick-same (eqb (getD s at 0) space) none)) q
 
 -- something stands behind the eighth field
 pub fields-many : (c n at : ℕ) (s list : List ℕ) {o r : Line} → o ≡ noLine → 7 < n → at < length s →
     filled c n list (fieldsOf (8 - n) (drop at s)) ≡ r → o ≡ r
-unfolding filled fieldsOf
+unfolding fieldsOf
 fields-many c n at s list o h k q =
     let j : 8 - n ≡ 0 = omega arith in
-    let w : fieldsOf (8 - n) (drop at s) ≡ none = ap (λ (m : ℕ). fieldsOf m (drop at s)) j ∙ ap (fieldsOf 0) (drop-cons s at 0 k) in
-    o ∙ ap (λ (u : Got). filled c n list u) (sym w) ∙ q
+    no-more c n list _ o (ap (λ (m : ℕ). fieldsOf m (drop at s)) j ∙ ap (fieldsOf 0) (drop-cons s at 0 k)) q
 
 nothing : (k : ℕ) → fieldsOf k [] ≡ some []
 unfolding fieldsOf

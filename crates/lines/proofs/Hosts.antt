@@ -8,8 +8,7 @@ use native.Mathlib.Numerals.{add-one}
 use lib.Dec.{eqb, ltb, leb}
 use lib.ListN.{length, take, drop, set, getD, length-append, length-take, length-drop, length-set, drop-of-length-le}
 use lib.Seq.{getD-take, getD-drop, take-all, take-at, take-suc-set, drop-drop, drop-nil, length-take-le}
-use borrow.Author.Tests.{ltb-true, ltb-false, leb-true, leb-false, lt-ltb, lt-leb, eqb-true, eqb-false}
-use Rattle.types.specs.Pick.{pick}
+use borrow.Author.Tests.{ltb-true, ltb-false, leb-true, leb-false, lt-leb, eqb-true, eqb-false}
 use Rattle.types.specs.Span.{over}
 use Rattle.types.specs.Done.{done}
 use Rattle.types.proofs.Dones.{done-as}
@@ -17,12 +16,12 @@ use Rattle.types.proofs.Picks.{pick-true, pick-false, either}
 use Rattle.types.proofs.Spans.{over-after, over-span, length-over}
 use Rattle.types.proofs.Moves.{put-turn}
 use Rattle.lines.specs.Line.{lf, longest}
-use Rattle.lines.specs.Session.{Held, malformed, turnOf, textOf, session}
+use Rattle.lines.specs.Session.{Held, textOf, session}
 use Rattle.lines.specs.Pieces.{lfAt, Run, ahead, wholeLines, closeOf, pieceOf, Host, Feed, fed, fedAll, whole}
 use Rattle.lines.specs.Input.{keptOf, unended, endedOf, finished}
 use Rattle.lines.proofs.LineEnds.{lf-le, lf-append}
 use Rattle.lines.proofs.Pieces.{sessionFrom, no-skip, fed-all, started, none-left, fed-started, fed-whole}
-use Rattle.lines.proofs.Pieces.{lf-lf, last-behind, close-skip, close-line, close-used, piece-moves}
+use Rattle.lines.proofs.Pieces.{lf-lf, last-behind, close-skip, close-line, close-case, firstTurn, piece-line, line-used, piece-moves}
 
 -- what is left of the first `end` bytes of an input, from `from` on
 abbrev pub leftOf : List ℕ → ℕ → ℕ → List ℕ
@@ -121,25 +120,12 @@ drain-tail r k at h l e =
     let u = ranOf r h (again k) .used in
     ap (drop u) (append-nil (h .tail) ∙ e) ∙ drop-drop u at l
 
--- a run over a line that ends used something
-moved : (l o : List ℕ) (w : Run) → lfAt l < length l → closeOf l (ahead o (lfAt l + 1) w) .used ≡ 0 → ⊥
-moved l o w g u = omega (arith, close-used l (ahead o (lfAt l + 1) w) (omega arith) (omega arith))
-
 -- a piece with room for an answer that uses nothing: no whole line is left, and no more than a line can have
 still-rest : (k : ℕ) (t : Bool) (r : ℕ) (h : Held) (l : List ℕ) → pieceOf (suc k) t r h l .used ≡ 0 → lfAt l ≡ length l
-unfolding pieceOf wholeLines
-still-rest k false r h l u =
-    let n = lfAt l in
-    let x = turnOf r h (take n l) in
-    either (ltb n (length l))
-    (λ e. absurd (moved l (textOf x) (wholeLines k r (x .held) (drop (n + 1) l)) (ltb-true n (length l) e) (rw (pick-true _ _ _ e) at u)))
-    (λ e. omega (arith, lf-le l, ltb-false n (length l) e))
-still-rest k true r h l u =
-    let n = lfAt l in
-    let x = malformed h in
-    either (ltb n (length l))
-    (λ e. absurd (moved l (textOf x) (wholeLines k r (x .held) (drop (n + 1) l)) (ltb-true n (length l) e) (rw (pick-true _ _ _ e) at u)))
-    (λ e. omega (arith, lf-le l, ltb-false n (length l) e))
+still-rest k t r h l u =
+    either (ltb (lfAt l) (length l))
+    (λ e. absurd (omega (arith, line-used k t r h l (ltb-true _ _ e))))
+    (λ e. omega (arith, lf-le l, ltb-false (lfAt l) (length l) e))
 
 still-short : (k : ℕ) (t : Bool) (r : ℕ) (h : Held) (l : List ℕ) → pieceOf (suc k) t r h l .used ≡ 0 → length l ≤ longest
 still-short k t r h l u =
@@ -191,10 +177,7 @@ end-line-same false r h l g e = close-line r h l (some-kept (length l) g) e
 
 -- a run that used all is as it is
 close-all : (l : List ℕ) (x : Run) → drop (x .used) l ≡ [] → closeOf l x ≡ x
-unfolding closeOf lfAt pick
-close-all l x e =
-    ap (λ (w : List ℕ). pick (ltb (lfAt w) (length w)) x
-    (pick (leb (length w) longest) x (record { out = x .out; used = length l; held = x .held; skip = true }))) e
+close-all l x e = close-case (λ (y : Run). y ≡ x) l x refl (λ n m. absurd (omega (arith, ap length e)))
 
 module _ (r : ℕ) (l : List ℕ) (e : lfAt l ≡ length l) where
   ended-at : lfAt (l ++ (lf ∷ [])) ≡ length l
@@ -217,19 +200,12 @@ module _ (r : ℕ) (l : List ℕ) (e : lfAt l ≡ length l) where
   -- the last line with its LF is used up, and no line is being passed over
   last-used : (k : ℕ) (t : Bool) (h : Held) →
       (drop (pieceOf (suc k) t r h (l ++ (lf ∷ [])) .used) (l ++ (lf ∷ [])) ≡ []) × (pieceOf (suc k) t r h (l ++ (lf ∷ [])) .skip ≡ false)
-  unfolding pieceOf wholeLines
-  last-used k false h =
+  last-used k t h =
       let z = l ++ (lf ∷ []) in
-      let y = turnOf r h (take (lfAt z) z) in
+      let y = firstTurn t r h z in
       let x = ahead (textOf y) (lfAt z + 1) (wholeLines k r (y .held) (drop (lfAt z + 1) z)) in
       let d : drop (x .used) z ≡ [] = ended-used k (textOf y) (y .held) in
-      rw (pick-true _ _ _ (lt-ltb _ _ ended-in)) (rw (close-all z x d) (d, no-skip k r (y .held) (drop (lfAt z + 1) z)))
-  last-used k true h =
-      let z = l ++ (lf ∷ []) in
-      let y = malformed h in
-      let x = ahead (textOf y) (lfAt z + 1) (wholeLines k r (y .held) (drop (lfAt z + 1) z)) in
-      let d : drop (x .used) z ≡ [] = ended-used k (textOf y) (y .held) in
-      rw (pick-true _ _ _ (lt-ltb _ _ ended-in)) (rw (close-all z x d) (d, no-skip k r (y .held) (drop (lfAt z + 1) z)))
+      rw (piece-line k t r h z ended-in, close-all z x d) (d, no-skip k r (y .held) (drop (lfAt z + 1) z))
 
 -- the last line: it is answered as without the LF that it gets
 pub last-line : (r k : ℕ) (h : Host) → unended (h .skip) (length (h .tail)) ≡ true → lfAt (h .tail) ≡ length (h .tail) →

@@ -2,17 +2,17 @@
 use mathlib.Core.Path.{_≡_, refl, sym, ap, _∙_}
 use mathlib.Core.Bool.{Bool, true, false}
 use mathlib.Core.List.{List, [], _∷_, _++_, append-assoc, append-nil}
-use Prim.Native.Nat.{ℕ, zero, suc, _+_, _*_, _<_, _≤_}
+use Prim.Native.Nat.{ℕ, zero, suc, _+_, _<_, _≤_}
 use native.Mathlib.Omega.{arith}
 use lib.Dec.{ltb, leb}
 use lib.ListN.{length, take, drop, length-append, length-drop, drop-of-length-le}
-use lib.Seq.{drop-drop, drop-append-le, drop-append-seam, drop-length, take-append-add, take-at, take-length}
-use borrow.Author.Tests.{ltb-true, ltb-false, leb-false, le-ltb, lt-leb}
+use lib.Seq.{drop-drop, drop-append-le, drop-length, take-append-add, take-at, take-length}
+use borrow.Author.Tests.{ltb-true, ltb-false, leb-false, lt-ltb, le-ltb, lt-leb}
 use Rattle.types.proofs.Picks.{pick-true, pick-false, either}
 use Rattle.lines.specs.Line.{lf, longest}
 use Rattle.lines.specs.AnswerLine.{answerBytes}
 use Rattle.lines.specs.Session.{Held, Turn, malformed, turnBy, turnOf, textOf, session}
-use Rattle.lines.specs.Pieces.{lfAt, Run, still, ahead, wholeLines, closeOf, pieceOf, Host, Feed, fed, fedAll, whole}
+use Rattle.lines.specs.Pieces.{lfAt, Run, ahead, wholeLines, closeOf, pieceOf, Host, Feed, fed, fedAll, whole}
 use Rattle.lines.proofs.Text.{long-malformed, answer-line-long}
 use Rattle.lines.proofs.LineEnds.{lf-le, lf-append, lf-in, behind, nothing, session-first, whole-used, session-whole}
 
@@ -70,23 +70,27 @@ no-skip zero r h l = refl
 no-skip (suc k) r h l =
     either (ltb (lfAt l) (length l)) (λ e. rw (pick-true _ _ _ e) (no-skip k r _ (drop (lfAt l + 1) l))) (λ e. rw (pick-false _ _ _ e) refl)
 
+-- a run that is over is as it was, or what it leaves is a line that is too long already, and is passed over
+pub close-case : (C : Run → Type 0) (l : List ℕ) (x : Run) → C x →
+    (lfAt (drop (x .used) l) ≡ length (drop (x .used) l) → longest < length (drop (x .used) l) → C (record { out = x .out; used = length l; held = x .held; skip = true })) →
+    C (closeOf l x)
+unfolding closeOf
+close-case C l x c d =
+    let w = drop (x .used) l in
+    either (ltb (lfAt w) (length w)) (λ e. rw (pick-true _ _ _ e) c)
+    (λ e. rw (pick-false _ _ _ e)
+    (either (leb (length w) longest) (λ f. rw (pick-true _ _ _ f) c)
+    (λ f. rw (pick-false _ _ _ f) (d (omega (arith, lf-le w, ltb-false (lfAt w) (length w) e)) (leb-false (length w) longest f)))))
+
 -- what is passed over at the end of a run changes nothing of what is to come
 close-keeps : (t : Bool) (r : ℕ) (h : Held) (l more : List ℕ) (x : Run) → x .skip ≡ false →
     sessionFrom t r h (l ++ more) ≡ x .out ++ session r (x .held) (drop (x .used) l ++ more) →
     sessionFrom t r h (l ++ more) ≡ closeOf l x .out ++ sessionFrom (closeOf l x .skip) r (closeOf l x .held) (drop (closeOf l x .used) l ++ more)
-unfolding closeOf
 close-keeps t r h l more x k q =
-    let w = drop (x .used) l in
-    let same : sessionFrom t r h (l ++ more) ≡ x .out ++ sessionFrom (x .skip) r (x .held) (w ++ more) = q ∙ plain r (x .held) (x .skip) (x .out) (w ++ more) k in
-    either (ltb (lfAt w) (length w)) (λ e. rw (pick-true _ _ _ e) same)
-    (λ e. rw (pick-false _ _ _ e)
-    (either (leb (length w) longest) (λ f. rw (pick-true _ _ _ f) same)
-    (λ f.
-    let m : longest < length w = leb-false (length w) longest f in
-    let n : lfAt w ≡ length w = omega (arith, lf-le w, ltb-false (lfAt w) (length w) e) in
-    rw (pick-false _ _ _ f)
-    (q ∙ ap (λ (y : List ℕ). x .out ++ y) (long-line r (x .held) w more n m)
-    ∙ ap (λ (y : List ℕ). x .out ++ sessionFrom true r (x .held) (y ++ more)) (sym (drop-length l))))))
+    close-case (λ (y : Run). sessionFrom t r h (l ++ more) ≡ y .out ++ sessionFrom (y .skip) r (y .held) (drop (y .used) l ++ more)) l x
+    (q ∙ plain r (x .held) (x .skip) (x .out) (drop (x .used) l ++ more) k)
+    (λ n m. q ∙ ap (λ (y : List ℕ). x .out ++ y) (long-line r (x .held) (drop (x .used) l) more n m)
+    ∙ ap (λ (y : List ℕ). x .out ++ sessionFrom true r (x .held) (y ++ more)) (sym (drop-length l)))
 
 -- one piece: what it writes, then the session of what it leaves, is the session of the whole, whatever comes after
 pub piece-on : (k : ℕ) (t : Bool) (r : ℕ) (h : Held) (l more : List ℕ) →
@@ -184,72 +188,9 @@ pub length-text : (t : Turn) → length (textOf t) ≡ answerBytes
 unfolding textOf
 length-text t = answer-line-long _ _
 
--- a run over whole lines that wrote less than its room left no whole line
-pub whole-done : (k r : ℕ) (h : Held) (l : List ℕ) → length (wholeLines k r h l .out) < answerBytes * k →
-    lfAt (drop (wholeLines k r h l .used) l) ≡ length (drop (wholeLines k r h l .used) l)
-unfolding wholeLines
-whole-done zero r h l g = absurd (omega arith)
-whole-done (suc k) r h l g =
-    let n = lfAt l in
-    let x = turnOf r h (take n l) in
-    let w = wholeLines k r (x .held) (drop (n + 1) l) in
-    either (ltb n (length l))
-    (λ e.
-    let c : length (textOf x ++ w .out) < answerBytes * suc k = rw (pick-true _ _ _ e) at g in
-    let j : drop (n + 1 + w .used) l ≡ drop (w .used) (drop (n + 1) l) = sym (drop-drop (w .used) (n + 1) l) in
-    rw (pick-true _ _ _ e) (rw j (whole-done k r (x .held) (drop (n + 1) l) (omega (arith, length-append (textOf x) (w .out), length-text x)))))
-    (λ e. rw (pick-false _ _ _ e) (omega (arith, lf-le l, ltb-false n (length l) e)))
-
-no-lf : lfAt [] ≡ 0
-unfolding lfAt
-no-lf = refl
-
--- what is left behind all of it has no line
-all-used : (l : List ℕ) → lfAt (drop (length l) l) ≡ length (drop (length l) l)
-all-used l = rw drop-length no-lf
-
-close-done : (l : List ℕ) (x : Run) → lfAt (drop (x .used) l) ≡ length (drop (x .used) l) → lfAt (drop (closeOf l x .used) l) ≡ length (drop (closeOf l x .used) l)
-unfolding closeOf
-close-done l x e =
-    let w = drop (x .used) l in
-    either (ltb (lfAt w) (length w)) (λ t. rw (pick-true _ _ _ t) e)
-    (λ t. rw (pick-false _ _ _ t) (either (leb (length w) longest) (λ f. rw (pick-true _ _ _ f) e) (λ f. rw (pick-false _ _ _ f) (all-used l))))
-
-close-out : (l : List ℕ) (x : Run) → closeOf l x .out ≡ x .out
-unfolding closeOf
-close-out l x =
-    let w = drop (x .used) l in
-    either (ltb (lfAt w) (length w)) (λ t. rw (pick-true _ _ _ t) refl)
-    (λ t. rw (pick-false _ _ _ t) (either (leb (length w) longest) (λ f. rw (pick-true _ _ _ f) refl) (λ f. rw (pick-false _ _ _ f) refl)))
-
--- a piece that wrote less than its room left no whole line
-pub piece-done : (k : ℕ) (t : Bool) (r : ℕ) (h : Held) (l : List ℕ) → length (pieceOf k t r h l .out) < answerBytes * k →
-    lfAt (drop (pieceOf k t r h l .used) l) ≡ length (drop (pieceOf k t r h l .used) l)
-unfolding pieceOf
-piece-done k false r h l g =
-    let x = wholeLines k r h l in
-    close-done l x (whole-done k r h l (omega (arith, ap length (close-out l x))))
-piece-done zero true r h l g = absurd (omega arith)
-piece-done (suc k) true r h l g =
-    let n = lfAt l in
-    let w = wholeLines k r (malformed h .held) (drop (n + 1) l) in
-    let x = ahead (textOf (malformed h)) (n + 1) w in
-    either (ltb n (length l))
-    (λ e.
-    let c : length (closeOf l x .out) < answerBytes * suc k = rw (pick-true _ _ _ e) at g in
-    let j : drop (n + 1 + w .used) l ≡ drop (w .used) (drop (n + 1) l) = sym (drop-drop (w .used) (n + 1) l) in
-    let d : lfAt (drop (w .used) (drop (n + 1) l)) ≡ length (drop (w .used) (drop (n + 1) l)) =
-    whole-done k r (malformed h .held) (drop (n + 1) l) (omega (arith, ap length (close-out l x), length-append (textOf (malformed h)) (w .out), length-text (malformed h))) in
-    rw (pick-true _ _ _ e) (close-done l x (rw j d)))
-    (λ e. rw (pick-false _ _ _ e) (all-used l))
-
 -- a piece uses no more than there is
 close-le : (l : List ℕ) (x : Run) → x .used ≤ length l → closeOf l x .used ≤ length l
-unfolding closeOf
-close-le l x g =
-    let w = drop (x .used) l in
-    either (ltb (lfAt w) (length w)) (λ t. rw (pick-true _ _ _ t) g)
-    (λ t. rw (pick-false _ _ _ t) (either (leb (length w) longest) (λ f. rw (pick-true _ _ _ f) g) (λ f. rw (pick-false _ _ _ f) (omega arith))))
+close-le l x g = close-case (λ (y : Run). y .used ≤ length l) l x g (λ n m. omega arith)
 
 pub piece-used : (k : ℕ) (t : Bool) (r : ℕ) (h : Held) (l : List ℕ) → pieceOf k t r h l .used ≤ length l
 unfolding pieceOf
@@ -264,76 +205,28 @@ piece-used (suc k) true r h l =
     rw (pick-true _ _ _ e) (close-le l (ahead (textOf (malformed h)) (n + 1) w) g))
     (λ e. rw (pick-false _ _ _ e) (omega arith))
 
--- and writes no more than there is room for
-whole-wrote : (k r : ℕ) (h : Held) (l : List ℕ) → length (wholeLines k r h l .out) ≤ answerBytes * k
-unfolding wholeLines
-whole-wrote zero r h l = omega arith
-whole-wrote (suc k) r h l =
-    let n = lfAt l in
-    let x = turnOf r h (take n l) in
-    let w = wholeLines k r (x .held) (drop (n + 1) l) in
-    either (ltb n (length l))
-    (λ e. rw (pick-true _ _ _ e) (omega (arith, whole-wrote k r (x .held) (drop (n + 1) l), length-append (textOf x) (w .out), length-text x)))
-    (λ e. rw (pick-false _ _ _ e) (omega arith))
+-- the turn of a piece's first line
+abbrev pub firstTurn : Bool → ℕ → Held → List ℕ → Turn
+firstTurn false r h l = turnOf r h (take (lfAt l) l)
+firstTurn true r h l = malformed h
 
-pub piece-wrote : (k : ℕ) (t : Bool) (r : ℕ) (h : Held) (l : List ℕ) → length (pieceOf k t r h l .out) ≤ answerBytes * k
-unfolding pieceOf
-piece-wrote k false r h l = rw close-out (whole-wrote k r h l)
-piece-wrote zero true r h l = omega arith
-piece-wrote (suc k) true r h l =
-    let n = lfAt l in
-    let w = wholeLines k r (malformed h .held) (drop (n + 1) l) in
-    let t = textOf (malformed h) in
-    either (ltb n (length l))
-    (λ e.
-    let g : length (t ++ w .out) ≤ answerBytes * suc k = omega (arith, whole-wrote k r (malformed h .held) (drop (n + 1) l), length-append t (w .out), length-text (malformed h)) in
-    rw (pick-true _ _ _ e) (rw close-out g))
-    (λ e. rw (pick-false _ _ _ e) (omega arith))
+-- a piece that has a whole line and room for its answer
+pub piece-line : (k : ℕ) (t : Bool) (r : ℕ) (h : Held) (l : List ℕ) → lfAt l < length l →
+    pieceOf (suc k) t r h l ≡ closeOf l (ahead (textOf (firstTurn t r h l)) (lfAt l + 1) (wholeLines k r (firstTurn t r h l .held) (drop (lfAt l + 1) l)))
+unfolding pieceOf wholeLines
+piece-line k false r h l g = ap (closeOf l) (pick-true _ _ _ (lt-ltb _ _ g))
+piece-line k true r h l g = pick-true _ _ _ (lt-ltb _ _ g)
 
--- what was used stays used
-pub close-used : (l : List ℕ) (x : Run) → 0 < length l → 0 < x .used → 0 < closeOf l x .used
-unfolding closeOf
-close-used l x g e =
-    let w = drop (x .used) l in
-    either (ltb (lfAt w) (length w)) (λ t. rw (pick-true _ _ _ t) e)
-    (λ t. rw (pick-false _ _ _ t) (either (leb (length w) longest) (λ f. rw (pick-true _ _ _ f) e) (λ f. rw (pick-false _ _ _ f) g)))
+-- it uses something
+pub line-used : (k : ℕ) (t : Bool) (r : ℕ) (h : Held) (l : List ℕ) → lfAt l < length l → 0 < pieceOf (suc k) t r h l .used
+line-used k t r h l g = rw (piece-line k t r h l g) (close-case (λ (y : Run). 0 < y .used) l _ (omega arith) (λ n m. omega arith))
 
-close-long : (l : List ℕ) (h : Held) → length l ≤ lfAt l → longest < length l → 0 < closeOf l (still h) .used
-unfolding closeOf
-close-long l h e g = rw (pick-false _ _ _ (le-ltb _ _ e), pick-false _ _ _ (lt-leb _ _ g)) (omega arith)
+long-used : (k : ℕ) (t : Bool) (r : ℕ) (h : Held) (l : List ℕ) → length l ≤ lfAt l → longest < length l → 0 < pieceOf (suc k) t r h l .used
+unfolding pieceOf wholeLines closeOf
+long-used k false r h l e g = rw (pick-false _ _ _ (le-ltb _ _ e)) (rw (pick-false _ _ _ (le-ltb _ _ e), pick-false _ _ _ (lt-leb _ _ g)) (omega arith))
+long-used k true r h l e g = rw (pick-false _ _ _ (le-ltb _ _ e)) (omega arith)
 
 -- with room for an answer, a piece of more than 160 bytes is never left whole
 pub piece-moves : (k : ℕ) (t : Bool) (r : ℕ) (h : Held) (l : List ℕ) → longest < length l → 0 < pieceOf (suc k) t r h l .used
-unfolding pieceOf wholeLines
-piece-moves k false r h l g =
-    let n = lfAt l in
-    let x = turnOf r h (take n l) in
-    let w = wholeLines k r (x .held) (drop (n + 1) l) in
-    either (ltb n (length l))
-    (λ e. rw (pick-true _ _ _ e) (close-used l (ahead (textOf x) (n + 1) w) (omega arith) (omega arith)))
-    (λ e. rw (pick-false _ _ _ e) (close-long l h (ltb-false n (length l) e) g))
-piece-moves k true r h l g =
-    let n = lfAt l in
-    let w = wholeLines k r (malformed h .held) (drop (n + 1) l) in
-    either (ltb n (length l))
-    (λ e. rw (pick-true _ _ _ e) (close-used l (ahead (textOf (malformed h)) (n + 1) w) (omega arith) (omega arith)))
-    (λ e. rw (pick-false _ _ _ e) (omega arith))
-
--- two cuts of the same input: what was sent, with what is to come, is the same, whatever comes
-pub any-cut : (r : ℕ) (h : Host) (xs ys : List Feed) (more : List ℕ) → whole xs ≡ whole ys →
-    fedAll r h xs .sent ++ sessionFrom (fedAll r h xs .skip) r (fedAll r h xs .held) (fedAll r h xs .tail ++ more)
-    ≡ fedAll r h ys .sent ++ sessionFrom (fedAll r h ys .skip) r (fedAll r h ys .held) (fedAll r h ys .tail ++ more)
-any-cut r h xs ys more e =
-    fed-more r h xs more ∙ ap (λ (z : List ℕ). h .sent ++ sessionFrom (h .skip) r (h .held) (h .tail ++ (z ++ more))) e ∙ sym (fed-more r h ys more)
-
--- and what is held is the same for all that is to come, where as much was sent
-pub cut-held : (r : ℕ) (h : Host) (xs ys : List Feed) (more : List ℕ) → whole xs ≡ whole ys → fedAll r h xs .sent ≡ fedAll r h ys .sent →
-    sessionFrom (fedAll r h xs .skip) r (fedAll r h xs .held) (fedAll r h xs .tail ++ more) ≡ sessionFrom (fedAll r h ys .skip) r (fedAll r h ys .held) (fedAll r h ys .tail ++ more)
-cut-held r h xs ys more e q =
-    let x : Host = fedAll r h xs in
-    let y : Host = fedAll r h ys in
-    let a = sessionFrom (x .skip) r (x .held) (x .tail ++ more) in
-    let b = sessionFrom (y .skip) r (y .held) (y .tail ++ more) in
-    sym (drop-append-seam (x .sent) a)
-    ∙ ap (drop (length (x .sent))) (any-cut r h xs ys more e ∙ ap (λ (z : List ℕ). z ++ b) (sym q))
-    ∙ drop-append-seam (x .sent) b
+piece-moves k t r h l g =
+    either (ltb (lfAt l) (length l)) (λ e. line-used k t r h l (ltb-true _ _ e)) (λ e. long-used k t r h l (ltb-false _ _ e) g)

@@ -135,17 +135,7 @@ turn-on s r h used w room e l o p y hr g k d m c q f =
 pub came : (s : List ℕ) (used w room : ℕ) (l : List ℕ) {z : Progressed} {ws bs cs is o ws₁ bs₁ cs₁ is₁ o₁ : List ℕ} → ws ≡ ws₁ → bs ≡ bs₁ → cs ≡ cs₁ → is ≡ is₁ → o ≡ o₁
     → endOf s used w o₁ (wholeLines room rawBytes (heldOn (machineFrom ws₁) false bs₁ cs₁ is₁) (drop used l)) ≡ z
     → endOf s used w o (wholeLines room rawBytes (heldOn (machineFrom ws) false bs cs is) (drop used l)) ≡ z
-came s used w room l {o = o} {ws₁ = ws₁} {bs₁ = bs₁} {cs₁ = cs₁} {is₁ = is₁} a b c d e q =
-    along3 a b c d ∙ ap (λ (v : List ℕ). endOf s used w v (wholeLines room rawBytes (heldOn (machineFrom ws₁) false bs₁ cs₁ is₁) (drop used l))) e ∙ q
-  where
-    along3 : {ws bs cs is : List ℕ} → ws ≡ ws₁ → bs ≡ bs₁ → cs ≡ cs₁ → is ≡ is₁
-        → endOf s used w o (wholeLines room rawBytes (heldOn (machineFrom ws) false bs cs is) (drop used l))
-        ≡ endOf s used w o (wholeLines room rawBytes (heldOn (machineFrom ws₁) false bs₁ cs₁ is₁) (drop used l))
-    along3 {bs = bs} {cs = cs} {is = is} a b c d =
-        ap (λ (v : List ℕ). endOf s used w o (wholeLines room rawBytes (heldOn (machineFrom v) false bs cs is) (drop used l))) a
-        ∙ ap (λ (v : List ℕ). endOf s used w o (wholeLines room rawBytes (heldOn (machineFrom ws₁) false v cs is) (drop used l))) b
-        ∙ ap (λ (v : List ℕ). endOf s used w o (wholeLines room rawBytes (heldOn (machineFrom ws₁) false bs₁ v is) (drop used l))) c
-        ∙ ap (λ (v : List ℕ). endOf s used w o (wholeLines room rawBytes (heldOn (machineFrom ws₁) false bs₁ cs₁ v) (drop used l))) d
+came s used w room l a b c d e q = rw (a, b, c, d, e) q
 
 -- no whole line is left
 pub run-stop : (s : List ℕ) (r : ℕ) (h : Held) (used w room e : ℕ) (l o : List ℕ) {z : Progressed} → 0 < room → used ≤ length l → e ≡ used + lfAt (drop used l) → length l ≤ e →
