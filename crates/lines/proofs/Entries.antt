@@ -1,10 +1,11 @@
 -- A rule of a table, proved at all of its entries by one test that antt computes, one entry after the other. Assumes nothing.
+use mathlib.Core.Path.{_≡_}
 use mathlib.Core.Bool.{Bool, true, false}
 use mathlib.Core.List.{List, [], _∷_}
 use Prim.Native.Nat.{ℕ, zero, suc, _<_}
 use native.Mathlib.Nat.{le-of-suc-le-suc, not-suc-le-zero}
-use lib.Dec.{T}
-use lib.ListN.{length, getD}
+use lib.Dec.{T, eqb, eqb→eq}
+use lib.ListN.{length, getD, replicate, length-replicate}
 
 abbrev pub both : Bool → Bool → Bool
 both true b = b
@@ -27,3 +28,11 @@ pub at : (f : ℕ → ℕ → Bool) (xs : List ℕ) → T (every f xs) → (k : 
 at f [] t k h = absurd (not-suc-le-zero h)
 at f (x ∷ xs) t zero h = both-left (f 0 x) (every (λ (k : ℕ). f (suc k)) xs) t
 at f (x ∷ xs) t (suc k) h = at (λ (k : ℕ). f (suc k)) xs (both-right (f 0 x) (every (λ (k : ℕ). f (suc k)) xs) t) k (le-of-suc-le-suc h)
+
+-- a function that gives back each of the first m numbers
+unfoldable pub right : (ℕ → ℕ) → ℕ → ℕ → Bool
+right f k x = eqb (f k) k
+
+pub comes-back : (f : ℕ → ℕ) (m : ℕ) → T (every (right f) (replicate m 0)) → (k : ℕ) → k < m → f k ≡ k
+unfolding right
+comes-back f m t k h = eqb→eq _ _ (at (right f) (replicate m 0) t k (rw length-replicate h))

@@ -1,6 +1,6 @@
 -- Laws of the fields of a line: what the loop over fields keeps, and its ways out. Assumes nothing.
 use mathlib.Core.Path.{_≡_, refl, sym, ap, _∙_}
-use mathlib.Core.Bool.{Bool, true, false}
+use mathlib.Core.Bool.{true}
 use mathlib.Core.List.{List, [], _∷_}
 use Prim.Native.Nat.{ℕ, zero, suc, _+_, _-_, _*_, _<_, _≤_}
 use native.Mathlib.Omega.{arith}
@@ -21,16 +21,11 @@ use Rattle.lines.specs.declared.line.Line.{Line}
 use Rattle.types.proofs.Spans.{over-nil, over-first}
 
 -- too few bytes are no number
-pick-bad : (t : Bool) (f : Field) → f ≡ Bad → pick t f Bad ≡ Bad
-unfolding pick
-pick-bad true f e = e
-pick-bad false f e = refl
-
 pub hex-short : (n v : ℕ) (l : List ℕ) → length l < n → hexFrom n v l ≡ Bad
 unfolding hexFrom
 hex-short zero v l h = absurd (omega arith)
 hex-short (suc n) v [] h = refl
-hex-short (suc n) v (b ∷ l) h = pick-bad (ltb (digitOf b) 16) _ (hex-short n (v * 16 + digitOf b) l (omega arith))
+hex-short (suc n) v (b ∷ l) h = rw (hex-short n (v * 16 + digitOf b) l (omega arith)) (pick-same (ltb (digitOf b) 16) Bad)
 
 -- the fields from a place where a byte stands
 at-byte : (n at : ℕ) (s : List ℕ) → n ≤ 7 → at < length s →

@@ -23,16 +23,16 @@ use Rattle.lines.proofs.HexText.{hex-all, hex-whole}
 use Rattle.lines.proofs.Writing.{length-hex}
 
 -- one field and the rest of a line
-field-read : (n b : ℕ) (l xs : List ℕ) (f : Field) (g : Got) → b ≡ space → hexFrom 16 0 l ≡ f → ((ys : List ℕ) → g ≡ some ys → drop 16 l ≡ fieldsText ys) →
-    thenField f g ≡ some xs → b ∷ l ≡ fieldsText xs
+field-read : (n b : ℕ) (l xs : List ℕ) (f : Field) (g : Got) → b ≡ space → hexFrom 16 0 l ≡ f →
+    ((ys : List ℕ) → g ≡ some ys → (drop 16 l ≡ fieldsText ys) × (length ys ≤ n)) → thenField f g ≡ some xs → (b ∷ l ≡ fieldsText xs) × (length xs ≤ suc n)
 unfolding thenField fieldsText
 field-read n b l xs Bad g e q r k = let z : _≡_ {A = ℕ} 0 1 = cc in absurd (omega arith)
 field-read n b l xs (Value v) none e q r k = let z : _≡_ {A = ℕ} 0 1 = cc in absurd (omega arith)
 field-read n b l xs (Value v) (some ys) e q r k =
     let x : v ∷ ys ≡ xs = cc in
     let t : hexText 16 v ≡ take 16 l = hex-whole 16 v l q in
-    let d : drop 16 l ≡ fieldsText ys = r ys refl in
-    rw (e, ← x) (ap (λ (z : List ℕ). space ∷ z) (sym (take-append-drop 16 l) ∙ rw (t, d) refl))
+    let d = r ys refl in
+    rw (e, ← x) (ap (λ (z : List ℕ). space ∷ z) (sym (take-append-drop 16 l) ∙ rw (t, d .0) refl), omega (arith, d .1))
 
 -- fields, both ways
 pub fields-write : (n : ℕ) (xs : List ℕ) → length xs ≤ n → Small xs → fieldsOf n (fieldsText xs) ≡ some xs
@@ -45,32 +45,14 @@ fields-write (suc n) (v ∷ xs) h a =
     let d : drop 16 (hexText 16 v ++ fieldsText xs) ≡ fieldsText xs = drop-at (hexText 16 v) (fieldsText xs) 16 (length-hex 16 v) in
     rw (p, d, fields-write n xs (omega arith) (a .1)) (pick-true (eqb space space) (some (v ∷ xs)) none refl)
 
-pub fields-read : (n : ℕ) (l xs : List ℕ) → fieldsOf n l ≡ some xs → l ≡ fieldsText xs
+pub fields-read : (n : ℕ) (l xs : List ℕ) → fieldsOf n l ≡ some xs → (l ≡ fieldsText xs) × (length xs ≤ n)
 unfolding fieldsOf fieldsText
-fields-read zero [] xs q = let e : [] ≡ xs = cc in rw (← e) refl
-fields-read (suc n) [] xs q = let e : [] ≡ xs = cc in rw (← e) refl
+fields-read zero [] xs q = let e : [] ≡ xs = cc in rw (← e) (refl, omega arith)
 fields-read zero (b ∷ l) xs q = let z : _≡_ {A = ℕ} 0 1 = cc in absurd (omega arith)
+fields-read (suc n) [] xs q = let e : [] ≡ xs = cc in rw (← e) (refl, omega arith)
 fields-read (suc n) (b ∷ l) xs q =
     either (eqb b space)
     (λ t. field-read n b l xs (hexFrom 16 0 l) (fieldsOf n (drop 16 l)) (eqb-true b space t) refl (λ ys. fields-read n (drop 16 l) ys) (sym (pick-true _ _ _ t) ∙ q))
-    (λ t. let y = sym (pick-false _ _ _ t) ∙ q in let z : _≡_ {A = ℕ} 0 1 = cc in absurd (omega arith))
-
-field-few : (n : ℕ) (xs : List ℕ) (f : Field) (g : Got) → ((ys : List ℕ) → g ≡ some ys → length ys ≤ n) → thenField f g ≡ some xs → length xs ≤ suc n
-unfolding thenField
-field-few n xs Bad g r k = let z : _≡_ {A = ℕ} 0 1 = cc in absurd (omega arith)
-field-few n xs (Value v) none r k = let z : _≡_ {A = ℕ} 0 1 = cc in absurd (omega arith)
-field-few n xs (Value v) (some ys) r k =
-    let x : v ∷ ys ≡ xs = cc in
-    rw (← x) (omega (arith, r ys refl))
-
-pub fields-few : (n : ℕ) (l xs : List ℕ) → fieldsOf n l ≡ some xs → length xs ≤ n
-unfolding fieldsOf
-fields-few zero [] xs q = let e : [] ≡ xs = cc in rw (← e) (omega arith)
-fields-few (suc n) [] xs q = let e : [] ≡ xs = cc in rw (← e) (omega arith)
-fields-few zero (b ∷ l) xs q = let z : _≡_ {A = ℕ} 0 1 = cc in absurd (omega arith)
-fields-few (suc n) (b ∷ l) xs q =
-    either (eqb b space)
-    (λ t. field-few n xs (hexFrom 16 0 l) (fieldsOf n (drop 16 l)) (λ ys. fields-few n (drop 16 l) ys) (sym (pick-true _ _ _ t) ∙ q))
     (λ t. let y = sym (pick-false _ _ _ t) ∙ q in let z : _≡_ {A = ℕ} 0 1 = cc in absurd (omega arith))
 
 -- a line's text is that of its code and its fields
@@ -101,10 +83,10 @@ told l Bad g e q k = let z : _≡_ {A = ℕ} 0 1 = cc in absurd (omega arith)
 told l (Value c) none e q k = let z : _≡_ {A = ℕ} 0 1 = cc in absurd (omega arith)
 told l (Value c) (some xs) e q k =
     let t : hexText 2 c ≡ take 2 l = hex-whole 2 c l e in
-    let d : drop 2 l ≡ fieldsText xs = fields-read 8 (drop 2 l) xs q in
+    let d = fields-read 8 (drop 2 l) xs q in
     record {
-      text = rw (take-over (length xs) xs refl, ← d, t) (sym (take-append-drop 2 l));
-      long = eight xs (fields-few 8 (drop 2 l) xs q);
+      text = rw (take-over (length xs) xs refl, ← d .0, t) (sym (take-append-drop 2 l));
+      long = eight xs (d .1);
     }
 
 pub line-read : (l : List ℕ) → lineOf l .good ≡ true → Told l (lineOf l)

@@ -8,30 +8,17 @@ use native.Mathlib.Omega.{arith}
 use native.Mathlib.Nat.{pow-suc, mul-assoc}
 use lib.Dec.{ltb, leb}
 use lib.ListN.{take}
-use borrow.Author.Tests.{ltb-true, ltb-false, leb-true, lt-ltb, le-ltb, le-leb, lt-leb}
+use borrow.Author.Tests.{ltb-true, ltb-false, leb-true, lt-ltb, le-ltb}
+use Rattle.types.specs.Pick.{pick}
 use Rattle.types.proofs.Picks.{pick-true, pick-false, either}
 use Rattle.lines.specs.Hex.{digitOf, charOf, hexFrom, hexText}
 use Rattle.lines.specs.declared.field.Field.the-variants.{Value}
+use Rattle.lines.proofs.Entries.{right, comes-back}
 
 -- a digit's byte, and a byte's digit
 pub digit-char : (d : ℕ) → d < 16 → digitOf (charOf d) ≡ d
-unfolding digitOf charOf
-digit-char d h =
-    either (ltb d 10)
-    (λ e.
-    let k : d < 10 = ltb-true d 10 e in
-    let a : ltb (48 + d) 48 ≡ false = le-ltb (48 + d) 48 (omega arith) in
-    let b : leb (48 + d) 57 ≡ true = le-leb (48 + d) 57 (omega arith) in
-    let z : 48 + d - 48 ≡ d = omega arith in
-    rw (pick-true _ _ _ e) (pick-false _ _ _ a ∙ pick-true _ _ _ b ∙ z))
-    (λ e.
-    let k : 10 ≤ d = ltb-false d 10 e in
-    let a : ltb (87 + d) 48 ≡ false = le-ltb (87 + d) 48 (omega arith) in
-    let b : leb (87 + d) 57 ≡ false = lt-leb (87 + d) 57 (omega arith) in
-    let c : ltb (87 + d) 97 ≡ false = le-ltb (87 + d) 97 (omega arith) in
-    let f : leb (87 + d) 102 ≡ true = le-leb (87 + d) 102 (omega arith) in
-    let z : 87 + d - 87 ≡ d = omega arith in
-    rw (pick-false _ _ _ e) (pick-false _ _ _ a ∙ pick-false _ _ _ b ∙ pick-false _ _ _ c ∙ pick-true _ _ _ f ∙ z))
+unfolding digitOf charOf pick right
+digit-char d h = comes-back (λ (d : ℕ). digitOf (charOf d)) 16 tt d h
 
 -- where a byte is a digit, which of the two it is
 pub kind : (b : ℕ) → digitOf b < 16 → ((48 ≤ b) × (b ≤ 57) × (digitOf b ≡ b - 48)) ⊎ ((97 ≤ b) × (b ≤ 102) × (digitOf b ≡ b - 87))

@@ -4,8 +4,8 @@ use mathlib.Core.Bool.{Bool, true, false}
 use mathlib.Core.List.{[], _∷_}
 use Prim.Native.Nat.{ℕ, zero, suc, _≤_, min}
 use native.Mathlib.Omega.{arith}
-use lib.Dec.{eqb, leb, eqb→eq}
-use lib.ListN.{replicate, List·getD-eq-default}
+use lib.Dec.{eqb, leb}
+use lib.ListN.{List·getD-eq-default}
 use borrow.Author.Tests.{ltb-true, leb-true, le-leb, eq-eqb, eqb-true, eqb-false}
 use Rattle.types.specs.Pick.{pick, both}
 use Rattle.types.proofs.Picks.{both-true, both-1, both-2, either}
@@ -22,7 +22,7 @@ use Rattle.lines.specs.Fields.{binary, yes, kindOf, referenceOf, absentA
 use Rattle.lines.specs.Fields.{loadKinds, storeKinds, loadKindOf, storeKindOf, flag, kindNumber, loadNumber, storeNumber, referenceFields, memoryFields, tableFields}
 use Rattle.lines.specs.stages.Codes.{memoryRanges, wantedMemory, tableRanges, wantedTable}
 use Rattle.lines.specs.Sayable.{LimitsSaid, MemorySaid}
-use Rattle.lines.proofs.Entries.{at}
+use Rattle.lines.proofs.Entries.{right, comes-back}
 
 -- a number that is none of the first ones
 up : (k n : ℕ) → k ≤ n → (n ≡ k → ⊥) → suc k ≤ n
@@ -42,19 +42,13 @@ store-last n n0 n1 n2 n3 n4 n5 n6 n7 =
     (λ e. sym (List·getD-eq-default storeKinds store.I64To32 (up 8 n (up 7 n (up 6 n (up 5 n (up 4 n (up 3 n (up 2 n (up 1 n (up 0 n (omega arith) n0) n1) n2) n3) n4) n5) n6) n7) (eqb-false n 8 e))))
 
 -- a number in range comes back
-load-right : ℕ → ℕ → Bool
-load-right n x = eqb (loadNumber (loadKindOf n)) n
-
-store-right : ℕ → ℕ → Bool
-store-right n x = eqb (storeNumber (storeKindOf n)) n
-
 pub load-number : (n : ℕ) → n ≤ 13 → loadNumber (loadKindOf n) ≡ n
-unfolding loadKindOf load-right
-load-number n h = eqb→eq _ _ (at load-right (replicate 14 0) tt n (omega arith))
+unfolding loadKindOf right
+load-number n h = comes-back (λ (n : ℕ). loadNumber (loadKindOf n)) 14 tt n (omega arith)
 
 pub store-number : (n : ℕ) → n ≤ 8 → storeNumber (storeKindOf n) ≡ n
-unfolding storeKindOf store-right
-store-number n h = eqb→eq _ _ (at store-right (replicate 9 0) tt n (omega arith))
+unfolding storeKindOf right
+store-number n h = comes-back (λ (n : ℕ). storeNumber (storeKindOf n)) 9 tt n (omega arith)
 
 -- a kind comes back, and its number is in range
 pub load-said : (k : LoadKind) → (leb (loadNumber k) 13 ≡ true) × (loadKindOf (loadNumber k) ≡ k)

@@ -1,5 +1,5 @@
 -- Laws of a run over a piece: what its loop keeps, and its ways out. Assumes nothing.
-use mathlib.Core.Path.{_≡_, refl, sym, ap, subst, _∙_}
+use mathlib.Core.Path.{_≡_, refl, sym, ap, _∙_}
 use mathlib.Core.Bool.{Bool, true, false}
 use mathlib.Core.Logic.{_⊎_, ⊎-elim}
 use mathlib.Core.List.{List, _++_}
@@ -47,20 +47,17 @@ turned-line h l e f q = q ∙ ap (turnBy rawBytes h) (f ∙ ap operationOf e)
 pub turn-does : (m : Machine) (first : Bool) (b : Buffers) (o : Operation) (s : Stepped) {x : Read} → x ≡ read.Operation o → s ≡ step rawBytes m b o
     → turned (s .answer) (s .machine) (s .buffers) ≡ turnBy rawBytes (record { machine = m; first = first; buffers = b }) x
 unfolding turnBy
-turn-does m first b o s e q =
-    ap (λ (s : Stepped). turned (s .answer) (s .machine) (s .buffers)) q ∙ ap (turnBy rawBytes (record { machine = m; first = first; buffers = b })) (sym e)
+turn-does m first b o s e q = rw (e, q) refl
 
 pub turn-makes : (m n : Machine) (b : Buffers) (metering : Bool) (copied : ℕ) {x : Read} → x ≡ read.Making metering copied → n ≡ freshMachine metering (costsOf copied)
     → turned (accept 0) n b ≡ turnBy rawBytes (record { machine = m; first = true; buffers = b }) x
 unfolding turnBy pick
-turn-makes m n b metering copied e q =
-    ap (λ (i : Machine). turned (accept 0) i b) q ∙ ap (turnBy rawBytes (record { machine = m; first = true; buffers = b })) (sym e)
+turn-makes m n b metering copied e q = rw (e, q) refl
 
 pub turn-none : (m : Machine) (first : Bool) (b : Buffers) {x : Read} {a : Answer} → x ≡ read.Malformed → a ≡ refuse 18 0
     → turned a m b ≡ turnBy rawBytes (record { machine = m; first = first; buffers = b }) x
 unfolding turnBy
-turn-none m first b e q =
-    ap (λ (i : Answer). turned i m b) q ∙ ap (turnBy rawBytes (record { machine = m; first = first; buffers = b })) (sym e)
+turn-none m first b e q = rw (e, q) refl
 
 -- a later line that is no operation
 pub turn-later : (m : Machine) (b : Buffers) (x : Read) {a : Answer} → (tagOf the-type x ≡ 1) ⊎ (tagOf the-type x ≡ 2) → a ≡ refuse 18 0
@@ -178,11 +175,6 @@ first-on s s₁ h from put e l o p y z sb g k d m c q w =
       used = w .used;
     }
 
--- a run from the first line on, or from a later one
-pub by-begun : (t u : Bool) (s : List ℕ) (m : Machine) (b : Buffers) (from put : ℕ) (z : Progressed) (o l : List ℕ) → t ≡ u →
-    WholeRan z s from put (record { machine = m; first = u; buffers = b }) o l → WholeRan z s from put (record { machine = m; first = t; buffers = b }) o l
-by-begun t u s m b from put z o l e w = subst (λ (v : Bool). WholeRan z s from put (record { machine = m; first = v; buffers = b }) o l) (sym e) w
-
 -- the ways out of `close`
 pub closed-in : (l : List ℕ) (p : Progress) (e : ℕ) → e ≡ p .used + lfAt (drop (p .used) l) → e < length l → p ≡ closedOf l p
 unfolding closedOf
@@ -271,9 +263,6 @@ skip-closed s h e l o m z g d k f w c =
     let a : endOf s 0 0 o x ≡ endOf s (lfAt l + 1) answerBytes (over o 0 t) b = rw (from, put) at (end-ahead s 0 0 (lfAt l + 1) o t b (omega arith)) in
     let i : z ≡ endOf s (lfAt l + 1) answerBytes (over o 0 t) b = w .is ∙ rw (nn, ee, mt) refl in
     rw (n, pick-true _ _ _ (lt-ltb _ _ kk)) (closed-run s l o z x (i ∙ sym a ∙ end-start s o x) (w .used) c)
-
-pub by-skip : (t u : Bool) (s : List ℕ) (k r : ℕ) (h : Held) (l o : List ℕ) {x : Progressed} → t ≡ u → x ≡ progressOf s o (pieceOf k u r h l) → x ≡ progressOf s o (pieceOf k t r h l)
-by-skip t u s k r h l o e q = q ∙ ap (λ (v : Bool). progressOf s o (pieceOf k v r h l)) (sym e)
 
 -- the two ways of a piece
 pub piece-stuck : (x : Session) (l : List ℕ) (b : Buffers) (input out : List ℕ) → both (inForm l) (soundOver (machineFrom l) b) ≡ false

@@ -6,13 +6,13 @@ use Prim.Native.Nat.{ℕ, zero, suc, _+_, _^_, _<_, _≤_}
 use native.Mathlib.Omega.{arith}
 use lib.Dec.{eqb}
 use lib.ListN.{length, take, getD, length-append, length-take}
-use borrow.Author.Tests.{ltb-true, leb-true, eqb-true, lt-ltb}
+use borrow.Author.Tests.{ltb-true, leb-true, eqb-true, lt-ltb, le-leb}
 use Rattle.types.specs.Pick.{pick, both}
 use Rattle.types.specs.Span.{over}
 use Rattle.types.specs.declared.answer.Answer.{Answer}
 use Rattle.types.specs.declared.fuel.Fuel.{Fuel}
 use Rattle.types.specs.declared.raw.RefType.{RefType}
-use Rattle.types.proofs.Picks.{pick-false, both-1, both-2, either}
+use Rattle.types.proofs.Picks.{pick-true, pick-false, both-1, both-2, either}
 use Rattle.machine.specs.Operation.{itemField, itemFields, itemsOf}
 use Rattle.machine.specs.declared.operation.Items.{Items}
 use Rattle.machine.specs.declared.operation.FuelOp.the-variants as fuel
@@ -46,6 +46,11 @@ five C (suc (suc (suc zero))) h a b c d e = d
 five C (suc (suc (suc (suc zero)))) h a b c d e = e
 five C (suc (suc (suc (suc (suc n))))) h a b c d e = absurd (omega arith)
 
+-- an item past the count is 0
+item-zero : (n p x : ℕ) → itemField n p x ≡ true → n ≤ p → x ≡ 0
+unfolding itemField
+item-zero n p x e h = eqb-true _ _ (sym (pick-true _ _ _ (le-leb _ _ h)) ∙ e)
+
 -- a segment of each count
 module _ (k : RefType) (a b c d : ℕ) where
   abbrev some-items : ℕ → Items
@@ -54,37 +59,26 @@ module _ (k : RefType) (a b c d : ℕ) where
   abbrev Says : ℕ → Type 0
   Says n = itemFields (some-items n) ≡ true → operationOf (backOf (op.NewSegment k (some-items n))) ≡ read.Operation (op.NewSegment k (some-items n))
 
-  items-few : (n : ℕ) → itemFields (some-items n) ≡ true → n ≤ 4
+  -- at most 4, and zeros past them
+  items-few : (n : ℕ) → itemFields (some-items n) ≡ true → (n ≤ 4) × (n ≤ 0 → a ≡ 0) × (n ≤ 1 → b ≡ 0) × (n ≤ 2 → c ≡ 0) × (n ≤ 3 → d ≡ 0)
   unfolding itemFields
-  items-few n h = leb-true _ _ (both-1 _ _ h)
+  items-few n h =
+      let f = both-2 _ _ h in
+      let g = both-2 _ _ f in
+      let i = both-2 _ _ g in
+      (leb-true _ _ (both-1 _ _ h), item-zero n 0 a (both-1 _ _ f), item-zero n 1 b (both-1 _ _ g), item-zero n 2 c (both-1 _ _ i), item-zero n 3 d (both-2 _ _ i))
 
-  segment-says : (n : ℕ) → n ≤ 4 → Says n
-  unfolding operationOf byCode taken backOf numbersOf filled over pick both itemFields itemField
-  segment-says n m =
+  segment-says : (n : ℕ) → Says n
+  unfolding operationOf byCode taken backOf numbersOf filled over pick both
+  segment-says n h =
       let e = kind-said k in
-      five Says n m
-      (λ h.
-      let ea : a ≡ 0 = eqb-true _ _ (both-1 _ _ h) in
-      let hb = both-2 (eqb a 0) _ h in
-      let eb : b ≡ 0 = eqb-true _ _ (both-1 _ _ hb) in
-      let hc = both-2 (eqb b 0) _ hb in
-      let ec : c ≡ 0 = eqb-true _ _ (both-1 _ _ hc) in
-      let ed : d ≡ 0 = eqb-true _ _ (both-2 (eqb c 0) _ hc) in
-      rw (e .0, e .1, ea, eb, ec, ed) refl)
-      (λ h.
-      let eb : b ≡ 0 = eqb-true _ _ (both-1 _ _ h) in
-      let hc = both-2 (eqb b 0) _ h in
-      let ec : c ≡ 0 = eqb-true _ _ (both-1 _ _ hc) in
-      let ed : d ≡ 0 = eqb-true _ _ (both-2 (eqb c 0) _ hc) in
-      rw (e .0, e .1, eb, ec, ed) refl)
-      (λ h.
-      let ec : c ≡ 0 = eqb-true _ _ (both-1 _ _ h) in
-      let ed : d ≡ 0 = eqb-true _ _ (both-2 (eqb c 0) _ h) in
-      rw (e .0, e .1, ec, ed) refl)
-      (λ h.
-      let ed : d ≡ 0 = eqb-true _ _ h in
-      rw (e .0, e .1, ed) refl)
+      five Says n (items-few n h .0)
+      (λ h. let z = items-few 0 h in rw (e .0, e .1, z .1 (omega arith), z .2 (omega arith), z .3 (omega arith), z .4 (omega arith)) refl)
+      (λ h. let z = items-few 1 h in rw (e .0, e .1, z .2 (omega arith), z .3 (omega arith), z .4 (omega arith)) refl)
+      (λ h. let z = items-few 2 h in rw (e .0, e .1, z .3 (omega arith), z .4 (omega arith)) refl)
+      (λ h. let z = items-few 3 h in rw (e .0, e .1, z .4 (omega arith)) refl)
       (λ h. rw (e .0, e .1) refl)
+      h
 
 -- an operation's numbers say it
 says : (o : Operation) → Said o → operationOf (backOf o) ≡ read.Operation o
@@ -108,7 +102,7 @@ says (op.Table n (table.Fill start value len)) h = rw (kind-said (value .ty) .0,
 says (op.TableCopy into source span) h = refl
 says (op.TableInit table segment span) h = refl
 says (op.DropSegment segment) h = refl
-says (op.NewSegment k i) h = segment-says k (i .first) (i .second) (i .third) (i .fourth) (i .count) (items-few k (i .first) (i .second) (i .third) (i .fourth) (i .count) h) h
+says (op.NewSegment k i) h = segment-says k (i .first) (i .second) (i .third) (i .fourth) (i .count) h
 
 making-says : (m : Bool) (b : ℕ) → b < 2 ^ 32 → operationOf (makingBack m b) ≡ read.Making m b
 unfolding operationOf byCode taken makingBack filled over pick both

@@ -1,6 +1,4 @@
 -- `lines::session::lines` meets its contract. Assumes nothing.
-use mathlib.Core.Bool.{true, false}
-use Rattle.lines.proofs.Runs.{by-skip}
 use borrow.Author.Needs.{needs}
 use Rattle.lines.proofs.session.lines.Statement.{statement}
 use Rattle.lines.proofs.session.lines.Tie as tie
@@ -24,7 +22,7 @@ same-length-5 : tie.Need-same-length-5
 same-length-5 c = search needs
 
 returns : tie.Need-returns
-returns c = by-skip _ true _ _ _ _ _ _ (c .before .before .before .before .before .before .before .before .before .before .before .before .before .before .before .before .if1 .taken) (c .before .before .before .before .before .before .before .before .before .before .skip-on .ensures)
+returns c = rw (c .before .before .before .before .before .before .before .before .before .before .before .before .before .before .before .before .if1 .taken) (c .before .before .before .before .before .before .before .before .before .before .skip-on .ensures)
 
 go-on-requires : tie.Need-go-on-requires
 go-on-requires c κs = search needs
@@ -45,7 +43,7 @@ same-length-10 : tie.Need-same-length-10
 same-length-10 c = search needs
 
 returns-2 : tie.Need-returns-2
-returns-2 c = by-skip _ false _ _ _ _ _ _ (c .before .before .before .before .before .before .before .before .before .before .before .before .before .before .before .before .if1 .left) (c .before .before .before .before .before .before .before .before .before .before .go-on .ensures)
+returns-2 c = rw (c .before .before .before .before .before .before .before .before .before .before .before .before .before .before .before .before .if1 .left) (c .before .before .before .before .before .before .before .before .before .before .go-on .ensures)
 
 pub lines-spec : {M : Type 1} → statement M
 lines-spec =

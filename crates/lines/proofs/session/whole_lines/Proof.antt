@@ -1,6 +1,4 @@
 -- `lines::session::whole_lines` meets its contract. Assumes nothing.
-use mathlib.Core.Bool.{true, false}
-use Rattle.lines.proofs.Runs.{by-begun}
 use borrow.Author.Needs.{needs}
 use Rattle.lines.proofs.session.whole_lines.Statement.{statement}
 use Rattle.lines.proofs.session.whole_lines.Tie as tie
@@ -24,7 +22,7 @@ same-length-5 : tie.Need-same-length-5
 same-length-5 c = search needs
 
 returns : tie.Need-returns
-returns c = by-begun _ true _ _ _ _ _ _ _ _ (c .before .before .before .before .before .before .before .before .before .before .before .before .before .before .before .before .if1 .taken) (c .before .before .before .before .before .before .before .before .before .before .first-line .ensures)
+returns c = rw (c .before .before .before .before .before .before .before .before .before .before .before .before .before .before .before .before .if1 .taken) (c .before .before .before .before .before .before .before .before .before .before .first-line .ensures)
 
 more-lines-requires : tie.Need-more-lines-requires
 more-lines-requires c κs = search needs
@@ -45,7 +43,7 @@ same-length-10 : tie.Need-same-length-10
 same-length-10 c = search needs
 
 returns-2 : tie.Need-returns-2
-returns-2 c = by-begun _ false _ _ _ _ _ _ _ _ (c .before .before .before .before .before .before .before .before .before .before .before .before .before .before .before .before .if1 .left) (c .before .before .before .before .before .before .before .before .before .before .more-lines .ensures)
+returns-2 c = rw (c .before .before .before .before .before .before .before .before .before .before .before .before .before .before .before .before .if1 .left) (c .before .before .before .before .before .before .before .before .before .before .more-lines .ensures)
 
 pub whole-lines-spec : {M : Type 1} → statement M
 whole-lines-spec =
