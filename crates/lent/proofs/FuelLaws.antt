@@ -3,7 +3,7 @@ use mathlib.Core.Path.{_≡_, refl, ap, sym, _∙_}
 use mathlib.Core.Bool.{Bool, true, false}
 use Prim.Native.Nat.{ℕ, _-_}
 use lib.Dec.{ltb}
-use Rattle.types.specs.{Pick.pick, Answer.refusal, Fuel.left, Fuel.setFuel, Fuel.getFuel, Fuel.consume, Fuel.consumeIf, Fuel.consumeUnchecked}
+use Rattle.types.specs.{Pick.pick, Answer.refusal, Fuel.left, Fuel.setFuel, Fuel.consume, Fuel.consumeIf, Fuel.consumeUnchecked}
 use Rattle.types.specs.{declared.answer.Refusal.Refusal, declared.fuel.Fuel.Fuel, declared.fuel.FuelStep.FuelStep, declared.fuel.FuelStep.the-variants.Done}
 use Rattle.types.specs.{declared.fuel.FuelStep.the-variants.Refused}
 use Rattle.lent.specs.{Fuel.FuelDone, Fuel.fuelDone, Fuel.setBy, Fuel.chargedBy, Fuel.requested, stages.Fuel.leftOf}
@@ -58,24 +58,3 @@ unfolding leftOf
 request-done f q r e =
     ap (λ (x : FuelLeft). fuelDone (x .answer) (left f (x .left))) e
     ∙ ap (fuelDone (requested f q .answer)) (sym (requested-same f q))
-
--- each request is its step
-pub set-step : (f : Fuel) (n : ℕ) → requested f (Set n) ≡ setBy f (setFuel f n)
-unfolding requested
-set-step f n = refl
-
-pub get-step : (f : Fuel) → requested f Get ≡ fuelDone (getFuel f) f
-unfolding requested
-get-step f = refl
-
-pub charge-step : (f : Fuel) (p : ℕ) → requested f (Charge p) ≡ chargedBy f (consume f p)
-unfolding requested
-charge-step f p = refl
-
-pub charge-if-step : (f : Fuel) (p : ℕ) → requested f (ChargeIf p) ≡ chargedBy f (consumeIf f p)
-unfolding requested
-charge-if-step f p = refl
-
-pub charge-unchecked-step : (f : Fuel) (p : ℕ) → requested f (ChargeUnchecked p) ≡ chargedBy f (consumeUnchecked f p)
-unfolding requested
-charge-unchecked-step f p = refl

@@ -29,10 +29,6 @@ pub length-fuel : (f : Fuel) → length (fuelWords f) ≡ 5
 unfolding fuelWords
 length-fuel f = refl
 
-pub length-place : (k : Limiter) → length (placeWords k) ≡ 2
-unfolding placeWords
-length-place k = refl
-
 pub length-standing : (k : Counts) (f : Fuel) (p : Limiter) → length (standingWords k f p) ≡ 10
 unfolding countWords fuelWords placeWords
 length-standing k f p = refl

@@ -12,7 +12,7 @@ use lib.ListN.{length, take, drop, set, replicate, length-replicate}
 use Rattle.types.specs.Pick.{pick, both}
 use Rattle.types.specs.Span.{over}
 use Rattle.types.specs.Steps.{fillSteps, initSteps, copySteps, Apart}
-use Rattle.types.specs.Answer.{accept, numberOf}
+use Rattle.types.specs.Answer.{accept}
 use Rattle.types.specs.IndexType.{maxSize}
 use Rattle.types.specs.Limits.{admitsOf, validMaximum, validLimits}
 use Rattle.types.specs.TableType.{tableBound, validTable, validated, buildTable, tableType}
@@ -91,12 +91,6 @@ no-value r v e = let z : _≡_ {A = ℕ} 0 1 = cc in omega arith
 
 no-refusal : (v : Value) (r : Refusal) → answer.Value v ≡ answer.Refusal r → ⊥
 no-refusal v r e = let z : _≡_ {A = ℕ} 0 1 = cc in omega arith
-
--- document 01's number tells a refusal
-pub refusal-of : (a : Answer) → (numberOf a ≡ 0 → ⊥) → (r : Refusal) × (a ≡ answer.Refusal r)
-unfolding numberOf
-refusal-of (answer.Value v) h = absurd (h refl)
-refusal-of (answer.Refusal r) h = (r, refl)
 
 -- a span operation: what it leaves where it is accepted and where it is refused, and what it keeps
 pub record SpanFrame (f : Fuel) (cs new : List ℕ) (x e : ℕ) (o : Done Spanned) : Type 0 where

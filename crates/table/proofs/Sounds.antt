@@ -1,7 +1,7 @@
 -- What soundness says of the places of tables and segments. Assumes nothing.
 use mathlib.Core.Path.{_≡_}
 use mathlib.Core.Bool.{Bool, true, false, not}
-use Prim.Native.Nat.{ℕ, _+_, _≤_, _<_, _^_}
+use Prim.Native.Nat.{ℕ, _+_, _≤_, _<_}
 use native.Mathlib.Omega.{arith}
 use borrow.Author.Tests.{leb-true, not-false}
 use Rattle.types.specs.Pick.{both}
@@ -13,10 +13,6 @@ use Rattle.table.specs.Copy.{soundTwo}
 use Rattle.table.specs.stages.Facts.{Within, Roomed, Places}
 use Rattle.table.specs.declared.table.Table.{Table}
 use Rattle.table.specs.declared.element.ElementSegment.{ElementSegment}
-
-pub buffer-few : (start places len : ℕ) → soundBuffer start places len ≡ true → len ≤ 2 ^ 32
-unfolding soundBuffer
-buffer-few start places len e = leb-true _ _ (both-1 _ _ e)
 
 pub buffer-within : (start places len : ℕ) → soundBuffer start places len ≡ true → start + places ≤ len
 unfolding soundBuffer

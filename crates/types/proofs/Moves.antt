@@ -10,19 +10,11 @@ use lib.Seq.{take-suc, take-add, drop-drop, take-all}
 use borrow.Rule.Slice.PartMut.{putMid, midOf, mid-len}
 use Rattle.types.specs.Span.{over, cut}
 use Rattle.types.specs.stages.Facts.{Two}
-use Rattle.types.proofs.Spans.{over-nil, over-put, over-over, over-under, over-after, length-over, cut-before}
+use Rattle.types.proofs.Spans.{over-nil, over-put, over-over, over-under, over-after, cut-before}
 
 pub length-cut : (l : List ℕ) (a n : ℕ) → a + n ≤ length l → length (cut l a n) ≡ n
 unfolding cut
 length-cut l a n h = simp (length-take, length-drop) (omega arith)
-
--- the result has as many cells
-pub length-cut-over : (l : List ℕ) (to from n : ℕ) → Two to from n (length l) → length (over l to (cut l from n)) ≡ length l
-length-cut-over l to from n h = length-over l to (cut l from n) (omega (arith, length-cut l from n (h .here)))
-
-pub cut-none : (l : List ℕ) (to from : ℕ) → l ≡ over l to (cut l from 0)
-unfolding cut
-cut-none l to from = sym (over-nil l to)
 
 -- the next of a source, put at its place
 pub put-more : (l src : List ℕ) (to j : ℕ) → to + j < length l → j < length src
