@@ -25,19 +25,21 @@ use Rattle.machine.specs.Step.{Stepped, onNone, after, perform, decide, 
 use Rattle.machine.specs.Words.{recordLength, segmentLength, tablesAt, segmentsAt, countsAt, rowLength}
 use Rattle.machine.specs.Words.{memoryWords, tableWords, segmentWords, rowsOf, instanceWords, standingWords, stateWords, wordsOf, machineFrom, inForm}
 use Rattle.machine.specs.Row.{InRow, rowKeeps, rowAfter, operateRow}
-use Rattle.machine.specs.stages.Rows.{Inside, endsInside, Fits, Shaped, changedRow, changesRecord, handsOver, standingRow, settledRow, rowSettled, Goes, Holds, proceedRow, Steps, Proceeds}
+use Rattle.machine.specs.stages.Rows.{Inside, endsInside, Fits, Shaped, changedRow, writesOf, settledRow, rowSettled, Goes, Holds, proceedRow, Steps, Proceeds}
 use Rattle.machine.specs.declared.records.Machine.{Machine}
 use Rattle.machine.specs.declared.records.Counts.{Counts}
 use Rattle.machine.specs.declared.outcome.Outcome.{Outcome}
 use Rattle.machine.specs.declared.outcome.Change.{Change}
 use Rattle.machine.specs.declared.outcome.Change.the-variants as change
 use Rattle.machine.specs.declared.operation.Operation.{Operation}
+use Rattle.machine.specs.declared.operation.Writes.{Writes}
+use Rattle.machine.specs.declared.operation.Writes.the-variants as writes
 use Rattle.machine.proofs.Lengths.{length-memory, length-table, length-segment, length-standing}
 use Rattle.machine.proofs.Rows.{rows-length, length-both, over-all}
 use Rattle.machine.proofs.Places.{over-left, over-right, over-in, rows-set}
 use Rattle.machine.proofs.Back.{row-back, shaped-from}
 use Rattle.machine.proofs.Formed.{form-holds}
-use Rattle.machine.proofs.Written.{records-kept, script-kept}
+use Rattle.machine.proofs.Written.{Left, left}
 use Rattle.machine.proofs.Rooms.{next-byte-inside, next-cell-inside, next-item-inside}
 
 -- how long the parts are
@@ -181,37 +183,50 @@ settled-shaped m o h f =
     record { memories = e .memories; tables = e .tables; segments = e .segments; fits = f }
 
 -- what settling writes are the words of the machine after it
-settle-words : (l : List ℕ) (changes handed : Bool) (o : Outcome) → Holds l → Fits (o .fuel) (o .limiter)
-    → (changes ≡ false → changed (o .change) (machineFrom l) ≡ machineFrom l)
-    → (handed ≡ false → o .limiter .script ≡ machineFrom l .limiter .script) → settledRow l changes handed o ≡ over l 0 (wordsOf (settled (machineFrom l) o))
-unfolding settledRow standingRow settled wordsOf
-settle-words l changes handed o h f kept same =
-    let m = machineFrom l in
-    let s = stateWords (m .counts) (m .fuel) (m .limiter) in
-    let t = stateWords (o .counts) (o .fuel) (o .limiter) in
-    let shape = shaped-from l in
-    let n : length s ≡ 26 = state-long (m .counts) (m .fuel) (m .limiter) (shape .fits .script) in
-    let k : length t ≡ 26 = state-long (o .counts) (o .fuel) (o .limiter) (f .script) in
-    let e = eights m shape in
-    let x = changed (o .change) m in
-    let d = changed-eights (o .change) m e in
-    let row : length (instanceWords x ++ s) ≡ 186 = row-long l s x d n in
-    let after : pick changes (changedRow l (o .change)) l ≡ over l 0 (instanceWords x ++ s) =
-    either changes
-    (λ y. pick-true _ _ _ y ∙ ap (λ (z : List ℕ). changedRow z (o .change)) h ∙ change-row l s m e n (o .change))
-    (λ y. pick-false _ _ _ y ∙ h ∙ ap (λ (k : Machine). over l 0 (instanceWords k ++ s)) (sym (kept y))) in
-    let u = standingWords (o .counts) (o .fuel) (o .limiter) in
-    let v : length u ≡ 10 = length-standing (o .counts) (o .fuel) (o .limiter) in
-    either handed
-    (λ y.
-    pick-true _ _ _ y ∙ ap (λ (z : List ℕ). over z 160 t) after
-    ∙ over-in l (instanceWords x ++ s) 160 t (omega (arith, k, row)) ∙ ap (over l 0) (state-among x d s t n k))
-    (λ y.
-    pick-false _ _ _ y ∙ ap (λ (z : List ℕ). over z 160 u) after
-    ∙ over-in l (instanceWords x ++ s) 160 u (omega (arith, v, row))
-    ∙ ap (over l 0)
-    (standing-among x d (standingWords (m .counts) (m .fuel) (m .limiter)) u (m .limiter .script) (length-standing (m .counts) (m .fuel) (m .limiter)) v
-    ∙ ap (λ (z : List ℕ). instanceWords x ++ (u ++ z)) (sym (same y))))
+module _ (l : List ℕ) (o : Outcome) (h : Holds l) (f : Fits (o .fuel) (o .limiter)) where
+  abbrev before : Machine
+  before = machineFrom l
+
+  abbrev held : List ℕ
+  held = stateWords (before .counts) (before .fuel) (before .limiter)
+
+  abbrev standing : List ℕ
+  standing = standingWords (o .counts) (o .fuel) (o .limiter)
+
+  abbrev stated : List ℕ
+  stated = stateWords (o .counts) (o .fuel) (o .limiter)
+
+  held-long : length held ≡ 26
+  held-long = state-long (before .counts) (before .fuel) (before .limiter) (shaped-from l .fits .script)
+
+  -- on a row with the instances of a machine: all but the script's answers, or all
+  put-standing : (k : Machine) → Eights k → o .limiter .script ≡ before .limiter .script
+      → over (over l 0 (instanceWords k ++ held)) 160 standing ≡ over l 0 (instanceWords k ++ stated)
+  put-standing k e same =
+      let n = length-standing (o .counts) (o .fuel) (o .limiter) in
+      over-in l (instanceWords k ++ held) 160 standing (omega (arith, n, row-long l held k e held-long))
+      ∙ ap (over l 0)
+      (standing-among k e (standingWords (before .counts) (before .fuel) (before .limiter)) standing (before .limiter .script)
+      (length-standing (before .counts) (before .fuel) (before .limiter)) n
+      ∙ ap (λ (z : List ℕ). instanceWords k ++ (standing ++ z)) (sym same))
+
+  put-stated : (k : Machine) → Eights k → over (over l 0 (instanceWords k ++ held)) 160 stated ≡ over l 0 (instanceWords k ++ stated)
+  put-stated k e =
+      let n : length stated ≡ 26 = state-long (o .counts) (o .fuel) (o .limiter) (f .script) in
+      over-in l (instanceWords k ++ held) 160 stated (omega (arith, n, row-long l held k e held-long)) ∙ ap (over l 0) (state-among k e held stated held-long n)
+
+  settle-words : (w : Writes) → Left w before o → settledRow l w o ≡ over l 0 (wordsOf (settled before o))
+  unfolding settledRow settled wordsOf Left
+  settle-words writes.Nothing (kept, same) =
+      ap (λ (z : List ℕ). over z 160 standing) h ∙ put-standing before (eights before (shaped-from l)) same
+      ∙ ap (λ (k : Machine). over l 0 (instanceWords k ++ stated)) (sym kept)
+  settle-words writes.Record same =
+      ap (λ (z : List ℕ). over (changedRow z (o .change)) 160 standing) h
+      ∙ ap (λ (z : List ℕ). over z 160 standing) (change-row l held before (eights before (shaped-from l)) held-long (o .change))
+      ∙ put-standing (changed (o .change) before) (changed-eights (o .change) before (eights before (shaped-from l))) same
+  settle-words writes.Script kept =
+      ap (λ (z : List ℕ). over z 160 stated) h ∙ put-stated before (eights before (shaped-from l))
+      ∙ ap (λ (k : Machine). over l 0 (instanceWords k ++ stated)) (sym kept)
 
 -- the step of a well-formed operation on a sound machine
 pub goes : (r : ℕ) (m : Machine) (b : Buffers) (o : Operation) → wellFormed o ≡ true → soundOver m b ≡ true → step r m b o ≡ after m (perform r m b o)
@@ -226,7 +241,7 @@ goes-steps l b op h w e f q =
     let m = machineFrom l in
     let p = perform rawBytes m b op in
     let g = goes rawBytes m b op w e in
-    let words = settle-words l (changesRecord op) (handsOver op) (p .out) h f (records-kept rawBytes m b op) (script-kept rawBytes m b op) in
+    let words = settle-words l (p .out) h f (writesOf op) (left rawBytes m b op) in
     let row : rowSettled l op p ≡ rowAfter l (after m p) = ap (λ (z : List ℕ). record { answer = p .out .answer; words = z; buffers = p .buffers }) words in
     let back : machineFrom (over l 0 (wordsOf (settled m (p .out)))) ≡ settled m (p .out) = row-back (settled m (p .out)) l (settled-shaped m (p .out) (eights m (shaped-from l)) f) in
     record {

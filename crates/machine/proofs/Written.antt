@@ -1,7 +1,7 @@
 -- Which words an operation leaves: no record changes but by a creation, a growth or a drop, no answer of the script but by handing one over. Assumes nothing.
 use Prim.Native.Nat.{ℕ}
-use mathlib.Core.Path.{_≡_, refl, sym, ap}
-use mathlib.Core.Bool.{Bool, true, false, false≢true}
+use mathlib.Core.Path.{_≡_, refl, ap}
+use mathlib.Core.Bool.{Bool, true, false}
 use mathlib.Core.List.{List}
 use lib.Dec.{ltb}
 use lib.Seq.{set-getD}
@@ -38,10 +38,12 @@ use Rattle.machine.specs.Memories.{performMemory, onMemory, madeMemory, 
 use Rattle.machine.specs.Tables.{performTable, onTable, copyKnown, copyOn, madeTable, newTableOn}
 use Rattle.machine.specs.Segments.{initOn, dropOn, madeSegment, newSegmentOn}
 use Rattle.machine.specs.Step.{perform}
-use Rattle.machine.specs.stages.Rows.{memoryChanges, tableChanges, changesRecord, fuelHandsOver, handsOver}
+use Rattle.machine.specs.stages.Rows.{fuelWrites, memoryWrites, tableWrites, writesOf}
 use Rattle.machine.specs.declared.records.Machine.{Machine}
 use Rattle.machine.specs.declared.outcome.Outcome.{Outcome}
 use Rattle.machine.specs.declared.outcome.Change.the-variants as change
+use Rattle.machine.specs.declared.operation.Writes.{Writes}
+use Rattle.machine.specs.declared.operation.Writes.the-variants as writes
 use Rattle.machine.specs.declared.operation.FuelOp.{FuelOp}
 use Rattle.machine.specs.declared.operation.FuelOp.the-variants as fuel
 use Rattle.machine.specs.declared.operation.MemoryOp.{MemoryOp}
@@ -65,42 +67,6 @@ memory-put-back m i = either-way (λ (x : Machine). x ≡ m) (ltb i 8) _ _ (ap (
 pub table-put-back : (m : Machine) (i : ℕ) → changed (change.Table i (tableAt m i)) m ≡ m
 unfolding changed
 table-put-back m i = either-way (λ (x : Machine). x ≡ m) (ltb i 8) _ _ (ap (λ (rs : List Table). withTables m rs) (set-getD (m .tables) i noTable)) refl
-
--- what changes no record leaves them all
-module _ (r : ℕ) (m : Machine) where
-  abbrev Stays : Outcome → Type 0
-  Stays o = changed (o .change) m ≡ m
-
-  abbrev StaysDone : Done Outcome → Type 0
-  StaysDone d = Stays (d .out)
-
-  on-one-memory : (i : ℕ) (bs : List ℕ) (o : MemoryOp) → memoryChanges o ≡ false → StaysDone (onMemory m bs i o)
-  unfolding onMemory performMemory memoryChanges changed
-  on-one-memory i bs (memory.Grow pages) e = absurd (false≢true (sym e))
-  on-one-memory i bs memory.Size e = either-way StaysDone _ _ _ (memory-put-back m i) refl
-  on-one-memory i bs (memory.Load kind pointer offset) e = either-way StaysDone _ _ _ (memory-put-back m i) refl
-  on-one-memory i bs (memory.Store kind pointer offset bits) e = either-way StaysDone _ _ _ (memory-put-back m i) refl
-  on-one-memory i bs (memory.LinkCheck wanted) e = either-way StaysDone _ _ _ (memory-put-back m i) refl
-
-  on-one-table : (i : ℕ) (cs : List ℕ) (o : TableOp) → tableChanges o ≡ false → StaysDone (onTable r m cs i o)
-  unfolding onTable performTable tableChanges changed
-  on-one-table i cs (table.Grow cells value) e = absurd (false≢true (sym e))
-  on-one-table i cs table.Size e = either-way StaysDone _ _ _ (table-put-back m i) refl
-  on-one-table i cs (table.Get index) e = either-way StaysDone _ _ _ (table-put-back m i) refl
-  on-one-table i cs (table.Set index value) e = either-way StaysDone _ _ _ (table-put-back m i) refl
-  on-one-table i cs (table.Fill start value len) e = either-way StaysDone _ _ _ (table-put-back m i) refl
-
-  pub records-kept : (b : Buffers) (o : Operation) → changesRecord o ≡ false → Stays (perform r m b o .out)
-  unfolding perform changesRecord onFuel copyOn copyKnown initOn changed
-  records-kept b (op.Fuel o) e = refl
-  records-kept b (op.NewMemory room wanted) e = absurd (false≢true (sym e))
-  records-kept b (op.Memory number o) e = on-one-memory number (b .bytes) o e
-  records-kept b (op.NewTable room wanted initial) e = absurd (false≢true (sym e))
-  records-kept b (op.Table number o) e = on-one-table number (b .cells) o e
-  records-kept b (op.TableCopy into source span) e = either-way StaysDone _ _ _ (either-way StaysDone _ _ _ refl refl) refl
-  records-kept b (op.TableInit into segment span) e = either-way StaysDone _ _ _ refl refl
-  records-kept b (op.DropSegment segment) e = absurd (false≢true (sym e))
-  records-kept b (op.NewSegment element items) e = absurd (false≢true (sym e))
 
 -- creations and growths only move the script on
 module _ (l : Limiter) where
@@ -150,12 +116,15 @@ module _ (l : Limiter) where
       (either-way Grown-table _ _ _ refl
       (either-way Grown-table _ _ _ (either-way Grown-table _ _ _ refl (either-way Grown-table _ _ _ refl refl)) refl))) refl)) refl) refl
 
-module _ (r : ℕ) (m : Machine) where
-  abbrev Kept : Outcome → Type 0
-  Kept o = o .limiter .script ≡ m .limiter .script
+-- what an operation leaves as it was
+unfoldable pub Left : Writes → Machine → Outcome → Type 0
+Left writes.Nothing m o = (changed (o .change) m ≡ m) × (o .limiter .script ≡ m .limiter .script)
+Left writes.Record m o = o .limiter .script ≡ m .limiter .script
+Left writes.Script m o = changed (o .change) m ≡ m
 
-  abbrev KeptDone : Done Outcome → Type 0
-  KeptDone d = Kept (d .out)
+module _ (r : ℕ) (m : Machine) where
+  abbrev LeftDone : Writes → Done Outcome → Type 0
+  LeftDone w d = Left w m (d .out)
 
   -- fuel
   set-by : (s : FuelStep) → setBy s (m .fuel) (m .limiter) .limiter .script ≡ m .limiter .script
@@ -168,55 +137,58 @@ module _ (r : ℕ) (m : Machine) where
   charged-by (step.Refused x) = refl
   charged-by (step.Done left) = refl
 
-  on-fuel : (o : FuelOp) → fuelHandsOver o ≡ false → Kept (onFuel m o)
-  unfolding onFuel performFuel fuelHandsOver
-  on-fuel (fuel.SetFuel amount) e = set-by _
-  on-fuel fuel.GetFuel e = refl
-  on-fuel (fuel.Charge units) e = charged-by _
-  on-fuel (fuel.SetLimiter script) e = absurd (false≢true (sym e))
+  on-fuel : (o : FuelOp) → Left (fuelWrites o) m (onFuel m o)
+  unfolding Left onFuel performFuel fuelWrites changed
+  on-fuel (fuel.SetFuel amount) = (refl, set-by _)
+  on-fuel fuel.GetFuel = (refl, refl)
+  on-fuel (fuel.Charge units) = (refl, charged-by _)
+  on-fuel (fuel.SetLimiter script) = refl
 
   -- memories
-  made-memory-kept : (x : MadeMemory) (l : Limiter) → l .script ≡ m .limiter .script → Kept (madeMemory m x l)
-  unfolding madeMemory
-  made-memory-kept (made-memory.Refused x) l h = h
-  made-memory-kept (made-memory.Made x) l h = h
+  made-memory-left : (x : MadeMemory) (l : Limiter) → l .script ≡ m .limiter .script → Left writes.Record m (madeMemory m x l)
+  unfolding Left madeMemory
+  made-memory-left (made-memory.Refused x) l h = h
+  made-memory-left (made-memory.Made x) l h = h
 
-  one-memory : (t : Memory) (bs : List ℕ) (o : MemoryOp) → performMemory t bs (m .fuel) (m .limiter) o .out .limiter .script ≡ m .limiter .script
-  unfolding performMemory
-  one-memory t bs (memory.Grow pages) = grow-memory (m .limiter) t bs pages (m .fuel)
-  one-memory t bs memory.Size = refl
-  one-memory t bs (memory.Load kind pointer offset) = refl
-  one-memory t bs (memory.Store kind pointer offset bits) = refl
-  one-memory t bs (memory.LinkCheck wanted) = refl
+  one-memory : (i : ℕ) (bs : List ℕ) (o : MemoryOp) → LeftDone (memoryWrites o) (onMemory m bs i o)
+  unfolding Left onMemory performMemory memoryWrites changed
+  one-memory i bs (memory.Grow pages) = either-way (LeftDone writes.Record) _ _ _ (grow-memory (m .limiter) (memoryAt m i) bs pages (m .fuel)) refl
+  one-memory i bs memory.Size = either-way (LeftDone writes.Nothing) _ _ _ (memory-put-back m i, refl) (refl, refl)
+  one-memory i bs (memory.Load kind pointer offset) = either-way (LeftDone writes.Nothing) _ _ _ (memory-put-back m i, refl) (refl, refl)
+  one-memory i bs (memory.Store kind pointer offset bits) = either-way (LeftDone writes.Nothing) _ _ _ (memory-put-back m i, refl) (refl, refl)
+  one-memory i bs (memory.LinkCheck wanted) = either-way (LeftDone writes.Nothing) _ _ _ (memory-put-back m i, refl) (refl, refl)
 
   -- tables
-  made-table-kept : (x : MadeTable) (l : Limiter) → l .script ≡ m .limiter .script → Kept (madeTable m x l)
-  unfolding madeTable
-  made-table-kept (made-table.Refused x) l h = h
-  made-table-kept (made-table.Made x) l h = h
+  made-table-left : (x : MadeTable) (l : Limiter) → l .script ≡ m .limiter .script → Left writes.Record m (madeTable m x l)
+  unfolding Left madeTable
+  made-table-left (made-table.Refused x) l h = h
+  made-table-left (made-table.Made x) l h = h
 
-  one-table : (t : Table) (cs : List ℕ) (o : TableOp) → performTable r t cs (m .fuel) (m .limiter) o .out .limiter .script ≡ m .limiter .script
-  unfolding performTable
-  one-table t cs (table.Grow cells value) = grow-table (m .limiter) r t cs cells value (m .fuel)
-  one-table t cs table.Size = refl
-  one-table t cs (table.Get index) = refl
-  one-table t cs (table.Set index value) = refl
-  one-table t cs (table.Fill start value len) = refl
+  one-table : (i : ℕ) (cs : List ℕ) (o : TableOp) → LeftDone (tableWrites o) (onTable r m cs i o)
+  unfolding Left onTable performTable tableWrites changed
+  one-table i cs (table.Grow cells value) = either-way (LeftDone writes.Record) _ _ _ (grow-table (m .limiter) r (tableAt m i) cs cells value (m .fuel)) refl
+  one-table i cs table.Size = either-way (LeftDone writes.Nothing) _ _ _ (table-put-back m i, refl) (refl, refl)
+  one-table i cs (table.Get index) = either-way (LeftDone writes.Nothing) _ _ _ (table-put-back m i, refl) (refl, refl)
+  one-table i cs (table.Set index value) = either-way (LeftDone writes.Nothing) _ _ _ (table-put-back m i, refl) (refl, refl)
+  one-table i cs (table.Fill start value len) = either-way (LeftDone writes.Nothing) _ _ _ (table-put-back m i, refl) (refl, refl)
 
-  made-segment-kept : (x : MadeSegment) → Kept (madeSegment m x)
-  unfolding madeSegment
-  made-segment-kept (made-segment.Refused x) = refl
-  made-segment-kept (made-segment.Made x) = refl
+  made-segment-left : (x : MadeSegment) → Left writes.Record m (madeSegment m x)
+  unfolding Left madeSegment
+  made-segment-left (made-segment.Refused x) = refl
+  made-segment-left (made-segment.Made x) = refl
 
   -- every operation
-  pub script-kept : (b : Buffers) (o : Operation) → handsOver o ≡ false → Kept (perform r m b o .out)
-  unfolding perform handsOver newMemoryOn onMemory newTableOn onTable copyOn copyKnown initOn dropOn newSegmentOn
-  script-kept b (op.Fuel o) e = on-fuel o e
-  script-kept b (op.NewMemory room wanted) e = either-way KeptDone _ _ _ (made-memory-kept _ _ (new-memory (m .limiter) wanted _ room (b .bytes))) refl
-  script-kept b (op.Memory number o) e = either-way KeptDone _ _ _ (one-memory _ (b .bytes) o) refl
-  script-kept b (op.NewTable room wanted initial) e = either-way KeptDone _ _ _ (made-table-kept _ _ (new-table (m .limiter) wanted initial _ room (b .cells))) refl
-  script-kept b (op.Table number o) e = either-way KeptDone _ _ _ (one-table _ (b .cells) o) refl
-  script-kept b (op.TableCopy into source span) e = either-way KeptDone _ _ _ (either-way KeptDone _ _ _ refl refl) refl
-  script-kept b (op.TableInit into segment span) e = either-way KeptDone _ _ _ refl refl
-  script-kept b (op.DropSegment segment) e = either-way Kept _ _ _ refl refl
-  script-kept b (op.NewSegment element items) e = either-way KeptDone _ _ _ (made-segment-kept _) refl
+  pub left : (b : Buffers) (o : Operation) → Left (writesOf o) m (perform r m b o .out)
+  unfolding Left perform writesOf newMemoryOn newTableOn copyOn copyKnown initOn dropOn newSegmentOn changed
+  left b (op.Fuel o) = on-fuel o
+  left b (op.NewMemory room wanted) =
+      either-way (LeftDone writes.Record) _ _ _ (made-memory-left _ _ (new-memory (m .limiter) wanted _ room (b .bytes))) refl
+  left b (op.Memory number o) = one-memory number (b .bytes) o
+  left b (op.NewTable room wanted initial) =
+      either-way (LeftDone writes.Record) _ _ _ (made-table-left _ _ (new-table (m .limiter) wanted initial _ room (b .cells))) refl
+  left b (op.Table number o) = one-table number (b .cells) o
+  left b (op.TableCopy into source span) =
+      either-way (LeftDone writes.Nothing) _ _ _ (either-way (LeftDone writes.Nothing) _ _ _ (refl, refl) (refl, refl)) (refl, refl)
+  left b (op.TableInit into segment span) = either-way (LeftDone writes.Nothing) _ _ _ (refl, refl) (refl, refl)
+  left b (op.DropSegment segment) = either-way (Left writes.Record m) _ _ _ refl refl
+  left b (op.NewSegment element items) = either-way (LeftDone writes.Record) _ _ _ (made-segment-left _) refl

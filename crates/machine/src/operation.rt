@@ -9,7 +9,7 @@ use types::span::CopySpan;
 use types::table_ty::WantedTable;
 ghost use mathlib.Core.Path.{_≡_};
 ghost use Rattle.machine.specs.Operation.{fuelWellFormed, memoryWellFormed, wellFormed};
-ghost use Rattle.machine.specs.stages.Rows.{memoryChanges, tableChanges, changesRecord, fuelHandsOver, handsOver};
+ghost use Rattle.machine.specs.stages.Rows.{fuelWrites, memoryWrites, tableWrites, writesOf};
 
 // The limiter's answers: so many, as leading digits.
 pub struct Script {
@@ -160,73 +160,63 @@ fn memory_well_formed(op: MemoryOp) -> bool
     }
 }
 
-fn memory_changes(op: MemoryOp) -> bool
-    ensures { λ r. ⌜ r ≡ memoryChanges op ⌝ }
+// What an operation may write to a row besides the numbers in use, fuel and the script's place.
+pub enum Writes {
+    Nothing,
+    Record,
+    Script,
+}
+
+fn fuel_writes(op: FuelOp) -> Writes
+    ensures { λ r. ⌜ r ≡ fuelWrites op ⌝ }
 {
     match op {
-        MemoryOp::Grow { .. } => true,
-        MemoryOp::Size => false,
-        MemoryOp::Load { .. } => false,
-        MemoryOp::Store { .. } => false,
-        MemoryOp::LinkCheck { .. } => false,
+        FuelOp::SetFuel { .. } => Writes::Nothing,
+        FuelOp::GetFuel => Writes::Nothing,
+        FuelOp::Charge { .. } => Writes::Nothing,
+        FuelOp::SetLimiter { .. } => Writes::Script,
     }
 }
 
-fn table_changes(op: TableOp) -> bool
-    ensures { λ r. ⌜ r ≡ tableChanges op ⌝ }
+fn memory_writes(op: MemoryOp) -> Writes
+    ensures { λ r. ⌜ r ≡ memoryWrites op ⌝ }
 {
     match op {
-        TableOp::Grow { .. } => true,
-        TableOp::Size => false,
-        TableOp::Get { .. } => false,
-        TableOp::Set { .. } => false,
-        TableOp::Fill { .. } => false,
+        MemoryOp::Grow { .. } => Writes::Record,
+        MemoryOp::Size => Writes::Nothing,
+        MemoryOp::Load { .. } => Writes::Nothing,
+        MemoryOp::Store { .. } => Writes::Nothing,
+        MemoryOp::LinkCheck { .. } => Writes::Nothing,
     }
 }
 
-fn fuel_hands_over(op: FuelOp) -> bool
-    ensures { λ r. ⌜ r ≡ fuelHandsOver op ⌝ }
+fn table_writes(op: TableOp) -> Writes
+    ensures { λ r. ⌜ r ≡ tableWrites op ⌝ }
 {
     match op {
-        FuelOp::SetFuel { .. } => false,
-        FuelOp::GetFuel => false,
-        FuelOp::Charge { .. } => false,
-        FuelOp::SetLimiter { .. } => true,
+        TableOp::Grow { .. } => Writes::Record,
+        TableOp::Size => Writes::Nothing,
+        TableOp::Get { .. } => Writes::Nothing,
+        TableOp::Set { .. } => Writes::Nothing,
+        TableOp::Fill { .. } => Writes::Nothing,
     }
 }
 
 impl Operation {
-    // Whether a record may change: of a memory or table only its size does, and only by a growth.
-    pub(crate) fn changes(self) -> bool
-        ensures { λ r. ⌜ r ≡ changesRecord self ⌝ }
+    // A record changes by a creation, a growth or a drop alone, the script's answers by handing a script over.
+    pub(crate) fn writes(self) -> Writes
+        ensures { λ r. ⌜ r ≡ writesOf self ⌝ }
     {
         match self {
-            Operation::Fuel { .. } => false,
-            Operation::NewMemory { .. } => true,
-            Operation::Memory { number: _, op } => memory_changes(op),
-            Operation::NewTable { .. } => true,
-            Operation::Table { number: _, op } => table_changes(op),
-            Operation::TableCopy { .. } => false,
-            Operation::TableInit { .. } => false,
-            Operation::DropSegment { .. } => true,
-            Operation::NewSegment { .. } => true,
-        }
-    }
-
-    // Whether a script is handed over: no other operation changes the script's answers.
-    pub(crate) fn hands_over(self) -> bool
-        ensures { λ r. ⌜ r ≡ handsOver self ⌝ }
-    {
-        match self {
-            Operation::Fuel { op } => fuel_hands_over(op),
-            Operation::NewMemory { .. } => false,
-            Operation::Memory { .. } => false,
-            Operation::NewTable { .. } => false,
-            Operation::Table { .. } => false,
-            Operation::TableCopy { .. } => false,
-            Operation::TableInit { .. } => false,
-            Operation::DropSegment { .. } => false,
-            Operation::NewSegment { .. } => false,
+            Operation::Fuel { op } => fuel_writes(op),
+            Operation::NewMemory { .. } => Writes::Record,
+            Operation::Memory { number: _, op } => memory_writes(op),
+            Operation::NewTable { .. } => Writes::Record,
+            Operation::Table { number: _, op } => table_writes(op),
+            Operation::TableCopy { .. } => Writes::Nothing,
+            Operation::TableInit { .. } => Writes::Nothing,
+            Operation::DropSegment { .. } => Writes::Record,
+            Operation::NewSegment { .. } => Writes::Record,
         }
     }
 

@@ -2,6 +2,7 @@
 use super::form;
 use super::operate;
 use super::operation::Operation;
+use super::operation::Writes;
 use super::outcome::Change;
 use super::outcome::Outcome;
 use super::records;
@@ -26,7 +27,7 @@ ghost use Prim.Native.Nat.{_+_, _≤_, _<_, _^_};
 ghost use lib.Dec.{leb};
 ghost use lib.ListN.{length};
 ghost use Rattle.types.specs.Answer.{refuse};
-ghost use Rattle.types.specs.Pick.{pick, both};
+ghost use Rattle.types.specs.Pick.{both};
 ghost use Rattle.types.specs.Raw.{rawBytes};
 ghost use Rattle.machine.specs.Machine.{buffers, memoryAt, tableAt, segmentAt, nextByte, nextCell, nextItem};
 ghost use Rattle.machine.specs.Words.{rowLength, machineFrom, inForm};
@@ -216,32 +217,23 @@ fn put_change(words: &mut [u64], change: Change)
     }
 }
 
-// Where an operation may change a record, what it says goes back.
-fn put_record(words: &mut [u64], change: Change, changes: bool)
+// The row after an operation: of record and script only what it may have changed.
+fn settle(words: &mut [u64], outcome: Outcome, writes: Writes)
     requires { ⌜ rowLength ≤ length (now words) ⌝ }
-    ensures { λ _. ⌜ now (words .exit) ≡ pick changes (changedRow (now (words .entry)) change) (now (words .entry)) ⌝ }
-{
-    if !changes {
-        return;
-    }
-    put_change(words, change);
-}
-
-// The row after an operation: the record is written where it may have changed, the script's answers where a script was handed over.
-fn settle(words: &mut [u64], outcome: Outcome, changes: bool, handed: bool)
-    requires { ⌜ rowLength ≤ length (now words) ⌝ }
-    ensures { λ _. ⌜ Settles (now (words .entry)) changes handed outcome (now (words .exit)) ⌝ }
+    ensures { λ _. ⌜ Settles (now (words .entry)) writes outcome (now (words .exit)) ⌝ }
 {
     let change = outcome.change;
     let counts = outcome.counts;
     let fuel = outcome.fuel;
     let limiter = outcome.limiter;
-    put_record(words, change, changes);
-    if handed {
-        words::put_state(words, counts, fuel, limiter);
-        return;
+    match writes {
+        Writes::Nothing => words::put_standing(words, counts, fuel, limiter),
+        Writes::Record => {
+            put_change(words, change);
+            words::put_standing(words, counts, fuel, limiter)
+        }
+        Writes::Script => words::put_state(words, counts, fuel, limiter),
     }
-    words::put_standing(words, counts, fuel, limiter);
 }
 
 // The operation's own checks, and what it changed.
@@ -258,9 +250,7 @@ fn go(
 {
     let outcome = operate::perform(words, bytes, cells, items, op);
     let answer = outcome.answer;
-    let changes = op.changes();
-    let handed = op.hands_over();
-    settle(words, outcome, changes, handed);
+    settle(words, outcome, op.writes());
     answer
 }
 

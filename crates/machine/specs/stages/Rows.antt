@@ -1,7 +1,7 @@
 -- For the code alone: what is written to a row, and an operation on a row whose form and soundness its caller carries.
 use Prim.Native.Nat.{ℕ, _+_, _*_, _≤_, _<_}
 use mathlib.Core.Path.{_≡_}
-use mathlib.Core.Bool.{Bool, true, false}
+use mathlib.Core.Bool.{Bool, true}
 use mathlib.Core.List.{List}
 use lib.Dec.{leb, ltb}
 use lib.ListN.{length, getD}
@@ -20,6 +20,8 @@ use Rattle.machine.specs.declared.records.Machine.{Machine}
 use Rattle.machine.specs.declared.outcome.Outcome.{Outcome}
 use Rattle.machine.specs.declared.outcome.Change.{Change}
 use Rattle.machine.specs.declared.outcome.Change.the-variants as change
+use Rattle.machine.specs.declared.operation.Writes.{Writes}
+use Rattle.machine.specs.declared.operation.Writes.the-variants as writes
 use Rattle.machine.specs.declared.operation.FuelOp.{FuelOp}
 use Rattle.machine.specs.declared.operation.FuelOp.the-variants as fuel
 use Rattle.machine.specs.declared.operation.MemoryOp.{MemoryOp}
@@ -60,67 +62,52 @@ changedRow l (change.Memory i r) = pick (ltb i 8) (over l (recordLength * i) (me
 changedRow l (change.Table i r) = pick (ltb i 8) (over l (tablesAt + recordLength * i) (tableWords r)) l
 changedRow l (change.Segment i r) = pick (ltb i 8) (over l (segmentsAt + segmentLength * i) (segmentWords r)) l
 
--- a record changes by a creation, a growth or a drop
-unfoldable pub memoryChanges : MemoryOp → Bool
-memoryChanges (memory.Grow pages) = true
-memoryChanges memory.Size = false
-memoryChanges (memory.Load kind pointer offset) = false
-memoryChanges (memory.Store kind pointer offset bits) = false
-memoryChanges (memory.LinkCheck wanted) = false
+-- what an operation may write besides numbers, fuel and the script's place: a record by a creation, a growth or a drop, a script by 04
+unfoldable pub fuelWrites : FuelOp → Writes
+fuelWrites (fuel.SetFuel amount) = writes.Nothing
+fuelWrites fuel.GetFuel = writes.Nothing
+fuelWrites (fuel.Charge units) = writes.Nothing
+fuelWrites (fuel.SetLimiter script) = writes.Script
 
-unfoldable pub tableChanges : TableOp → Bool
-tableChanges (table.Grow cells value) = true
-tableChanges table.Size = false
-tableChanges (table.Get index) = false
-tableChanges (table.Set index value) = false
-tableChanges (table.Fill start value len) = false
+unfoldable pub memoryWrites : MemoryOp → Writes
+memoryWrites (memory.Grow pages) = writes.Record
+memoryWrites memory.Size = writes.Nothing
+memoryWrites (memory.Load kind pointer offset) = writes.Nothing
+memoryWrites (memory.Store kind pointer offset bits) = writes.Nothing
+memoryWrites (memory.LinkCheck wanted) = writes.Nothing
 
-unfoldable pub changesRecord : Operation → Bool
-changesRecord (op.Fuel o) = false
-changesRecord (op.NewMemory room wanted) = true
-changesRecord (op.Memory number o) = memoryChanges o
-changesRecord (op.NewTable room wanted initial) = true
-changesRecord (op.Table number o) = tableChanges o
-changesRecord (op.TableCopy into source span) = false
-changesRecord (op.TableInit into segment span) = false
-changesRecord (op.DropSegment segment) = true
-changesRecord (op.NewSegment element items) = true
+unfoldable pub tableWrites : TableOp → Writes
+tableWrites (table.Grow cells value) = writes.Record
+tableWrites table.Size = writes.Nothing
+tableWrites (table.Get index) = writes.Nothing
+tableWrites (table.Set index value) = writes.Nothing
+tableWrites (table.Fill start value len) = writes.Nothing
 
--- a script is handed over by 04 alone
-unfoldable pub fuelHandsOver : FuelOp → Bool
-fuelHandsOver (fuel.SetFuel amount) = false
-fuelHandsOver fuel.GetFuel = false
-fuelHandsOver (fuel.Charge units) = false
-fuelHandsOver (fuel.SetLimiter script) = true
+unfoldable pub writesOf : Operation → Writes
+writesOf (op.Fuel o) = fuelWrites o
+writesOf (op.NewMemory room wanted) = writes.Record
+writesOf (op.Memory number o) = memoryWrites o
+writesOf (op.NewTable room wanted initial) = writes.Record
+writesOf (op.Table number o) = tableWrites o
+writesOf (op.TableCopy into source span) = writes.Nothing
+writesOf (op.TableInit into segment span) = writes.Nothing
+writesOf (op.DropSegment segment) = writes.Record
+writesOf (op.NewSegment element items) = writes.Record
 
-unfoldable pub handsOver : Operation → Bool
-handsOver (op.Fuel o) = fuelHandsOver o
-handsOver (op.NewMemory room wanted) = false
-handsOver (op.Memory number o) = false
-handsOver (op.NewTable room wanted initial) = false
-handsOver (op.Table number o) = false
-handsOver (op.TableCopy into source span) = false
-handsOver (op.TableInit into segment span) = false
-handsOver (op.DropSegment segment) = false
-handsOver (op.NewSegment element items) = false
-
--- the numbers in use, fuel and the script's place, and its answers where a script was handed over
-unfoldable pub standingRow : List ℕ → Bool → Outcome → List ℕ
-standingRow l handed o =
-    pick handed (over l countsAt (stateWords (o .counts) (o .fuel) (o .limiter))) (over l countsAt (standingWords (o .counts) (o .fuel) (o .limiter)))
-
--- the row after an operation: before that the record, where it may have changed
-unfoldable pub settledRow : List ℕ → Bool → Bool → Outcome → List ℕ
-settledRow l changes handed o = standingRow (pick changes (changedRow l (o .change)) l) handed o
+-- the row after an operation
+unfoldable pub settledRow : List ℕ → Writes → Outcome → List ℕ
+settledRow l writes.Nothing o = over l countsAt (standingWords (o .counts) (o .fuel) (o .limiter))
+settledRow l writes.Record o = over (changedRow l (o .change)) countsAt (standingWords (o .counts) (o .fuel) (o .limiter))
+settledRow l writes.Script o = over l countsAt (stateWords (o .counts) (o .fuel) (o .limiter))
 
 -- what settling a row leaves
-pub record Settles (l : List ℕ) (changes handed : Bool) (o : Outcome) (after : List ℕ) : Type 0 where
-  pub row : after ≡ settledRow l changes handed o
+pub record Settles (l : List ℕ) (w : Writes) (o : Outcome) (after : List ℕ) : Type 0 where
+  pub row : after ≡ settledRow l w o
   pub fits : Fits (o .fuel) (o .limiter)
 
 -- an operation's answer, row and buffers
 abbrev pub rowSettled : List ℕ → Operation → Performed → InRow
-rowSettled l o p = record { answer = p .out .answer; words = settledRow l (changesRecord o) (handsOver o) (p .out); buffers = p .buffers }
+rowSettled l o p = record { answer = p .out .answer; words = settledRow l (writesOf o) (p .out); buffers = p .buffers }
 
 -- what an operation leaves, of which only the next rooms' starts were tested
 pub record Goes (l : List ℕ) (b : Buffers) (op : Operation) (x : InRow) : Type 0 where

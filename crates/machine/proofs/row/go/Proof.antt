@@ -1,12 +1,12 @@
 -- `machine::row::go` meets its contract. Assumes nothing.
-use mathlib.Core.Path.{_≡_, ap, subst, _∙_}
-use mathlib.Core.Bool.{Bool}
+use mathlib.Core.Path.{ap, subst, _∙_}
 use mathlib.Core.List.{List}
 use Prim.Native.Nat.{ℕ}
 use denote.Ref.{now}
 use Rattle.machine.specs.Step.{Performed}
 use Rattle.machine.specs.Row.{inRow}
-use Rattle.machine.specs.stages.Rows.{Fits, changesRecord, handsOver, settledRow, rowSettled}
+use Rattle.machine.specs.stages.Rows.{Fits, settledRow, rowSettled}
+use Rattle.machine.specs.declared.operation.Writes.{Writes}
 use borrow.Author.Needs.{needs}
 use Rattle.machine.proofs.row.go.Statement.{statement}
 use Rattle.machine.proofs.row.go.Tie as tie
@@ -14,11 +14,8 @@ use Rattle.machine.proofs.row.go.Tie as tie
 perform-requires : tie.Need-perform-requires
 perform-requires c κs = search needs
 
-changes-requires : tie.Need-changes-requires
-changes-requires c κs = search needs
-
-hands-over-requires : tie.Need-hands-over-requires
-hands-over-requires c κs = search needs
+writes-requires : tie.Need-writes-requires
+writes-requires c κs = search needs
 
 settle-requires : tie.Need-settle-requires
 settle-requires c κs = search needs
@@ -37,16 +34,13 @@ same-length-4 c = search needs
 
 returns : tie.Need-returns
 returns c =
-    let a = c .before .before .before .before .before .before .before .before .before .before .before .before .before .before .before .before .before .before .before .before .before .args in
-    let p = c .before .before .before .before .before .before .before .before .before .before .before .before .perform in
+    let a = c .before .before .before .before .before .before .before .before .before .before .before .before .before .before .before .before .before .before .before .before .args in
+    let p = c .before .before .before .before .before .before .before .before .before .before .before .perform in
     let s = c .before .before .settle in
-    let changes = c .before .before .before .before .before .changes in
-    let handed = c .before .before .before .before .hands-over in
-    let written : settledRow (now (a .words)) (changes .result) (handed .result) (p .result) ≡ settledRow (now (a .words)) (changesRecord (a .op)) (handsOver (a .op)) (p .result) =
-    ap (λ (x : Bool). settledRow (now (a .words)) x (handed .result) (p .result)) (changes .ensures)
-    ∙ ap (λ (x : Bool). settledRow (now (a .words)) (changesRecord (a .op)) x (p .result)) (handed .ensures) in
+    let writes = c .before .before .before .writes .ensures in
     record {
-      is = ap (λ (z : List ℕ). inRow (p .result .answer) z (p .last .1 .0) (p .last .1 .1 .0) (p .last .1 .1 .1 .0)) (s .ensures .row ∙ written) ∙ ap (rowSettled (now (a .words)) (a .op)) (p .ensures);
+      is = ap (λ (z : List ℕ). inRow (p .result .answer) z (p .last .1 .0) (p .last .1 .1 .0) (p .last .1 .1 .1 .0)) (s .ensures .row ∙ ap (λ (w : Writes). settledRow (now (a .words)) w (p .result)) writes)
+          ∙ ap (rowSettled (now (a .words)) (a .op)) (p .ensures);
       fits = subst (λ (x : Performed). Fits (x .out .fuel) (x .out .limiter)) (p .ensures) (s .ensures .fits);
     }
 
@@ -55,8 +49,7 @@ go-spec =
     tie.close
     (tie.spec
     perform-requires
-    changes-requires
-    hands-over-requires
+    writes-requires
     settle-requires
     same-length
     same-length-2

@@ -1,9 +1,9 @@
--- `machine::operation::memory_changes` meets its contract. Assumes nothing.
+-- `machine::operation::fuel_writes` meets its contract. Assumes nothing.
 use mathlib.Core.Path.{refl}
-use Rattle.machine.specs.stages.Rows.{memoryChanges}
+use Rattle.machine.specs.stages.Rows.{fuelWrites}
 use borrow.Author.Needs.{needs}
-use Rattle.machine.proofs.operation.memory_changes.Statement.{statement}
-use Rattle.machine.proofs.operation.memory_changes.Tie as tie
+use Rattle.machine.proofs.operation.fuel_writes.Statement.{statement}
+use Rattle.machine.proofs.operation.fuel_writes.Tie as tie
 
 enum-told : tie.Need-enum-told
 enum-told c = search needs
@@ -17,40 +17,31 @@ enum-told-3 c = search needs
 enum-told-4 : tie.Need-enum-told-4
 enum-told-4 c = search needs
 
-enum-told-5 : tie.Need-enum-told-5
-enum-told-5 c = search needs
-
 returns : tie.Need-returns
-unfolding memoryChanges
+unfolding fuelWrites
 returns c = rw (c .enum-told .given .1) refl
 
 returns-2 : tie.Need-returns-2
-unfolding memoryChanges
+unfolding fuelWrites
 returns-2 c = rw (c .enum-told2 .given .1) refl
 
 returns-3 : tie.Need-returns-3
-unfolding memoryChanges
+unfolding fuelWrites
 returns-3 c = rw (c .enum-told3 .given .1) refl
 
 returns-4 : tie.Need-returns-4
-unfolding memoryChanges
+unfolding fuelWrites
 returns-4 c = rw (c .enum-told4 .given .1) refl
 
-returns-5 : tie.Need-returns-5
-unfolding memoryChanges
-returns-5 c = rw (c .enum-told5 .given .1) refl
-
-pub memory-changes-spec : {M : Type 1} → statement M
-memory-changes-spec =
+pub fuel-writes-spec : {M : Type 1} → statement M
+fuel-writes-spec =
     tie.close
     (tie.spec
     enum-told
     enum-told-2
     enum-told-3
     enum-told-4
-    enum-told-5
     returns
     returns-2
     returns-3
-    returns-4
-    returns-5)
+    returns-4)

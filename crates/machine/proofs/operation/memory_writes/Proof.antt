@@ -1,9 +1,9 @@
--- `machine::operation::table_changes` meets its contract. Assumes nothing.
+-- `machine::operation::memory_writes` meets its contract. Assumes nothing.
 use mathlib.Core.Path.{refl}
-use Rattle.machine.specs.stages.Rows.{tableChanges}
+use Rattle.machine.specs.stages.Rows.{memoryWrites}
 use borrow.Author.Needs.{needs}
-use Rattle.machine.proofs.operation.table_changes.Statement.{statement}
-use Rattle.machine.proofs.operation.table_changes.Tie as tie
+use Rattle.machine.proofs.operation.memory_writes.Statement.{statement}
+use Rattle.machine.proofs.operation.memory_writes.Tie as tie
 
 enum-told : tie.Need-enum-told
 enum-told c = search needs
@@ -21,27 +21,27 @@ enum-told-5 : tie.Need-enum-told-5
 enum-told-5 c = search needs
 
 returns : tie.Need-returns
-unfolding tableChanges
+unfolding memoryWrites
 returns c = rw (c .enum-told .given .1) refl
 
 returns-2 : tie.Need-returns-2
-unfolding tableChanges
+unfolding memoryWrites
 returns-2 c = rw (c .enum-told2 .given .1) refl
 
 returns-3 : tie.Need-returns-3
-unfolding tableChanges
+unfolding memoryWrites
 returns-3 c = rw (c .enum-told3 .given .1) refl
 
 returns-4 : tie.Need-returns-4
-unfolding tableChanges
+unfolding memoryWrites
 returns-4 c = rw (c .enum-told4 .given .1) refl
 
 returns-5 : tie.Need-returns-5
-unfolding tableChanges
+unfolding memoryWrites
 returns-5 c = rw (c .enum-told5 .given .1) refl
 
-pub table-changes-spec : {M : Type 1} → statement M
-table-changes-spec =
+pub memory-writes-spec : {M : Type 1} → statement M
+memory-writes-spec =
     tie.close
     (tie.spec
     enum-told
