@@ -5,19 +5,14 @@ use Prim.Native.Nat.{ℕ, _+_, _<_, _≤_}
 use native.Mathlib.Omega.{arith}
 use lib.ListN.{length, take, replicate, length-take}
 use lib.Seq.{take-all}
-use Rattle.types.specs.Done.{Done}
-use Rattle.types.specs.declared.raw.RefType.{RefType}
-use Rattle.machine.specs.declared.operation.Items.{Items}
+use Rattle.types.specs.{Done.Done, Names.RefType}
+use Rattle.machine.specs.Names.{Items, Operation}
 use Rattle.machine.specs.declared.operation.FuelOp.the-variants as fuel
 use Rattle.machine.specs.declared.operation.MemoryOp.the-variants as memory
 use Rattle.machine.specs.declared.operation.TableOp.the-variants as table
-use Rattle.machine.specs.declared.operation.Operation.{Operation}
 use Rattle.machine.specs.declared.operation.Operation.the-variants as op
 use Rattle.lines.specs.Line.{some, lineText, wroteOf}
-use Rattle.lines.specs.Fields.{kindNumber}
-use Rattle.lines.specs.Writing.{numbersOf, writeLine}
-use Rattle.lines.specs.stages.Back.{filled, backOf}
-use Rattle.lines.specs.declared.line.Line.{Line}
+use Rattle.lines.specs.{Fields.kindNumber, Writing.numbersOf, Writing.writeLine, stages.Back.filled, stages.Back.backOf, declared.line.Line.Line}
 use Rattle.lines.proofs.FieldText.{take-over}
 use Rattle.lines.proofs.Writing.{length-line}
 

@@ -6,30 +6,20 @@ use mathlib.Core.List.{List, _++_}
 use native.Mathlib.Omega.{arith}
 use lib.ListN.{length, drop}
 use borrow.Author.Tests.{le-leb}
-use Rattle.types.specs.Span.{over}
-use Rattle.types.specs.Raw.{rawBytes}
-use Rattle.types.specs.declared.fuel.Fuel.{Fuel}
-use Rattle.types.specs.declared.fuel.FuelCosts.{FuelCosts}
-use Rattle.types.specs.declared.answer.Answer.{Answer}
+use Rattle.types.specs.{Span.over, Raw.rawBytes, Names.Fuel, Names.FuelCosts, Names.Answer}
 use Rattle.types.proofs.Picks.{pick-true}
 use Rattle.types.proofs.Spans.{length-over, over-after}
-use Rattle.machine.specs.Machine.{Buffers, buffers, freshMachine}
-use Rattle.machine.specs.Sound.{soundOver}
-use Rattle.machine.specs.Step.{step}
+use Rattle.machine.specs.Names.{Buffers, buffers, freshMachine, soundOver, step, Machine, Operation}
 use Rattle.machine.specs.Words.{rowLength, wordsOf, machineFrom, inForm}
 use Rattle.machine.specs.Row.{Rowed, rowed, freshRow, InRow, fuelOf}
 use Rattle.machine.specs.stages.Rows.{Shaped, Steps, Proceeds}
-use Rattle.machine.specs.declared.records.Machine.{Machine}
-use Rattle.machine.specs.declared.operation.Operation.{Operation}
 use Rattle.machine.proofs.Rows.{over-all}
 use Rattle.machine.proofs.Places.{over-in}
 use Rattle.machine.proofs.Back.{words-length, row-back, shaped-from, fresh-shaped}
 use Rattle.machine.proofs.Formed.{form-long, form-holds}
 use Rattle.machine.proofs.Kept.{step-sound, fresh-sound}
 use Rattle.machine.proofs.Rooms.{parts}
-use Rattle.lines.specs.AnswerLine.{answerLine}
-use Rattle.lines.specs.{Progress.progressed, stages.Runs.heldOn, stages.Runs.rowWith, stages.Runs.Ready}
-use Rattle.lines.specs.declared.session.Progress.{Progress}
+use Rattle.lines.specs.{AnswerLine.answerLine, Progress.progressed, stages.Runs.heldOn, stages.Runs.rowWith, stages.Runs.Ready, declared.session.Progress.Progress}
 use Rattle.lines.proofs.Runs.{reached}
 
 -- a row that a machine's words were put to: as long, ready, and the same behind them

@@ -9,15 +9,12 @@ use lib.Dec.{ltb, eqb}
 use lib.ListN.{length, drop, getD, set, replicate, length-drop, drop-of-length-le}
 use lib.Seq.{drop-cons, drop-drop}
 use borrow.Author.Tests.{eq-eqb, ne-eqb}
-use Rattle.types.specs.Pick.{pick}
+use Rattle.types.specs.{Pick.pick, Span.over}
 use Rattle.types.proofs.Picks.{pick-true, pick-false, pick-same}
 use Rattle.lines.specs.Hex.{digitOf, hexFrom}
-use Rattle.types.specs.Span.{over}
 use Rattle.lines.specs.Line.{space, Got, none, some, thenField, fieldsOf, noLine, coded, lineOf}
-use Rattle.lines.specs.stages.Back.{filled}
-use Rattle.lines.specs.declared.field.Field.{Field}
+use Rattle.lines.specs.{stages.Back.filled, declared.field.Field.Field, declared.line.Line.Line}
 use Rattle.lines.specs.declared.field.Field.the-variants.{Value, Bad}
-use Rattle.lines.specs.declared.line.Line.{Line}
 use Rattle.types.proofs.Spans.{over-nil, over-first}
 
 -- too few bytes are no number

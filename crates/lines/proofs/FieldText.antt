@@ -13,11 +13,8 @@ use Rattle.types.proofs.Picks.{pick-true, pick-false, either}
 use Rattle.types.proofs.Spans.{length-over}
 use Rattle.lines.specs.Hex.{hexFrom, hexText}
 use Rattle.lines.specs.Line.{space, Got, none, some, thenField, fieldsOf, fieldsText, coded, lineOf, lineText}
-use Rattle.lines.specs.stages.Back.{filled}
-use Rattle.lines.specs.Sayable.{Small}
-use Rattle.lines.specs.declared.field.Field.{Field}
+use Rattle.lines.specs.{Sayable.Small, stages.Back.filled, declared.field.Field.Field, declared.line.Line.Line}
 use Rattle.lines.specs.declared.field.Field.the-variants.{Value, Bad}
-use Rattle.lines.specs.declared.line.Line.{Line}
 use Rattle.lines.proofs.FieldLaws.{coded-filled}
 use Rattle.lines.proofs.HexText.{hex-all, hex-whole}
 use Rattle.lines.proofs.Writing.{length-hex}

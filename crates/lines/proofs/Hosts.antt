@@ -9,8 +9,7 @@ use lib.Dec.{eqb, ltb, leb}
 use lib.ListN.{length, take, drop, set, getD, length-append, length-take, length-drop, length-set, drop-of-length-le}
 use lib.Seq.{getD-take, getD-drop, take-all, take-at, take-suc-set, drop-drop, drop-nil, length-take-le}
 use borrow.Author.Tests.{ltb-true, ltb-false, leb-true, leb-false, lt-leb, eqb-true, eqb-false}
-use Rattle.types.specs.Span.{over}
-use Rattle.types.specs.Done.{done}
+use Rattle.types.specs.{Span.over, Done.done}
 use Rattle.types.proofs.Dones.{done-as}
 use Rattle.types.proofs.Picks.{pick-true, pick-false, either}
 use Rattle.types.proofs.Spans.{over-after, over-span, length-over}

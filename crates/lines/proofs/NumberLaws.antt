@@ -7,17 +7,12 @@ use native.Mathlib.Omega.{arith}
 use lib.Dec.{eqb, leb}
 use lib.ListN.{List·getD-eq-default}
 use borrow.Author.Tests.{ltb-true, leb-true, le-leb, eq-eqb, eqb-true, eqb-false}
-use Rattle.types.specs.Pick.{pick, both}
+use Rattle.types.specs.{Pick.pick, Pick.both, Names.RefType, Names.TypedRawRef, Names.WantedMemory, Names.WantedTable}
 use Rattle.types.proofs.Picks.{both-true, both-1, both-2, either}
-use Rattle.types.specs.declared.raw.RefType.{RefType}
 use Rattle.types.specs.declared.raw.RefType.the-variants.{Func, Extern}
-use Rattle.types.specs.declared.raw.TypedRawRef.{TypedRawRef}
-use Rattle.memory.specs.declared.access.LoadKind.{LoadKind}
+use Rattle.memory.specs.Names.{LoadKind, StoreKind}
 use Rattle.memory.specs.declared.access.LoadKind.the-variants as load
-use Rattle.memory.specs.declared.access.StoreKind.{StoreKind}
 use Rattle.memory.specs.declared.access.StoreKind.the-variants as store
-use Rattle.types.specs.declared.memory_ty.WantedMemory.{WantedMemory}
-use Rattle.types.specs.declared.table_ty.WantedTable.{WantedTable}
 use Rattle.lines.specs.Fields.{binary, yes, kindOf, referenceOf, absentAsZero, limitRanges}
 use Rattle.lines.specs.Fields.{loadKinds, storeKinds, loadKindOf, storeKindOf, flag, kindNumber, loadNumber, storeNumber, referenceFields, memoryFields, tableFields}
 use Rattle.lines.specs.stages.Codes.{memoryRanges, wantedMemory, tableRanges, wantedTable}

@@ -10,31 +10,18 @@ use lib.ListN.{length, take, drop, length-append, length-drop}
 use lib.Seq.{drop-drop}
 use denote.Enum.Declared.{tagOf}
 use borrow.Author.Tests.{ltb-true, ltb-false, lt-ltb, le-ltb, le-leb, lt-leb}
-use Rattle.types.specs.Pick.{pick, both}
-use Rattle.types.specs.Answer.{refuse, accept}
-use Rattle.types.specs.declared.answer.Answer.{Answer}
-use Rattle.types.specs.Span.{over}
-use Rattle.types.specs.Raw.{rawBytes}
-use Rattle.machine.specs.Machine.{Buffers, freshMachine}
-use Rattle.machine.specs.Sound.{soundOver}
-use Rattle.machine.specs.Step.{Stepped, step}
+use Rattle.types.specs.{Pick.pick, Pick.both, Answer.refuse, Answer.accept, Span.over, Raw.rawBytes, Names.Answer}
+use Rattle.machine.specs.Names.{Buffers, freshMachine, soundOver, Stepped, step, Machine, Operation}
 use Rattle.machine.specs.Words.{rowLength, wordsOf, machineFrom, inForm}
-use Rattle.machine.specs.declared.records.Machine.{Machine}
-use Rattle.machine.specs.declared.operation.Operation.{Operation}
 use Rattle.types.proofs.Picks.{pick-true, pick-false, either}
 use Rattle.types.proofs.Spans.{over-nil, over-over, length-over}
-use Rattle.lines.specs.Line.{longest, lineOf}
-use Rattle.lines.specs.Code.{operationOf, readLine}
-use Rattle.lines.specs.AnswerLine.{answerBytes, answerLine}
+use Rattle.lines.specs.{Line.longest, Line.lineOf, Code.operationOf, Code.readLine, AnswerLine.answerBytes, AnswerLine.answerLine}
 use Rattle.lines.specs.Session.{Held, Turn, turned, malformed, costsOf, turnBy, turnOf, textOf}
 use Rattle.lines.specs.Pieces.{lfAt, Run, still, ahead, wholeLines, closeOf, pieceOf}
 use Rattle.lines.specs.Progress.{Progressed, progressOf, pieceIn}
 use Rattle.lines.specs.stages.Runs.{heldOn, rowWith, sessionAs, skipping, endOf, WholeRan, closedOf}
-use Rattle.lines.specs.declared.line.Line.{Line}
-use Rattle.lines.specs.declared.code.Read.{Read}
+use Rattle.lines.specs.declared.{line.Line.Line, code.Read.Read, session.Session.Session, session.Progress.Progress}
 use Rattle.lines.specs.declared.code.Read.the-variants as read
-use Rattle.lines.specs.declared.session.Session.{Session}
-use Rattle.lines.specs.declared.session.Progress.{Progress}
 use Rattle.lines.proofs.code.Read.{the-type}
 use Rattle.lines.proofs.Pieces.{length-text, piece-used}
 

@@ -7,18 +7,13 @@ use native.Mathlib.Omega.{arith}
 use lib.Dec.{eqb}
 use lib.ListN.{length, take, getD, length-append, length-take}
 use borrow.Author.Tests.{ltb-true, leb-true, eqb-true, lt-ltb, le-leb}
-use Rattle.types.specs.Pick.{pick, both}
-use Rattle.types.specs.Span.{over}
-use Rattle.types.specs.declared.answer.Answer.{Answer}
-use Rattle.types.specs.declared.fuel.Fuel.{Fuel}
-use Rattle.types.specs.declared.raw.RefType.{RefType}
+use Rattle.types.specs.{Pick.pick, Pick.both, Span.over, Names.Answer, Names.Fuel, Names.RefType}
 use Rattle.types.proofs.Picks.{pick-true, pick-false, both-1, both-2, either}
 use Rattle.machine.specs.Operation.{itemField, itemFields, itemsOf}
-use Rattle.machine.specs.declared.operation.Items.{Items}
+use Rattle.machine.specs.Names.{Items, Operation}
 use Rattle.machine.specs.declared.operation.FuelOp.the-variants as fuel
 use Rattle.machine.specs.declared.operation.MemoryOp.the-variants as memory
 use Rattle.machine.specs.declared.operation.TableOp.the-variants as table
-use Rattle.machine.specs.declared.operation.Operation.{Operation}
 use Rattle.machine.specs.declared.operation.Operation.the-variants as op
 use Rattle.lines.specs.Hex.{hexText}
 use Rattle.lines.specs.Line.{space, lf, longest, lineText, lineOf, at}
@@ -27,9 +22,7 @@ use Rattle.lines.specs.Code.{taken, itemsFrom, byCode, operationOf, read
 use Rattle.lines.specs.Writing.{numbersOf, writeLine, writeMaking}
 use Rattle.lines.specs.AnswerLine.{answerText, answerBytes, answerLine}
 use Rattle.lines.specs.Sayable.{Small, Said, Sayable}
-use Rattle.lines.specs.{stages.Codes.segmentRanges, stages.Back.filled, stages.Back.backOf, stages.Back.makingBack}
-use Rattle.lines.specs.declared.line.Line.{Line}
-use Rattle.lines.specs.declared.code.Read.{Read}
+use Rattle.lines.specs.{stages.Codes.segmentRanges, stages.Back.filled, stages.Back.backOf, stages.Back.makingBack, declared.line.Line.Line, declared.code.Read.Read}
 use Rattle.lines.specs.declared.code.Read.the-variants as read
 use Rattle.lines.proofs.NumberLaws.{load-number, store-number, kind-number, flag-number, load-said, store-said, kind-said, flag-said}
 use Rattle.lines.proofs.NumberLaws.{reference-said, reference-fields, memory-in, memory-said, memory-fields, table-in, table-said, table-fields}

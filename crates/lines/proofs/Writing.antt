@@ -8,10 +8,7 @@ use native.Mathlib.Numerals.{add-one}
 use lib.ListN.{length, take, set, getD, length-append, length-take}
 use lib.Seq.{take-suc}
 use borrow.Author.Tests.{lt-ltb, le-ltb}
-use Rattle.types.specs.Done.{done}
-use Rattle.types.specs.Span.{over}
-use Rattle.types.specs.declared.answer.Answer.{Answer}
-use Rattle.types.specs.declared.fuel.Fuel.{Fuel}
+use Rattle.types.specs.{Done.done, Span.over, Names.Answer, Names.Fuel}
 use Rattle.types.proofs.Picks.{pick-true, pick-false}
 use Rattle.types.proofs.Spans.{over-nil, over-put, over-over, over-last}
 use Rattle.lines.specs.Hex.{hexText, charOf}

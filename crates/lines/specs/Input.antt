@@ -3,7 +3,7 @@ use Rattle.types.specs.Prelude.{ℕ, _+_, Bool, true, List, [], _∷_, eqb, leb
 use Rattle.types.specs.Names.{pick, unless, over, Done, done}
 use Rattle.lines.specs.{Line.lf, Pieces.Host, Pieces.fed}
 
--- what is left of an input's first `end` bytes from `from` on, nothing where they end before that, comes to the start; how many bytes it has
+-- what is left of an input's first `end` bytes from `from` on, nothing where they end before that, comes to the start, the rest stays; how many bytes it has
 unfoldable pub keptOf : List ℕ → ℕ → ℕ → Done ℕ
 keptOf input from end = let l = drop from (take end input) in done (length l) (over input 0 l)
 

@@ -9,6 +9,7 @@ pub record Numbers : Type 0 where
   pub code : ℕ
   pub fields : List ℕ
 
+-- both together
 abbrev pub numbers : ℕ → List ℕ → Numbers
 numbers code fields = record { code = code; fields = fields }
 
