@@ -1,20 +1,14 @@
 -- What an operation leaves of two machines that agree and accept it: the room left, the watched instances, segments and items are the same. Assumes nothing.
+use Rattle.types.proofs.Prelude.{refl, sym, ap, subst, _∙_, arith, length-replicate, ltb-true, eqb-true, eqb-false, both-1, both-2, either}
+use Rattle.types.proofs.{Picks.pick-same, Picks.pick-ap, Spans.within-is}
 use Rattle.types.specs.Prelude.{ℕ, _+_, _-_, _*_, _/_, _≤_, _<_, _≡_, true, false, List, eqb, ltb, length, replicate}
-use mathlib.Core.Path.{refl, sym, ap, subst, _∙_}
-use native.Mathlib.Omega.{arith}
-use lib.ListN.{length-replicate}
-use borrow.Author.Tests.{ltb-true, eqb-true, eqb-false}
 use Rattle.types.specs.Names.{pageBytes, cut, over, MemoryType, WantedMemory, TypedRawRef, CopySpan, WantedTable}
-use Rattle.types.proofs.{Picks.pick-same, Picks.pick-ap, Picks.both-1, Picks.both-2, Picks.either, Spans.within-is}
-use Rattle.memory.specs.Names.{widthBytes, storeWidth, leBytes, grownSize, Memory}
-use Rattle.memory.specs.Memory.{pagesOf}
-use Rattle.memory.specs.New.{leastBytes as leastOf}
+use Rattle.memory.specs.{Names.widthBytes, Names.storeWidth, Names.leBytes, Names.grownSize, Names.Memory, Memory.pagesOf, New.leastBytes as leastOf}
 use Rattle.memory.proofs.{Sounds.sound-is, Sounds.sound-used, Bytes.length-bytes, Growths.reach-more}
 use Rattle.table.specs.Names.{Table, ElementSegment}
 use Rattle.table.proofs.Sounds.{sound-room, sound-size, sound-within}
 use Rattle.machine.specs.Names.{Buffers, buffers, memoryAt, tableAt, segmentAt, nextByte, nextCell, soundOver, Stepped, step, Machine, Operation}
-use Rattle.machine.specs.Names.{MemoryOp, TableOp}
-use Rattle.machine.specs.{Machine.nextItem, Outcome.changed}
+use Rattle.machine.specs.{Names.MemoryOp, Names.TableOp, Machine.nextItem, Outcome.changed}
 use Rattle.machine.specs.Frame.{Target, None, InMemory, InTable, InSegment, NewItems, targetOf}
 use Rattle.machine.proofs.{Laws.along, Rooms.memory-sound, Rooms.table-sound, Rooms.next-byte-inside, Rooms.next-cell-inside}
 use Rattle.claims.specs.{Answers.accepted, Spans.put, Effects.memoryEffect, Effects.tableEffect, Effects.effectOf, Effects.effects}

@@ -1,10 +1,8 @@
 -- Machines that agree on what an operation names and on fuel, script, numbers, room left and segments: the same answer, fuel and script. Assumes nothing.
+use Rattle.types.proofs.Prelude.{refl, sym, ap, _∙_, arith, leb-false, ltb-true, eqb-false, pick-true, pick-false, both-true, both-1, both-2, either}
+use Rattle.types.proofs.Picks.{pick-ap}
 use Rattle.types.specs.Prelude.{ℕ, _+_, _-_, _<_, _≡_, Bool, true, false, List, leb, length, getD}
-use mathlib.Core.Path.{refl, sym, ap, _∙_}
-use native.Mathlib.Omega.{arith}
-use borrow.Author.Tests.{leb-false, ltb-true, eqb-false}
 use Rattle.types.specs.Names.{pick, Done, done, Answer, Spanned, Limiter, TypedRawRef, CopySpan, WantedMemory, WantedTable}
-use Rattle.types.proofs.Picks.{pick-true, pick-false, pick-ap, both-true, both-1, both-2, either}
 use Rattle.memory.specs.Names.{widthBytes, loadWidth, soundMemory, LoadKind, StoreKind, Memory, GrownMemory, CreatedMemory}
 use Rattle.memory.specs.{LittleEndian.leValue, Access.addressOf, Access.extend, Access.loadedOf, Access.loadFound, Access.loadAt, Access.storeFound}
 use Rattle.memory.specs.{Access.storeAt, Memory.pagesOf, Memory.loadMemory, Memory.storeMemory, Grow.growMemory, declared.access.Address.Address}
@@ -17,8 +15,7 @@ use Rattle.machine.specs.Names.{Buffers, buffers, memoryAt, tableAt, segmentAt,
 use Rattle.machine.specs.Names.{Operation, MemoryOp, TableOp}
 use Rattle.machine.specs.{Machine.nextItem, Outcome.settled, Fueling.fueled, Fueling.onFuel, Segments.initOn, Segments.dropOn, Segments.madeSegment}
 use Rattle.machine.specs.{Segments.newSegmentOn, Step.Performed, Step.perform, Step.decide, Step.step, declared.outcome.Outcome.Outcome}
-use Rattle.machine.specs.{declared.fueling.Fueled.Fueled}
-use Rattle.machine.specs.Memories.{performMemory, linkTo, onMemory, madeMemory, newMemoryOn}
+use Rattle.machine.specs.{declared.fueling.Fueled.Fueled, Memories.performMemory, Memories.linkTo, Memories.onMemory, Memories.madeMemory, Memories.newMemoryOn}
 use Rattle.machine.specs.Tables.{performTable, onTable, madeTable, newTableOn, copyKnown, copyOn}
 use Rattle.machine.proofs.Rooms.{memory-sound, table-sound, segment-sound, next-byte-inside}
 use Rattle.claims.specs.Alike.{SameMemory, SameTable, Watched, namesOnly, Agree}

@@ -1,8 +1,6 @@
 -- Machines that agree on watched instances answer alike an operation that names no other and agree again, and so to the end of any list. Assumes nothing.
-use Rattle.types.specs.Prelude.{ℕ, _≡_, true, List, [], _∷_}
-use mathlib.Core.Path.{refl, sym, ap, subst, _∙_}
-use Rattle.types.specs.Names.{Fuel, Limiter}
-use Rattle.types.proofs.Picks.{both-1, both-2, either}
+use Rattle.types.proofs.Prelude.{refl, sym, ap, subst, _∙_, both-1, both-2, either}
+use Rattle.types.specs.{Prelude.ℕ, Prelude._≡_, Prelude.true, Prelude.List, Prelude.[], Prelude._∷_, Names.Fuel, Names.Limiter}
 use Rattle.memory.specs.Names.{Memory}
 use Rattle.table.specs.Names.{Table}
 use Rattle.machine.specs.Names.{Buffers, buffers, soundOver, metered, Stepped, step, Machine, Operation}

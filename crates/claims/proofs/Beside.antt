@@ -1,10 +1,7 @@
 -- A list with one entry for each record in use, as records change and are added. Assumes nothing.
+use Rattle.types.proofs.Prelude.{refl, sym, ap, subst, _∙_, arith, length-set, length-append, leb-true, eqb-true, eqb-false, both-1, either}
 use Rattle.types.specs.Prelude.{ℕ, _+_, _<_, _≡_, Bool, true, List, [], _∷_, _++_, eqb, length, getD, set}
-use mathlib.Core.Path.{refl, sym, ap, subst, _∙_}
-use native.Mathlib.Omega.{arith}
-use lib.{ListN.length-set, ListN.length-append, ListN.List·getD-append, Seq.set-getD, Seq.getD-set-same, Seq.getD-set-other, Seq.getD-append-seam}
-use borrow.Author.Tests.{leb-true, eqb-true, eqb-false}
-use Rattle.types.proofs.Picks.{both-1, either}
+use lib.{ListN.List·getD-append, Seq.set-getD, Seq.getD-set-same, Seq.getD-set-other, Seq.getD-append-seam}
 use Rattle.machine.specs.Sound.{soundList}
 use Rattle.machine.proofs.ListLaws.{placed}
 

@@ -1,13 +1,10 @@
 -- Demand 3's bound: the bytes written are at most B times the units paid and B - 1 for each operation that passed the fuel step. Assumes nothing.
+use Rattle.types.proofs.Prelude.{refl, sym, ap, subst, _∙_, false≢true, arith, leb-true, ltb-true, ne-eqb, pick-true, pick-false, both-true, both-1, both-2}
+use Rattle.types.proofs.{Prelude.either, Prices.price-covers, Spans.within-is}
 use Rattle.types.specs.Prelude.{ℕ, _+_, _-_, _*_, _^_, _≤_, _<_, _≡_, Bool, true, false, List, [], _∷_, eqb, ltb, length}
-use mathlib.Core.{Path.refl, Path.sym, Path.ap, Path.subst, Path._∙_, Bool.false≢true}
-use native.Mathlib.{Omega.arith, Nat.mul-le-mul, Nat.mul-le-mul-right}
-use borrow.Author.Tests.{leb-true, ltb-true, ne-eqb}
 use Rattle.types.specs.Names.{pick, both, price, left, paid, inside, pageBytes, Fuel, FuelCosts, Limiter}
-use Rattle.types.proofs.{Prices.price-covers, Spans.within-is}
-use Rattle.types.proofs.Picks.{pick-true, pick-false, both-true, both-1, both-2, either}
-use Rattle.memory.specs.Names.{pagesOf}
-use Rattle.memory.specs.Grow.{mayHave}
+use native.Mathlib.{Nat.mul-le-mul, Nat.mul-le-mul-right}
+use Rattle.memory.specs.{Names.pagesOf, Grow.mayHave}
 use Rattle.table.proofs.Sounds.{sound-room, sound-size}
 use Rattle.machine.specs.Names.{Buffers, memoryAt, tableAt, soundOver, Stepped, step, Machine, Operation, FuelOp, MemoryOp, TableOp}
 use Rattle.machine.specs.{Machine.freshMachine, Sound.soundReferences}

@@ -1,14 +1,11 @@
 -- The worked cases hold: one claim, computed; of P11 the length of its buffer, too long to be made, is a law. Assumes nothing.
-use Rattle.types.specs.Prelude.{ℕ, _-_, _^_, true, _≡_, List, [], _∷_, length}
-use mathlib.Core.Path.{refl, ap}
-use lib.ListN.{length-replicate}
-use Rattle.types.specs.Names.{Done}
+use Rattle.types.proofs.Prelude.{refl, ap, length-replicate, pick-true}
+use Rattle.types.specs.{Prelude.ℕ, Prelude._-_, Prelude._^_, Prelude.true, Prelude._≡_, Prelude.List, Prelude.[], Prelude._∷_, Prelude.length, Names.Done}
 use Rattle.types.specs.{Pick.pick, Pick.both, Price.capped, Price.price, Span.inside, Span.cut, Span.over, Answer.bitsOf, Answer.float32}
 use Rattle.types.specs.{Answer.float64, Answer.numberOf, Answer.shownOf, Fuel.setFuel, Fuel.getFuel, Limiter.padded, Limiter.noLimiter}
 use Rattle.types.specs.{Limiter.saysOf, Limiter.moved, Limiter.heardOf, Limits.validLimits, Limits.validMaximum, Limits.admitsOf}
 use Rattle.types.specs.{MemoryType.pageBound, MemoryType.validMemory, MemoryType.buildMemory, MemoryType.byteSize, MemoryType.minimumBytes}
 use Rattle.types.specs.{TableType.tableBound, TableType.validTable, TableType.elementMatches, Raw.rawBytes}
-use Rattle.types.proofs.Picks.{pick-true}
 use Rattle.memory.specs.{LittleEndian.leBytes, LittleEndian.leValue, New.newMemory}
 use Rattle.memory.specs.Access.{addressOf, extend, loadedOf, loadFound, loadAt, storeFound, storeAt}
 use Rattle.memory.specs.Memory.{pagesOf, soundRoom, soundSize, soundMemory, loadMemory, storeMemory}

@@ -1,8 +1,6 @@
 -- What an operation's checks come to: with one more before them, of a growth, and where the limiter is asked. Assumes nothing.
-use Rattle.types.specs.Prelude.{ℕ, _≡_, Bool, true, false, eqb}
+use Rattle.types.specs.{Prelude.ℕ, Prelude._≡_, Prelude.Bool, Prelude.true, Prelude.false, Prelude.eqb, Names.pick, Pick.both}
 use mathlib.Core.{Path.refl, Path.sym, Path.ap, Path._∙_, Bool.false≢true}
-use Rattle.types.specs.Names.{pick}
-use Rattle.types.specs.Pick.{both}
 use Rattle.types.proofs.Picks.{pick-ap, pick-false, both-1, both-2}
 use Rattle.claims.specs.Occasions.{Checks, Unasked, Asked, given, holds, comes}
 

@@ -1,7 +1,6 @@
 -- The claims hold. Assumes nothing.
 use mathlib.Core.Path.{sym}
-use Rattle.machine.proofs.{Formed.form-holds, Sizes.pages-as-12, Sizes.cells-as-22, Kept.step-sound, Kept.fresh-sound, Apart.others-stay}
-use Rattle.machine.proofs.{Apart.only-sizes}
+use Rattle.machine.proofs.{Formed.form-holds, Sizes.pages-as-12, Sizes.cells-as-22, Kept.step-sound, Kept.fresh-sound, Apart.others-stay, Apart.only-sizes}
 use Rattle.lines.proofs.{Text.read-write, Text.read-unique, Pieces.fed-whole, Hosts.finished-whole}
 use Rattle.claims.specs.Claims.{Claims}
 use Rattle.claims.proofs.{Sessions.session-is-run, Sessions.replies-run, Script.script-moves, Bound.byte-bound, Reached.bound-reached}

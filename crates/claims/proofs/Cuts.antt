@@ -1,10 +1,9 @@
 -- Cells of spans in two lists: a part of a span, a span with some cells replaced or with more cells at its end, a new span. Assumes nothing.
 use Rattle.types.specs.Prelude.{ℕ, _+_, _-_, _≤_, _<_, _≡_, List, _++_, length, take, drop, getD, replicate}
+use Rattle.types.specs.{Names.over, Span.cut}
 use mathlib.Core.Path.{refl, sym, ap, _∙_}
 use native.Mathlib.{Omega.arith, Nat.add-zero}
 use lib.{ListN.length-take, ListN.length-replicate, Seq.take-take, Seq.drop-drop, Seq.take-add, Seq.getD-take, Seq.getD-drop}
-use Rattle.types.specs.Names.{over}
-use Rattle.types.specs.Span.{cut}
 use Rattle.types.proofs.Spans.{cut-of, cut-before, over-span, over-after}
 
 -- cells within a span, by the span's own

@@ -1,6 +1,5 @@
 -- How an operation ends: accepted where a test holds, or refused, with all that it leaves. Assumes nothing.
-use Rattle.types.specs.Prelude.{ℕ, _≡_, Bool, true, false}
-use Rattle.types.specs.Names.{pick, paid, Refusal, Fuel, Limiter}
+use Rattle.types.specs.{Prelude.ℕ, Prelude._≡_, Prelude.Bool, Prelude.true, Prelude.false, Names.pick, Names.paid, Names.Refusal, Names.Fuel, Names.Limiter}
 use Rattle.machine.specs.Names.{Buffers, soundOver, metered, Stepped, step, Machine, Operation}
 use Rattle.claims.specs.{Answers.accepted, Answers.listed, Metered.priceOf, Metered.paidRefusal, Effects.effects, Effects.acceptedStep}
 use Rattle.claims.specs.{Script.heard, Script.movedBy}

@@ -1,15 +1,11 @@
 -- What every proof of an operation's exits uses: a step comes to its checks, a check has two ways, and each exit is described. Assumes nothing.
+use Rattle.types.proofs.Prelude.{refl, sym, ap, subst, _∙_, arith, leb-true, ltb-true, ltb-false, le-leb, lt-leb, pick-true, pick-false, both-true, both-left}
+use Rattle.types.proofs.{Prelude.both-right, Prelude.both-then, Picks.pick-same}
 use Rattle.types.specs.Prelude.{ℕ, _+_, _-_, _≤_, _<_, _≡_, Bool, true, false, List, eqb, leb, ltb}
-use mathlib.Core.Path.{refl, sym, ap, subst, _∙_}
-use native.Mathlib.Omega.{arith}
-use borrow.Author.Tests.{leb-true, ltb-true, ltb-false, le-leb, lt-leb}
 use Rattle.types.specs.Names.{unless, Done, done, spanDone, refusal, refuse, accept, short, paid, saysOf, moved, noLimiter, Answer, Refusal, Fuel}
-use Rattle.types.specs.Names.{Spanned, Limiter}
-use Rattle.types.specs.{Pick.pick, Pick.both, Answer.numberOf, Limiter.heardOf}
-use Rattle.types.proofs.Picks.{pick-true, pick-false, pick-same, both-true, both-left, both-right, both-then}
+use Rattle.types.specs.{Names.Spanned, Names.Limiter, Pick.pick, Pick.both, Answer.numberOf, Limiter.heardOf}
 use Rattle.machine.specs.Names.{Buffers, soundOver, wellFormed, standing, metered, Stepped, Machine, Counts}
-use Rattle.machine.specs.Names.{Change, Operation, FuelOp}
-use Rattle.machine.specs.{Outcome.leaves, Outcome.keeps, Outcome.changed, Outcome.settled, Step.Performed}
+use Rattle.machine.specs.{Names.Change, Names.Operation, Names.FuelOp, Outcome.leaves, Outcome.keeps, Outcome.changed, Outcome.settled, Step.Performed}
 use Rattle.machine.specs.{Step.onNone, Step.onCells, Step.perform, Step.decide, Step.after, Step.step, declared.outcome.Outcome.Outcome}
 use Rattle.claims.specs.{Answers.accepted, Answers.listed, Occasions.granted, Occasions.occasion, Occasions.question, Spans.put}
 use Rattle.claims.specs.Metered.{metering, priceOf, affords, grants, paidRefusal}

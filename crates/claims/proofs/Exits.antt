@@ -1,10 +1,7 @@
 -- Every operation on every machine: the claims on answers, refusals and occasions. Assumes nothing.
-use Rattle.types.specs.Prelude.{ℕ, _≡_, Bool, true, false, eqb}
-use mathlib.Core.{Path.refl, Path.sym, Path.ap, Path.subst, Path._∙_, Bool.false≢true}
-use native.Mathlib.Omega.{arith}
-use Rattle.types.specs.Names.{refusal, refuse, Answer}
+use Rattle.types.proofs.Prelude.{refl, sym, ap, subst, _∙_, false≢true, arith, pick-true, pick-false, both-left, both-right, both-then, either}
+use Rattle.types.specs.{Prelude.ℕ, Prelude._≡_, Prelude.Bool, Prelude.true, Prelude.false, Prelude.eqb, Names.refusal, Names.refuse, Names.Answer}
 use Rattle.types.specs.{Pick.pick, Pick.both, Answer.numberOf}
-use Rattle.types.proofs.Picks.{pick-true, pick-false, both-left, both-right, both-then, either}
 use Rattle.machine.specs.Names.{Buffers, soundOver, wellFormed, metered, Stepped, Machine, Operation}
 use Rattle.machine.specs.{Outcome.keeps, Outcome.changed, Outcome.settled, Step.onNone, Step.after, Step.decide, Step.step}
 use Rattle.claims.specs.{Answers.accepted, Answers.listed, Answers.valueOrListed, Metered.Leaves, Occasions.occasion, Occasions.acceptedWhen}

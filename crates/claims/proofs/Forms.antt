@@ -1,12 +1,8 @@
 -- A row in form is in form after every operation: flags and costs as they were, and a script of answers of at most 2. Assumes nothing.
+use Rattle.types.proofs.Prelude.{sym, subst, _∙_, arith, length-append, length-drop, leb-true, both-1, both-2, either}
+use Rattle.types.proofs.{Scripts.well-short}
 use Rattle.types.specs.Prelude.{ℕ, zero, suc, _+_, _≤_, _<_, _≡_, true, List, [], _∷_, _++_, leb, length, getD, drop, replicate}
-use mathlib.Core.Path.{sym, subst, _∙_}
-use native.Mathlib.Omega.{arith}
-use lib.ListN.{length-append, length-drop}
-use borrow.Author.Tests.{leb-true}
-use Rattle.types.specs.Names.{Fuel, FuelCosts, Limiter}
-use Rattle.types.specs.Limiter.{moved, padded, allAnswers, wellFormed}
-use Rattle.types.proofs.{Picks.both-1, Picks.both-2, Picks.either, Scripts.well-short}
+use Rattle.types.specs.{Names.Fuel, Names.FuelCosts, Names.Limiter, Limiter.moved, Limiter.padded, Limiter.allAnswers, Limiter.wellFormed}
 use Rattle.machine.specs.Names.{Buffers, scriptOf, Stepped, step, Machine, Operation, FuelOp}
 use Rattle.machine.specs.{Row.InRow, Row.operateRow, stages.Rows.Shaped}
 use Rattle.machine.specs.Words.{scriptAt, answerFrom, recordsFrom, limiterFrom, machineFrom, allAt, answerAt, inForm}

@@ -1,11 +1,9 @@
 -- How a growth ends, of a memory or of a table: before the limiter's question or at it, after it with notice, or grown. Assumes nothing.
+use Rattle.types.proofs.Prelude.{refl, sym, ap, subst, _∙_, false≢true, arith, lt-ltb, eqb-true, eqb-false, pick-true, pick-false, both-true, both-left}
+use Rattle.types.proofs.Prelude.{both-right, both-then, either}
 use Rattle.types.specs.Prelude.{ℕ, _≡_, Bool, true, false, eqb, ltb}
-use mathlib.Core.{Path.refl, Path.sym, Path.ap, Path.subst, Path._∙_, Bool.false≢true}
-use native.Mathlib.Omega.{arith}
-use borrow.Author.Tests.{lt-ltb, eqb-true, eqb-false}
 use Rattle.types.specs.Names.{unless, both, refusal, refuse, short, paid, noticed, Answer, Refusal, Fuel, Limiter}
 use Rattle.types.specs.{Pick.pick, Answer.numberOf, Limiter.saysOf, Limiter.moved, Limiter.heardOf, Limiter.noLimiter}
-use Rattle.types.proofs.Picks.{pick-true, pick-false, both-true, both-left, both-right, both-then, either}
 use Rattle.machine.specs.Names.{Buffers, soundOver, wellFormed, metered, Stepped, step, Machine, Operation}
 use Rattle.machine.specs.{Sound.soundMachine, Sound.soundMemories, Sound.soundTables, Sound.soundSegments, Outcome.keeps, Outcome.changed}
 use Rattle.machine.specs.{Outcome.settled, Step.Performed, Step.onNone, Step.perform, Step.after}

@@ -1,8 +1,6 @@
 -- How many questions and notices the limiter hears, by how an operation ends. Assumes nothing.
-use Rattle.types.specs.Prelude.{ℕ, _≡_, true, false}
-use mathlib.Core.Path.{sym, ap, _∙_}
-use Rattle.types.specs.Names.{moved, Limiter}
-use Rattle.types.proofs.Picks.{pick-true, pick-false, both-true, both-right}
+use Rattle.types.proofs.Prelude.{sym, ap, _∙_, pick-true, pick-false, both-true, both-right}
+use Rattle.types.specs.{Prelude.ℕ, Prelude._≡_, Prelude.true, Prelude.false, Names.moved, Names.Limiter}
 use Rattle.machine.specs.Names.{Buffers, soundOver, wellFormed, step, Machine, Operation}
 use Rattle.claims.specs.{Answers.accepted, Occasions.granted, Occasions.question, Script.asks, Script.heard, Script.movedBy, Script.scriptAfter}
 

@@ -1,13 +1,11 @@
 -- The ledger: the fuel left and the charges since make up the amount last set. Assumes nothing.
+use Rattle.types.proofs.Prelude.{refl, sym, ap, subst, _∙_, false≢true, arith, lt-ltb, leb-true, ltb-true, eqb-true, pick-true, pick-false, both-left}
+use Rattle.types.proofs.Prelude.{both-right, both-1, both-2, either}
 use Rattle.types.specs.Prelude.{ℕ, _+_, _-_, _*_, _^_, _≤_, _<_, _≡_, Bool, true, false, List, [], _∷_, _++_, eqb, leb, ltb, getD, set}
-use mathlib.Core.{Path.refl, Path.sym, Path.ap, Path.subst, Path._∙_, Bool.false≢true}
-use native.Mathlib.Omega.{arith}
-use borrow.Author.Tests.{lt-ltb, leb-true, ltb-true, eqb-true}
 use Rattle.types.specs.Names.{price, refusal, paid, admitsOf, pageBytes, pageOf, validExponent, Answer, Refusal, Fuel, FuelCosts, Limiter}
 use Rattle.types.specs.Names.{TypedRawRef, WantedMemory, WantedTable}
 use Rattle.types.specs.{Pick.pick, Pick.both, Answer.numberOf, Limiter.heardOf, declared.memory_ty.PageSize.the-variants.One}
 use Rattle.types.specs.{declared.memory_ty.PageSize.the-variants.Wasm}
-use Rattle.types.proofs.Picks.{pick-true, pick-false, both-left, both-right, both-1, both-2, either}
 use Rattle.memory.specs.Names.{Memory}
 use Rattle.table.specs.Names.{Table}
 use Rattle.machine.specs.Names.{Buffers, noLimits, noMemory, noTable, memoryAt, tableAt, soundOver, standing, oneMemoryMore, oneTableMore, Stepped}

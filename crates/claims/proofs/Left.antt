@@ -1,16 +1,11 @@
 -- What an operation that a sound machine accepts leaves of it: records, sizes and the room left; and what a refused one leaves. Assumes nothing.
+use Rattle.types.proofs.Prelude.{sym, ap, subst, _∙_, arith, leb-true, lt-ltb, ltb-true, eqb-false, ne-eqb, pick-true, pick-false, both-1, both-2, either}
 use Rattle.types.specs.Prelude.{ℕ, _+_, _-_, _≤_, _<_, _≡_, true, false, List, eqb, length, getD}
-use mathlib.Core.Path.{sym, ap, subst, _∙_}
-use native.Mathlib.Omega.{arith}
-use lib.Seq.{getD-set-same}
-use borrow.Author.Tests.{leb-true, lt-ltb, ltb-true, eqb-false, ne-eqb}
 use Rattle.types.specs.Names.{pick, WantedMemory, TypedRawRef, WantedTable}
-use Rattle.types.proofs.Picks.{pick-true, pick-false, both-1, both-2, either}
-use Rattle.memory.specs.Names.{memoryOf, Memory}
-use Rattle.memory.specs.New.{wanted as typeOf, leastBytes as leastOf}
+use lib.Seq.{getD-set-same}
+use Rattle.memory.specs.{Names.memoryOf, Names.Memory, New.wanted as typeOf, New.leastBytes as leastOf}
 use Rattle.memory.proofs.Sounds.{sound-is}
-use Rattle.table.specs.Names.{tableOf, Table}
-use Rattle.table.specs.New.{wanted as tableTypeOf}
+use Rattle.table.specs.{Names.tableOf, Names.Table, New.wanted as tableTypeOf}
 use Rattle.table.proofs.Sounds.{sound-size}
 use Rattle.machine.specs.Names.{Buffers, noMemory, noTable, memoryAt, tableAt, memoryEnd, tableEnd, soundOver, OthersStay, OnlySizes, metered}
 use Rattle.machine.specs.Names.{Stepped, step, Machine, Operation, MemoryOp, TableOp}

@@ -1,14 +1,11 @@
 -- How every operation on fuel, limiter and memories ends: accepted on its occasion, or refused with all that it leaves. Assumes nothing.
+use Rattle.types.proofs.Prelude.{refl, sym, ap, _∙_, arith, ltb-true, ltb-false, le-ltb, le-leb, lt-leb, pick-true, pick-false, both-true, both-left}
+use Rattle.types.proofs.{Prelude.both-right, Prelude.both-then, Prelude.both-2, Spans.over-nil}
 use Rattle.types.specs.Prelude.{ℕ, _+_, _-_, _*_, _/_, _≡_, Bool, true, false, List, leb, ltb, length, replicate}
-use mathlib.Core.Path.{refl, sym, ap, _∙_}
-use native.Mathlib.{Omega.arith, Nat.add-mul, Nat.div-add-mod'}
-use borrow.Author.Tests.{ltb-true, ltb-false, le-ltb, le-leb, lt-leb}
 use Rattle.types.specs.Names.{Done, done, over, refusal, accept, price, paid, moved, Answer, Refusal, Fuel, FuelStep, Limiter, HandedOver, pageBytes}
-use Rattle.types.specs.Names.{BuiltMemory, WantedMemory}
-use Rattle.types.specs.{Pick.pick, Pick.both, Limiter.handOver, MemoryType.buildMemory}
+use Rattle.types.specs.{Names.BuiltMemory, Names.WantedMemory, Pick.pick, Pick.both, Limiter.handOver, MemoryType.buildMemory}
 use Rattle.types.specs.Fuel.{setFuel, getFuel, consume, consumeUnchecked}
-use Rattle.types.proofs.Picks.{pick-true, pick-false, both-true, both-left, both-right, both-then, both-2}
-use Rattle.types.proofs.Spans.{over-nil}
+use native.Mathlib.{Nat.add-mul, Nat.div-add-mod'}
 use Rattle.memory.specs.Names.{resized, soundMemory, mayHave, grownSize, Memory, GrownMemory, CreatedMemory}
 use Rattle.memory.specs.{Access.addressOf, Access.loadedOf, Access.loadFound, Access.loadAt, Access.storeFound, Access.storeAt, Memory.pagesOf}
 use Rattle.memory.specs.{Memory.loadMemory, Memory.storeMemory, New.refused, New.newMemory, Grow.answered, Grow.growthPrice, Grow.growMemory}
@@ -19,13 +16,12 @@ use Rattle.machine.specs.{Operation.wellFormed, Operation.memoryWellFormed, dec
 use Rattle.machine.specs.Fueling.{setBy, chargedBy, handedBy, performFuel, fueled, fueledOut, onFuel}
 use Rattle.machine.specs.Memories.{memoryKept, memoryStored, linked, linkTo, performMemory, memoryDone, onMemory, madeMemory, memoryMade, newMemoryOn}
 use Rattle.machine.specs.Step.{Performed, onNone, onBytes, perform, after}
-use Rattle.machine.proofs.Rooms.{memory-sound, next-byte-inside}
+use Rattle.machine.proofs.{Rooms.memory-sound, Rooms.next-byte-inside, Written.memory-put-back}
 use Rattle.claims.specs.{Answers.accepted, Metered.memoryMetering, Metered.meteringOf, Metered.priceOf, Metered.affords, Spans.put}
 use Rattle.claims.specs.{Effects.memoryEffect, Effects.fuelEffect, Effects.effectOf, Effects.acceptedStep}
 use Rattle.claims.specs.Occasions.{given, holds, comes, granted, validWanted, reaches, fuelOccasion, memoryChecks, checksOf, occasion, question}
 use Rattle.claims.proofs.{Exit.Exit, Growth.Grew, Growth.grew, Growth.grew-exit}
 use Rattle.claims.proofs.Checks.{given-holds, given-comes, used-holds, used-comes}
-use Rattle.machine.proofs.Written.{memory-put-back}
 use Rattle.claims.proofs.Exiting.{branch, surely, room-inside, put-back-stays, named, named-7, Ends, accepted-is, ending}
 use Rattle.claims.proofs.Exiting.{accepting, accepting-by, refusing, leaving-by, leaving, creating, unknown}
 use Rattle.types.specs.declared.answer.Answer.the-variants as answer

@@ -1,11 +1,7 @@
 -- No run from a fresh machine over sound buffers answers 19. Assumes nothing.
-use Rattle.types.specs.Prelude.{ℕ, _≡_, Bool, true, List, [], _∷_, length}
-use mathlib.Core.Path.{refl, _∙_}
-use borrow.Author.Tests.{ne-eqb}
-use Rattle.types.specs.Names.{FuelCosts}
-use Rattle.types.proofs.Picks.{pick-false}
-use Rattle.machine.specs.Names.{Buffers, freshMachine, soundReferences, soundOver, step, Machine, Operation}
-use Rattle.machine.specs.Step.{run}
+use Rattle.types.proofs.Prelude.{refl, _∙_, ne-eqb, pick-false}
+use Rattle.types.specs.{Prelude.ℕ, Prelude._≡_, Prelude.Bool, Prelude.true, Prelude.List, Prelude.[], Prelude._∷_, Prelude.length, Names.FuelCosts}
+use Rattle.machine.specs.{Names.Buffers, Names.freshMachine, Names.soundReferences, Names.soundOver, Names.step, Names.Machine, Names.Operation, Step.run}
 use Rattle.machine.proofs.Kept.{step-sound, fresh-sound}
 use Rattle.claims.specs.Answers.{never}
 use Rattle.claims.proofs.Exits.{not-unsound}

@@ -1,15 +1,12 @@
 -- The bound of demand 3 is the least: a run that writes as many bytes as it allows, for any B, F and K at least 1. Assumes nothing.
+use Rattle.types.proofs.Prelude.{refl, sym, ap, subst, _∙_, arith, length-replicate, le-leb, lt-ltb, eqb-true, eqb-false, ne-eqb, pick-true, pick-false}
+use Rattle.types.proofs.{Prelude.both-true, Prelude.both-left, Picks.pick-same, Prices.price-word}
 use Rattle.types.specs.Prelude.{ℕ, zero, suc, _+_, _-_, _*_, _/_, _^_, _≤_, _<_, _≡_, Bool, true, false, List, [], _∷_, eqb, leb, ltb, length}
-use Rattle.types.specs.Prelude.{replicate}
-use mathlib.Core.Path.{refl, sym, ap, subst, _∙_}
-use native.Mathlib.{Omega.arith, Nat.zero-add, Nat.mul-one, Nat.zero-mul, Nat.div-one, Nat.mul-add-div, Nat.div-eq-of-lt}
-use lib.ListN.{length-replicate}
-use borrow.Author.Tests.{le-leb, lt-ltb, eqb-true, eqb-false, ne-eqb}
-use Rattle.types.specs.Names.{price, paid, Fuel, Limiter, nullOf}
+use Rattle.types.specs.{Prelude.replicate, Names.price, Names.paid, Names.Fuel, Names.Limiter, Names.nullOf}
 use Rattle.types.specs.{Pick.pick, Pick.both, Span.inside, Limiter.padded, Limiter.noLimiter, Limiter.saysOf, Limiter.moved, Limits.admitsOf}
 use Rattle.types.specs.{Limits.validLimits, MemoryType.pageBound, MemoryType.validMemory, TableType.tableBound, TableType.validTable}
 use Rattle.types.specs.{TableType.elementMatches, declared.index_ty.IndexType.the-variants.I64, declared.memory_ty.PageSize.the-variants.One}
-use Rattle.types.proofs.{Picks.pick-true, Picks.pick-false, Picks.pick-same, Picks.both-true, Picks.both-left, Prices.price-word}
+use native.Mathlib.{Nat.zero-add, Nat.mul-one, Nat.zero-mul, Nat.div-one, Nat.mul-add-div, Nat.div-eq-of-lt}
 use Rattle.memory.specs.{Memory.pagesOf, Grow.mayHave}
 use Rattle.machine.specs.Names.{Buffers, noLimits, noMemory, noTable, soundOver, metered, Stepped, step, Machine, Operation}
 use Rattle.machine.specs.{Machine.noSegment, Machine.nextByte, Machine.nextCell, Machine.freshMachine, Sound.soundReferences, Outcome.changed}
@@ -18,8 +15,7 @@ use Rattle.lines.specs.Session.{costsOf}
 use Rattle.claims.specs.Answers.{accepted}
 use Rattle.claims.specs.Metered.{memoryMetering, tableMetering, meteringOf, metering, priceOf, affords, grants, passes}
 use Rattle.claims.specs.Occasions.{given, holds, validWanted, fuelOccasion, memoryChecks, tableChecks, checksOf, occasion, question}
-use Rattle.claims.specs.Occasions.{acceptedWhen}
-use Rattle.claims.specs.Effects.{memoryEffect, tableEffect, fuelEffect, effectOf, acceptedStep}
+use Rattle.claims.specs.{Occasions.acceptedWhen, Effects.memoryEffect, Effects.tableEffect, Effects.fuelEffect, Effects.effectOf, Effects.acceptedStep}
 use Rattle.claims.specs.Bound.{Totals, wrote, pays, totals, mostBytes, pass, fullestRun, zeros}
 use Rattle.claims.proofs.{Checks.given-holds, Checks.growing-holds, Exiting.branch, Exits.accepted-when, Exits.accepted-does}
 use Rattle.claims.proofs.{Bound.passes-accepted, Bound.pays-price}

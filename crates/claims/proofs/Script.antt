@@ -1,11 +1,8 @@
 -- The script after every operation, accepted or refused. Assumes nothing.
-use Rattle.types.specs.Prelude.{ℕ, _≡_, true}
-use mathlib.Core.Path.{sym, ap, _∙_}
-use Rattle.types.specs.Names.{Limiter}
-use Rattle.types.proofs.Picks.{pick-true, both-1, both-2, either}
+use Rattle.types.proofs.Prelude.{sym, ap, _∙_, pick-true, both-1, both-2, either}
+use Rattle.types.specs.{Prelude.ℕ, Prelude._≡_, Prelude.true, Names.Limiter}
 use Rattle.machine.specs.Names.{Buffers, soundOver, wellFormed, Stepped, step, Machine, Operation}
-use Rattle.claims.specs.{Answers.accepted, Occasions.checks, Occasions.occasion, Effects.asked, Effects.acceptedStep, Script.replaced}
-use Rattle.claims.specs.{Script.scriptAfter}
+use Rattle.claims.specs.{Answers.accepted, Occasions.checks, Occasions.occasion, Effects.asked, Effects.acceptedStep, Script.replaced, Script.scriptAfter}
 use Rattle.claims.proofs.{Checks.grant-of, Exiting.branch, Exits.refusal-script, Exits.accepted-when, Exits.accepted-does}
 use Rattle.claims.proofs.Heard.{onward, refused-leaves, no-question, heard-done, moved-once}
 

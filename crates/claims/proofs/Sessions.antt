@@ -1,10 +1,8 @@
 -- A session's bytes are the answer lines of the run of what its lines say. Assumes nothing.
 use Rattle.types.specs.Prelude.{ℕ, _≡_, true, false, List, [], _∷_, _++_}
+use Rattle.types.specs.{Names.Answer, Names.refuse, Names.accept, Pick.pick}
 use mathlib.Core.Path.{refl, ap}
-use Rattle.types.specs.Names.{Answer, refuse, accept}
-use Rattle.types.specs.Pick.{pick}
-use Rattle.machine.specs.Names.{Buffers, freshMachine, step, Machine, Operation}
-use Rattle.machine.specs.Step.{run}
+use Rattle.machine.specs.{Names.Buffers, Names.freshMachine, Names.step, Names.Machine, Names.Operation, Step.run}
 use Rattle.lines.specs.{AnswerLine.answerLine, Code.readLine, declared.code.Read.Read}
 use Rattle.lines.specs.Session.{Held, costsOf, turnBy, turnOf, textOf, linesOf, answersOf, session}
 use Rattle.claims.specs.Metered.{metering}

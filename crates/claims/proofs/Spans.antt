@@ -1,13 +1,10 @@
 -- An accepted operation writes one span inside its buffer and nothing else, and what the bound counts is that span's bytes. Assumes nothing.
-use Rattle.types.specs.Prelude.{ℕ, _+_, _-_, _*_, _≤_, _≡_, Bool, true, false, List, eqb, ltb, length, getD, replicate}
-use mathlib.Core.{Path.refl, Path.sym, Path.ap, Path.subst, Path._∙_, Bool.false≢true}
-use native.Mathlib.Omega.{arith}
-use lib.{ListN.length-replicate, Seq.getD-take, Seq.getD-drop}
-use borrow.Author.Tests.{le-leb, leb-true, ltb-true, eqb-true}
-use Rattle.types.specs.Names.{cut, over, pageBytes}
-use Rattle.types.specs.Span.{inside}
+use Rattle.types.proofs.Prelude.{refl, sym, ap, subst, _∙_, false≢true, arith, length-replicate, le-leb, leb-true, ltb-true, eqb-true, pick-true, pick-false}
+use Rattle.types.proofs.Prelude.{both-true, both-right, both-1, both-2, either}
 use Rattle.types.proofs.{Spans.within-is, Spans.length-over, Spans.over-before, Spans.over-after, Moves.length-cut}
-use Rattle.types.proofs.Picks.{pick-true, pick-false, both-true, both-right, both-1, both-2, either}
+use Rattle.types.specs.Prelude.{ℕ, _+_, _-_, _*_, _≤_, _≡_, Bool, true, false, List, eqb, ltb, length, getD, replicate}
+use Rattle.types.specs.{Names.cut, Names.over, Names.pageBytes, Span.inside}
+use lib.{Seq.getD-take, Seq.getD-drop}
 use Rattle.memory.specs.Names.{widthBytes, storeWidth, leBytes, leastBytes, grownSize}
 use Rattle.memory.proofs.{Sounds.sound-is, Bytes.length-bytes}
 use Rattle.table.proofs.Sounds.{sound-room, sound-size, segment-places}

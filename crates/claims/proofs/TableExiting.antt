@@ -1,14 +1,11 @@
 -- Small laws of how operations on tables and segments end: kinds, spans of no cells, and what is soundly made or named. Assumes nothing.
+use Rattle.types.proofs.Prelude.{refl, ap, _∙_, arith, le-leb, ltb-true, ltb-false, pick-true, both-true, both-1, both-2, either}
+use Rattle.types.proofs.{Spans.over-nil, Picks.pick-same}
 use Rattle.types.specs.Prelude.{ℕ, _-_, _^_, _≤_, _<_, _≡_, true, List, leb, ltb, length}
-use mathlib.Core.Path.{refl, ap, _∙_}
-use native.Mathlib.Omega.{arith}
-use borrow.Author.Tests.{le-leb, ltb-true, ltb-false}
 use Rattle.types.specs.Names.{pick, over, TableType, RefType}
 use Rattle.types.specs.{Span.inside, Span.cut, Raw.sameKind, TableType.elementMatches, declared.raw.RefType.the-variants.Func}
 use Rattle.types.specs.{declared.raw.RefType.the-variants.Extern}
-use Rattle.types.proofs.{Spans.over-nil, Picks.pick-true, Picks.pick-same, Picks.both-true, Picks.both-1, Picks.both-2, Picks.either}
-use Rattle.table.specs.Names.{Table}
-use Rattle.table.specs.{Table.soundBuffer, Copy.roomsApart, Copy.soundTwo}
+use Rattle.table.specs.{Names.Table, Table.soundBuffer, Copy.roomsApart, Copy.soundTwo}
 use Rattle.machine.specs.Names.{Buffers, tableAt, noTable, tableEnd, nextCell, nextItem, soundOver, Machine}
 use Rattle.machine.specs.Sound.{soundTables, soundReferences}
 use Rattle.machine.proofs.{ListLaws.rooms-apart, Rooms.parts, Rooms.table-sound, Rooms.next-cell-inside, Rooms.next-item-inside}

@@ -1,13 +1,9 @@
 -- How every operation on tables and segments ends: accepted on its occasion, or refused with all that it leaves. Assumes nothing.
+use Rattle.types.proofs.Prelude.{refl, sym, ap, subst, _∙_, arith, leb-true, leb-false, ltb-true, lt-ltb, le-ltb, eqb-true, eqb-false, pick-true, pick-false}
+use Rattle.types.proofs.{Prelude.both-true, Prelude.both-left, Prelude.both-right, Prelude.both-then, Prelude.both-1, Prelude.both-2, Spans.over-nil}
 use Rattle.types.specs.Prelude.{ℕ, _+_, _≡_, Bool, true, false, List, leb, ltb, length, replicate}
-use mathlib.Core.Path.{refl, sym, ap, subst, _∙_}
-use native.Mathlib.Omega.{arith}
-use borrow.Author.Tests.{leb-true, leb-false, ltb-true, lt-ltb, le-ltb, eqb-true, eqb-false}
 use Rattle.types.specs.Names.{Done, done, over, refusal, accept, paid, moved, Answer, Spanned, RefType, TypedRawRef, maxSize, admitsOf}
-use Rattle.types.specs.Names.{elementMatches, WantedTable, CopySpan}
-use Rattle.types.specs.Pick.{both}
-use Rattle.types.proofs.Picks.{pick-true, pick-false, both-true, both-left, both-right, both-then, both-1, both-2}
-use Rattle.types.proofs.Spans.{over-nil}
+use Rattle.types.specs.{Names.elementMatches, Names.WantedTable, Names.CopySpan, Pick.both}
 use Rattle.table.specs.Names.{resized, soundTable, Table, GrownTable, CreatedTable, MadeSegment}
 use Rattle.table.specs.{Table.getTable, Table.setSound, Table.setTable, New.refused, New.newTable, Grow.answered, Grow.cellsPrice, Grow.growTable}
 use Rattle.table.specs.{Fill.fillTable, Copy.copyTable, Copy.copyWithin, Init.initTable, Element.newSegment}
@@ -16,13 +12,12 @@ use Rattle.machine.specs.{Operation.wellFormed, Segments.initOn, Segments.dropO
 use Rattle.machine.specs.{Step.Performed, Step.onNone, Step.onCells, Step.onItems, Step.perform, Step.after, declared.outcome.Outcome.Outcome}
 use Rattle.machine.specs.Tables.{tableKept, tableStored, tableSpanned, performTable, tableDone, onTable, spannedDone, copyKnown, copyOn, madeTable}
 use Rattle.machine.specs.Tables.{tableMade, newTableOn}
-use Rattle.machine.proofs.Rooms.{table-sound, segment-sound}
+use Rattle.machine.proofs.{Rooms.table-sound, Rooms.segment-sound, Written.table-put-back}
 use Rattle.claims.specs.{Answers.accepted, Spans.put, Effects.tableEffect, Effects.effectOf, Effects.acceptedStep}
 use Rattle.claims.specs.Metered.{tableMetering, meteringOf, priceOf, affords}
 use Rattle.claims.specs.Occasions.{given, holds, comes, granted, tableChecks, checksOf, occasion, question}
 use Rattle.claims.proofs.{Exit.Exit, Exit.accepts, Growth.Grew, Growth.grew, Growth.grew-exit}
 use Rattle.claims.proofs.Checks.{given-holds, given-comes, growing, used-holds, used-comes}
-use Rattle.machine.proofs.Written.{table-put-back}
 use Rattle.claims.proofs.Exiting.{branch, surely, put-back-stays, named, nothing-put, Ends, accepted-is, ending, accepting}
 use Rattle.claims.proofs.Exiting.{accepting-paid, accepting-by, refusing, leaving-by, leaving, creating, paying, spanning, unknown}
 use Rattle.claims.proofs.TableExiting.{cells-sound, items-sound, own-kind, over-none, two-sound}

@@ -1,8 +1,5 @@
 -- What a request leaves of the fuel record: the amount changes at most, and it is the amount that is written back. Assumes nothing.
-use mathlib.Core.Path.{_≡_, refl, ap, sym, _∙_}
-use mathlib.Core.Bool.{Bool, true, false}
-use Prim.Native.Nat.{ℕ, _-_}
-use lib.Dec.{ltb}
+use Rattle.types.proofs.Prelude.{_≡_, refl, ap, sym, _∙_, Bool, true, false, ℕ, _-_, ltb}
 use Rattle.types.specs.{Pick.pick, Answer.refusal, Fuel.left, Fuel.setFuel, Fuel.consume, Fuel.consumeIf, Fuel.consumeUnchecked}
 use Rattle.types.specs.{declared.answer.Refusal.Refusal, declared.fuel.Fuel.Fuel, declared.fuel.FuelStep.FuelStep, declared.fuel.FuelStep.the-variants.Done}
 use Rattle.types.specs.{declared.fuel.FuelStep.the-variants.Refused}

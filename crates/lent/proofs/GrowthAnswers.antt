@@ -1,15 +1,8 @@
 -- What a growth at a place of a lent list answers first, over any kind of record: 19 where the list is short or its rooms do not follow each other,
 -- then 16 where the number is not in use, and nothing changes. Assumes nothing.
-use Prim.Native.Nat.{ℕ, zero, suc, _≤_, _<_}
-use mathlib.Core.Path.{_≡_, _∙_}
-use mathlib.Core.Bool.{Bool, true, false}
-use mathlib.Core.List.{List, [], _∷_}
-use native.Mathlib.Omega.{arith}
-use lib.Dec.{leb, ltb}
-use lib.ListN.{length, take, getD}
-use borrow.Author.Tests.{leb-true, lt-leb, le-ltb, eqb-true}
+use Rattle.types.proofs.Prelude.{ℕ, zero, suc, _≤_, _<_, _≡_, _∙_, Bool, true, false, List, [], _∷_, arith, leb, ltb, length, take, getD, leb-true, lt-leb}
+use Rattle.types.proofs.Prelude.{le-ltb, eqb-true, pick-true, pick-false, both-1, both-2, both-left, both-right, either}
 use Rattle.types.specs.{Numbers.word32, Pick.both, Answer.refuse, declared.raw.TypedRawRef.TypedRawRef}
-use Rattle.types.proofs.Picks.{pick-true, pick-false, both-1, both-2, both-left, both-right, either}
 use Rattle.memory.specs.{Memory.soundMemory, Grow.growMemory, declared.memory.Memory.Memory}
 use Rattle.table.specs.{Table.soundTable, Grow.growTable, declared.table.Table.Table}
 use Rattle.machine.specs.{Machine.noMemory, Machine.noTable, Machine.memoryEnd, Machine.tableEnd, Sound.follow, Sound.soundList}

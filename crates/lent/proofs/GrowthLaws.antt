@@ -1,15 +1,8 @@
 -- What a growth leaves of the records that it is lent: size, amount and place in the script change at most, and those are written back. Assumes nothing.
-use Prim.Native.Nat.{ℕ, _≤_, _<_, _-_}
-use mathlib.Core.Path.{_≡_, refl, ap, sym, subst, _∙_}
-use mathlib.Core.Bool.{Bool, true, false}
-use mathlib.Core.List.{List}
-use native.Mathlib.Omega.{arith}
-use lib.Dec.{leb, ltb}
-use lib.ListN.{length, getD, set}
-use borrow.Author.Tests.{ltb-true, leb-true}
+use Rattle.types.proofs.Prelude.{ℕ, _≤_, _<_, _-_, _≡_, refl, ap, sym, subst, _∙_, Bool, true, false, List, arith, leb, ltb, length, getD, set, ltb-true}
+use Rattle.types.proofs.Prelude.{leb-true, pick-true, pick-false, both-1, both-2}
 use Rattle.types.specs.{Numbers.word32, Pick.pick, Pick.both, Done.Done, Done.done, Answer.refuse, Fuel.left, Fuel.paid, Limiter.moved}
 use Rattle.types.specs.{declared.answer.Answer.Answer, declared.fuel.Fuel.Fuel, declared.limiter.Limiter.Limiter, declared.raw.TypedRawRef.TypedRawRef}
-use Rattle.types.proofs.Picks.{pick-true, pick-false, both-1, both-2}
 use Rattle.memory.specs.Memory as memory
 use Rattle.memory.specs.Grow as memory-grow
 use Rattle.memory.specs.{declared.memory.Memory.Memory, declared.grow.GrownMemory.GrownMemory}

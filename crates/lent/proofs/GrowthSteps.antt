@@ -1,14 +1,8 @@
 -- A growth at a place of a lent list is the machine's own step on all that is lent, where all else that is lent is sound. Assumes nothing.
-use Prim.Native.Nat.{ℕ, zero, suc, _≤_, _<_}
-use mathlib.Core.Path.{_≡_, refl, sym, ap, _∙_}
-use mathlib.Core.Bool.{Bool, true, false}
-use mathlib.Core.List.{List, [], _∷_}
-use native.Mathlib.Omega.{arith}
-use lib.Dec.{leb, ltb}
-use lib.ListN.{length, take, take-append-drop}
-use borrow.Author.Tests.{leb-true, leb-false, le-leb, lt-ltb}
+use Rattle.types.proofs.Prelude.{ℕ, zero, suc, _≤_, _<_, _≡_, refl, sym, ap, _∙_, Bool, true, false, List, [], _∷_, arith, leb, ltb, length, take, leb-true}
+use Rattle.types.proofs.Prelude.{leb-false, le-leb, lt-ltb, pick-true, pick-false, both-true, both-1, both-2, both-left, both-right, both-then, either}
+use lib.ListN.{take-append-drop}
 use Rattle.types.specs.{Numbers.word32, Pick.pick, Pick.both, Answer.refuse, Done.Done, declared.answer.Answer.Answer, declared.raw.TypedRawRef.TypedRawRef}
-use Rattle.types.proofs.Picks.{pick-true, pick-false, both-true, both-1, both-2, both-left, both-right, both-then, either}
 use Rattle.memory.specs.{Memory.soundMemory, Grow.growMemory, declared.memory.Memory.Memory, declared.grow.GrownMemory.GrownMemory}
 use Rattle.table.specs.{Table.soundTable, Grow.growTable, declared.table.Table.Table, declared.grow.GrownTable.GrownTable}
 use Rattle.machine.specs.{Machine.Buffers, Machine.buffers, Machine.noMemory, Machine.noTable, Machine.memoryAt, Machine.tableAt, Machine.memoryEnd}
@@ -17,16 +11,15 @@ use Rattle.machine.specs.{Sound.soundMachine, Sound.soundOver, Operation.memory
 use Rattle.machine.specs.{Outcome.changed, Outcome.standing, Outcome.settled, Memories.memoryDone, Memories.performMemory, Memories.onMemory, Tables.tableDone}
 use Rattle.machine.specs.{Tables.performTable, Tables.onTable, Step.Performed, Step.onNone, Step.onBytes, Step.onCells, Step.perform, Step.decide, Step.after}
 use Rattle.machine.specs.{Step.step, declared.records.Machine.Machine, declared.operation.Operation.Operation}
-use Rattle.machine.specs.declared.operation.Operation.the-variants as operation
-use Rattle.machine.specs.declared.operation.MemoryOp.the-variants as memory-op
-use Rattle.machine.specs.declared.operation.TableOp.the-variants as on-table
 use Rattle.lent.specs.Growth.{Lending, lending, Grew, growAt}
 use Rattle.lent.specs.Memories.{soundMemoryList, recordOf as memoryOf, memoryGrown, growMemoryAt}
 use Rattle.lent.specs.Tables.{soundTableList, recordOf as tableOf, tableGrown, growTableAt}
 use Rattle.lent.specs.Records.{Lent, lent, machineOf, longEnough, placed, lentBack, LentStepped, lentStepped, unfit, stepPlaced, lentStep}
-use Rattle.lent.proofs.Lists.{eight-take, set-front, get-front, eight-sound}
-use Rattle.lent.proofs.GrowthLaws.{few, both-last}
+use Rattle.lent.proofs.{Lists.eight-take, Lists.set-front, Lists.get-front, Lists.eight-sound, GrowthLaws.few, GrowthLaws.both-last}
 use Rattle.lent.proofs.GrowthAnswers.{memory-answers, table-answers}
+use Rattle.machine.specs.declared.operation.Operation.the-variants as operation
+use Rattle.machine.specs.declared.operation.MemoryOp.the-variants as memory-op
+use Rattle.machine.specs.declared.operation.TableOp.the-variants as on-table
 
 -- what an operation leaves, as what is lent has it
 abbrev pub backOf : Lent → Performed → LentStepped

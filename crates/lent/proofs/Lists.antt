@@ -1,14 +1,8 @@
 -- Laws of lists of records whose first 8 places are read and one of them stored to. Assumes nothing.
-use Prim.Native.Nat.{ℕ, zero, suc, _≤_, _<_}
-use mathlib.Core.Path.{_≡_, refl, sym, ap, _∙_}
-use mathlib.Core.Bool.{Bool}
-use mathlib.Core.List.{List, [], _∷_, _++_}
-use native.Mathlib.Omega.{arith}
-use lib.Dec.{leb}
-use lib.ListN.{length, take, drop, getD, set, take-append-drop}
-use borrow.Author.Tests.{leb-true, le-leb}
+use Rattle.types.proofs.Prelude.{ℕ, zero, suc, _≤_, _<_, _≡_, refl, sym, ap, _∙_, Bool, List, [], _∷_, _++_, arith, leb, length, take, drop, getD, set}
+use Rattle.types.proofs.Prelude.{leb-true, le-leb, both-left, both-then, either}
+use lib.ListN.{take-append-drop}
 use Rattle.types.specs.Pick.{both}
-use Rattle.types.proofs.Picks.{both-left, both-then, either}
 use Rattle.machine.specs.Sound.{follow, soundList}
 use Rattle.lent.specs.stages.Places.{eight}
 

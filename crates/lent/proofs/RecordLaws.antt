@@ -1,26 +1,17 @@
 -- Laws of an operation on lent lists: one record goes back to each, and the lists with them are the machine's records in front. Assumes nothing.
-use Prim.Native.Nat.{ℕ, _≤_, _<_}
-use mathlib.Core.Path.{_≡_, sym, ap, subst, _∙_}
-use mathlib.Core.Bool.{Bool, true, false, false≢true}
-use mathlib.Core.List.{List}
-use native.Mathlib.Omega.{arith}
-use lib.Dec.{ltb}
-use lib.ListN.{length, set}
-use borrow.Author.Tests.{ltb-true, leb-true, le-leb}
+use Rattle.types.proofs.Prelude.{ℕ, _≤_, _<_, _≡_, sym, ap, subst, _∙_, Bool, true, false, false≢true, List, arith, ltb, length, set, ltb-true, leb-true}
+use Rattle.types.proofs.Prelude.{le-leb, pick-true, pick-false, both-true, both-1, both-2, either}
 use Rattle.types.specs.{Pick.pick, declared.fuel.Fuel.Fuel}
-use Rattle.types.proofs.Picks.{pick-true, pick-false, both-true, both-1, both-2, either}
 use Rattle.memory.specs.declared.memory.Memory.{Memory}
 use Rattle.table.specs.{declared.table.Table.Table, declared.element.ElementSegment.ElementSegment}
 use Rattle.machine.specs.{Machine.Buffers, Machine.noMemory, Machine.noTable, Machine.noSegment, Outcome.changed, Outcome.standing, Outcome.settled}
 use Rattle.machine.specs.{Step.decide, Step.Stepped, Step.step, declared.records.Machine.Machine, declared.outcome.Outcome.Outcome}
 use Rattle.machine.specs.{declared.outcome.Change.Change, declared.operation.Operation.Operation}
-use Rattle.machine.specs.declared.outcome.Change.the-variants as change
-use Rattle.lent.specs.declared.operate.Standing.{Standing}
-use Rattle.lent.specs.declared.operate.Placed.{Placed}
-use Rattle.lent.specs.declared.operate.Verdict.{Verdict}
+use Rattle.lent.specs.{declared.operate.Standing.Standing, declared.operate.Placed.Placed, declared.operate.Verdict.Verdict}
 use Rattle.lent.specs.Records.{Lent, lent, gathered, machineOf, longEnough, placed, lentBack, LentStepped, lentStepped, unfit, stepPlaced, lentStep}
 use Rattle.lent.specs.stages.Places.{verdict, firstPlaces, putMemory, putTable, putSegment, put, placedOf, Placing, place, eight}
 use Rattle.lent.proofs.Lists.{eight-take, set-front, set-kept, take-all, nothing-after}
+use Rattle.machine.specs.declared.outcome.Change.the-variants as change
 
 -- the places that records go back to are among the first 8
 abbrev Small : Placed → Type 0

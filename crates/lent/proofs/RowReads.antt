@@ -3,14 +3,12 @@ use Rattle.lent.proofs.Walk.{_≡_, refl, ap, subst, _∙_, [], _∷_, 
 use Prim.Native.Nat.{_+_}
 use mir.Raw.{raw as rawTy}
 use base.Fml.{Fml}
-use denote.Laws.{Tells}
-use denote.Index.{place, others}
-use denote.Memory.{shares as shares-of}
+use denote.{Laws.Tells, Index.place, Index.others, Memory.shares as shares-of}
 use Rattle.machine.specs.Machine.{noMemory, noTable, noSegment}
 use Rattle.memory.specs.declared.memory.Memory.{Memory}
+use Rattle.table.specs.{declared.table.Table.Table, declared.element.ElementSegment.ElementSegment}
 use Rattle.memory.proofs.memory.Memory as Y
 use Rattle.memory.proofs.memory.Memory.Laws as Y′
-use Rattle.table.specs.{declared.table.Table.Table, declared.element.ElementSegment.ElementSegment}
 use Rattle.table.proofs.table.Table as B
 use Rattle.table.proofs.table.Table.Laws as B′
 use Rattle.table.proofs.element.ElementSegment as G

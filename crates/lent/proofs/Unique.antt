@@ -1,11 +1,8 @@
 -- Uniqueness: what each public function promises names one answer, and one content of each thing that it is lent to write. Assumes nothing.
 -- A function proved by a walk has no generated reading, so the statement is over the relation that is its whole `ensures`.
-use mathlib.Core.Path.{_≡_, sym, _∙_, ap}
-use mathlib.Core.List.{List}
-use denote.Ref.{now}
+use Rattle.types.proofs.Prelude.{_≡_, sym, _∙_, ap, List, now, ℕ}
 use Rattle.types.proofs.One.{OneWith}
 use Rattle.machine.specs.{Machine.Buffers, Machine.buffers, Step.Stepped, declared.operation.Operation.Operation}
-use Prim.Native.Nat.{ℕ}
 use Rattle.types.specs.{declared.answer.Answer.Answer, declared.fuel.Fuel.Fuel, declared.limiter.Limiter.Limiter, declared.raw.TypedRawRef.TypedRawRef}
 use Rattle.memory.specs.declared.memory.Memory.{Memory}
 use Rattle.table.specs.{declared.table.Table.Table, declared.element.ElementSegment.ElementSegment}

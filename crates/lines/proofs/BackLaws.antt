@@ -1,20 +1,14 @@
 -- Laws of an operation as a line's numbers. Assumes nothing.
-use mathlib.Core.Path.{_≡_, sym, ap, _∙_}
-use mathlib.Core.List.{List, [], _∷_}
-use Prim.Native.Nat.{ℕ, _+_, _<_, _≤_}
-use native.Mathlib.Omega.{arith}
-use lib.ListN.{length, take, replicate, length-take}
-use lib.Seq.{take-all}
+use Rattle.types.proofs.Prelude.{_≡_, sym, ap, _∙_, List, [], _∷_, ℕ, _+_, _<_, _≤_, arith, length, take, replicate, length-take, take-all}
 use Rattle.types.specs.{Done.Done, Names.RefType}
 use Rattle.machine.specs.Names.{Items, Operation}
+use Rattle.lines.specs.Line.{some, lineText, wroteOf}
+use Rattle.lines.specs.{Fields.kindNumber, Writing.numbersOf, Writing.writeLine, stages.Back.filled, stages.Back.backOf, declared.line.Line.Line}
+use Rattle.lines.proofs.{FieldText.take-over, Writing.length-line}
 use Rattle.machine.specs.declared.operation.FuelOp.the-variants as fuel
 use Rattle.machine.specs.declared.operation.MemoryOp.the-variants as memory
 use Rattle.machine.specs.declared.operation.TableOp.the-variants as table
 use Rattle.machine.specs.declared.operation.Operation.the-variants as op
-use Rattle.lines.specs.Line.{some, lineText, wroteOf}
-use Rattle.lines.specs.{Fields.kindNumber, Writing.numbersOf, Writing.writeLine, stages.Back.filled, stages.Back.backOf, declared.line.Line.Line}
-use Rattle.lines.proofs.FieldText.{take-over}
-use Rattle.lines.proofs.Writing.{length-line}
 
 -- a segment of so many items, up to 4
 abbrev pub four : Items → List ℕ

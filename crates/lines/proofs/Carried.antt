@@ -1,24 +1,12 @@
 -- What a session carries from line to line: a row that is ready stays so, and what stands behind its machine's words stays. Assumes nothing.
-use Prim.Native.Nat.{ℕ, _+_, _≤_, _<_}
-use mathlib.Core.Path.{_≡_, sym, ap, subst, _∙_}
-use mathlib.Core.Bool.{Bool, true, false}
-use mathlib.Core.List.{List, _++_}
-use native.Mathlib.Omega.{arith}
-use lib.ListN.{length, drop}
-use borrow.Author.Tests.{le-leb}
-use Rattle.types.specs.{Span.over, Raw.rawBytes, Names.Fuel, Names.FuelCosts, Names.Answer}
-use Rattle.types.proofs.Picks.{pick-true}
+use Rattle.types.proofs.Prelude.{ℕ, _+_, _≤_, _<_, _≡_, sym, ap, subst, _∙_, Bool, true, false, List, _++_, arith, length, drop, le-leb, pick-true}
 use Rattle.types.proofs.Spans.{length-over, over-after}
+use Rattle.types.specs.{Span.over, Raw.rawBytes, Names.Fuel, Names.FuelCosts, Names.Answer}
 use Rattle.machine.specs.Names.{Buffers, buffers, freshMachine, soundOver, step, Machine, Operation}
-use Rattle.machine.specs.Words.{rowLength, wordsOf, machineFrom, inForm}
-use Rattle.machine.specs.Row.{Rowed, rowed, freshRow, InRow, fuelOf}
+use Rattle.machine.specs.{Words.rowLength, Words.wordsOf, Words.machineFrom, Words.inForm, Row.Rowed, Row.rowed, Row.freshRow, Row.InRow, Row.fuelOf}
 use Rattle.machine.specs.stages.Rows.{Shaped, Steps, Proceeds}
-use Rattle.machine.proofs.Rows.{over-all}
-use Rattle.machine.proofs.Places.{over-in}
-use Rattle.machine.proofs.Back.{words-length, row-back, shaped-from, fresh-shaped}
-use Rattle.machine.proofs.Formed.{form-long, form-holds}
-use Rattle.machine.proofs.Kept.{step-sound, fresh-sound}
-use Rattle.machine.proofs.Rooms.{parts}
+use Rattle.machine.proofs.{Rows.over-all, Places.over-in, Back.words-length, Back.row-back, Back.shaped-from, Back.fresh-shaped}
+use Rattle.machine.proofs.{Formed.form-long, Formed.form-holds, Kept.step-sound, Kept.fresh-sound, Rooms.parts}
 use Rattle.lines.specs.{AnswerLine.answerLine, Progress.progressed, stages.Runs.heldOn, stages.Runs.rowWith, stages.Runs.Ready, declared.session.Progress.Progress}
 use Rattle.lines.proofs.Runs.{reached}
 

@@ -1,14 +1,7 @@
 -- Laws of what a line says by its code. Assumes nothing.
-use mathlib.Core.Path.{_≡_, refl, sym, ap, _∙_}
-use mathlib.Core.Bool.{Bool, true, false}
-use Prim.Native.Nat.{ℕ}
-use lib.Dec.{eqb}
-use borrow.Author.Tests.{ne-eqb}
+use Rattle.types.proofs.Prelude.{_≡_, refl, sym, ap, _∙_, Bool, true, false, ℕ, eqb, ne-eqb, pick-false, both-left, both-right, both-then}
 use Rattle.types.specs.Pick.{pick, both}
-use Rattle.types.proofs.Picks.{pick-false, both-left, both-right, both-then}
-use Rattle.lines.specs.{Code.taken, Code.byCode, stages.Codes.meant}
-use Rattle.lines.specs.declared.line.Line.{Line}
-use Rattle.lines.specs.declared.code.Read.{Read}
+use Rattle.lines.specs.{Code.taken, Code.byCode, stages.Codes.meant, declared.line.Line.Line, declared.code.Read.Read}
 use Rattle.lines.specs.declared.code.Read.the-variants as read
 
 -- a field out of its range

@@ -1,13 +1,8 @@
 -- The table of digits has each byte's digit. Assumes nothing.
-use mathlib.Core.Path.{_≡_, ap, _∙_}
-use mathlib.Core.List.{List}
-use mathlib.Core.Bool.{Bool}
-use Prim.Native.Nat.{ℕ, _<_}
-use lib.Dec.{eqb, eqb→eq}
-use lib.ListN.{getD}
+use Rattle.types.proofs.Prelude.{_≡_, ap, _∙_, List, Bool, ℕ, _<_, eqb, getD}
+use lib.Dec.{eqb→eq}
 use Rattle.types.specs.Pick.{pick}
-use Rattle.lines.specs.stages.Digits.{digitTable}
-use Rattle.lines.specs.Hex.{digitOf}
+use Rattle.lines.specs.{stages.Digits.digitTable, Hex.digitOf}
 use Rattle.lines.proofs.Entries.{at}
 
 right : ℕ → ℕ → Bool

@@ -1,11 +1,7 @@
 -- A rule of a table, proved at all of its entries by one test that antt computes, one entry after the other. Assumes nothing.
-use mathlib.Core.Path.{_≡_}
-use mathlib.Core.Bool.{Bool, true, false}
-use mathlib.Core.List.{List, [], _∷_}
-use Prim.Native.Nat.{ℕ, zero, suc, _<_}
+use Rattle.types.proofs.Prelude.{_≡_, Bool, true, false, List, [], _∷_, ℕ, zero, suc, _<_, eqb, length, getD, replicate, length-replicate}
 use native.Mathlib.Nat.{le-of-suc-le-suc, not-suc-le-zero}
-use lib.Dec.{T, eqb, eqb→eq}
-use lib.ListN.{length, getD, replicate, length-replicate}
+use lib.Dec.{T, eqb→eq}
 
 abbrev pub both : Bool → Bool → Bool
 both true b = b

@@ -1,21 +1,13 @@
 -- Laws of the fields of a line: what the loop over fields keeps, and its ways out. Assumes nothing.
-use mathlib.Core.Path.{_≡_, refl, sym, ap, _∙_}
-use mathlib.Core.Bool.{true}
-use mathlib.Core.List.{List, [], _∷_}
-use Prim.Native.Nat.{ℕ, zero, suc, _+_, _-_, _*_, _<_, _≤_}
-use native.Mathlib.Omega.{arith}
-use native.Mathlib.Numerals.{add-one}
-use lib.Dec.{ltb, eqb}
-use lib.ListN.{length, drop, getD, set, replicate, length-drop, drop-of-length-le}
-use lib.Seq.{drop-cons, drop-drop}
-use borrow.Author.Tests.{eq-eqb, ne-eqb}
+use Rattle.types.proofs.Prelude.{_≡_, refl, sym, ap, _∙_, true, List, [], _∷_, ℕ, zero, suc, _+_, _-_, _*_, _<_, _≤_, arith, add-one, ltb, eqb, length, drop}
+use Rattle.types.proofs.Prelude.{getD, set, replicate, length-drop, drop-cons, drop-drop, eq-eqb, ne-eqb, pick-true, pick-false}
+use Rattle.types.proofs.{Picks.pick-same, Spans.over-nil, Spans.over-first}
+use lib.ListN.{drop-of-length-le}
 use Rattle.types.specs.{Pick.pick, Span.over}
-use Rattle.types.proofs.Picks.{pick-true, pick-false, pick-same}
 use Rattle.lines.specs.Hex.{digitOf, hexFrom}
 use Rattle.lines.specs.Line.{space, Got, none, some, thenField, fieldsOf, noLine, coded, lineOf}
 use Rattle.lines.specs.{stages.Back.filled, declared.field.Field.Field, declared.line.Line.Line}
 use Rattle.lines.specs.declared.field.Field.the-variants.{Value, Bad}
-use Rattle.types.proofs.Spans.{over-nil, over-first}
 
 -- too few bytes are no number
 pub hex-short : (n v : ℕ) (l : List ℕ) → length l < n → hexFrom n v l ≡ Bad

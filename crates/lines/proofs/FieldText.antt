@@ -1,23 +1,13 @@
 -- A line's text, its code and its fields: each way, and only one text. Assumes nothing.
-use mathlib.Core.Path.{_≡_, refl, sym, ap, _∙_}
-use mathlib.Core.Bool.{true}
-use mathlib.Core.List.{List, [], _∷_, _++_}
-use Prim.Native.Nat.{ℕ, zero, suc, _+_, _<_, _≤_}
-use native.Mathlib.Omega.{arith}
-use lib.Dec.{eqb}
-use lib.ListN.{length, take, drop, replicate, take-append-drop}
-use lib.Seq.{drop-at, take-at}
-use borrow.Author.Tests.{eqb-true}
+use Rattle.types.proofs.Prelude.{_≡_, refl, sym, ap, _∙_, true, List, [], _∷_, _++_, ℕ, zero, suc, _+_, _<_, _≤_, arith, eqb, length, take, drop, replicate}
+use Rattle.types.proofs.{Prelude.eqb-true, Prelude.pick-true, Prelude.pick-false, Prelude.either, Spans.length-over}
+use lib.{ListN.take-append-drop, Seq.drop-at, Seq.take-at}
 use Rattle.types.specs.Span.{over}
-use Rattle.types.proofs.Picks.{pick-true, pick-false, either}
-use Rattle.types.proofs.Spans.{length-over}
 use Rattle.lines.specs.Hex.{hexFrom, hexText}
 use Rattle.lines.specs.Line.{space, Got, none, some, thenField, fieldsOf, fieldsText, coded, lineOf, lineText}
 use Rattle.lines.specs.{Sayable.Small, stages.Back.filled, declared.field.Field.Field, declared.line.Line.Line}
 use Rattle.lines.specs.declared.field.Field.the-variants.{Value, Bad}
-use Rattle.lines.proofs.FieldLaws.{coded-filled}
-use Rattle.lines.proofs.HexText.{hex-all, hex-whole}
-use Rattle.lines.proofs.Writing.{length-hex}
+use Rattle.lines.proofs.{FieldLaws.coded-filled, HexText.hex-all, HexText.hex-whole, Writing.length-hex}
 
 -- one field and the rest of a line
 field-read : (n b : ℕ) (l xs : List ℕ) (f : Field) (g : Got) → b ≡ space → hexFrom 16 0 l ≡ f →

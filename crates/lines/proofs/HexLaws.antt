@@ -1,18 +1,9 @@
 -- Laws of numbers in digits: what a loop over digits keeps. Assumes nothing.
-use mathlib.Core.Path.{_≡_, refl, sym, ap, _∙_}
-use mathlib.Core.List.{List, _∷_}
-use Prim.Native.Nat.{ℕ, suc, _+_, _-_, _*_, _<_, _≤_, _^_}
-use native.Mathlib.Omega.{arith}
+use Rattle.types.proofs.Prelude.{_≡_, refl, sym, ap, _∙_, List, _∷_, ℕ, suc, _+_, _-_, _*_, _<_, _≤_, _^_, arith, add-one, ltb, length, drop, getD, drop-cons}
+use Rattle.types.proofs.Prelude.{lt-ltb, le-ltb, pick-true, pick-false}
 use native.Mathlib.Nat.{pow-suc, pow-le-pow-right}
-use native.Mathlib.Numerals.{add-one}
-use lib.Dec.{ltb}
-use lib.ListN.{length, drop, getD}
-use lib.Seq.{drop-cons}
-use borrow.Author.Tests.{lt-ltb, le-ltb}
 use Rattle.types.specs.Pick.{pick}
-use Rattle.types.proofs.Picks.{pick-true, pick-false}
-use Rattle.lines.specs.Hex.{digitOf, hexFrom}
-use Rattle.lines.specs.declared.field.Field.{Field}
+use Rattle.lines.specs.{Hex.digitOf, Hex.hexFrom, declared.field.Field.Field}
 use Rattle.lines.specs.declared.field.Field.the-variants.{Value, Bad}
 
 cell : (s : List ℕ) (at i : ℕ) → at + i < length s → drop (at + i) s ≡ getD s (at + i) 0 ∷ drop (at + (i + 1)) s

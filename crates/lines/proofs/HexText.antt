@@ -1,18 +1,10 @@
 -- A number and its digits: each way, and only one text of so many digits. Assumes nothing.
-use mathlib.Core.Path.{_≡_, refl, sym, ap, _∙_}
-use mathlib.Core.Bool.{true, false}
+use Rattle.types.proofs.Prelude.{_≡_, refl, sym, ap, _∙_, true, false, List, [], _∷_, _++_, append-assoc, append-nil, ℕ, zero, suc, _+_, _-_, _*_, _/_, _%_}
+use Rattle.types.proofs.Prelude.{_^_, _<_, _≤_, arith, ltb, leb, take, ltb-true, ltb-false, leb-true, lt-ltb, le-ltb, pick-true, pick-false, either}
 use mathlib.Core.Logic.{_⊎_, inl, inr, ⊎-elim}
-use mathlib.Core.List.{List, [], _∷_, _++_, append-assoc, append-nil}
-use Prim.Native.Nat.{ℕ, zero, suc, _+_, _-_, _*_, _/_, _%_, _^_, _<_, _≤_}
-use native.Mathlib.Omega.{arith}
 use native.Mathlib.Nat.{pow-suc, mul-assoc}
-use lib.Dec.{ltb, leb}
-use lib.ListN.{take}
-use borrow.Author.Tests.{ltb-true, ltb-false, leb-true, lt-ltb, le-ltb}
 use Rattle.types.specs.Pick.{pick}
-use Rattle.types.proofs.Picks.{pick-true, pick-false, either}
-use Rattle.lines.specs.Hex.{digitOf, charOf, hexFrom, hexText}
-use Rattle.lines.specs.declared.field.Field.the-variants.{Value}
+use Rattle.lines.specs.{Hex.digitOf, Hex.charOf, Hex.hexFrom, Hex.hexText, declared.field.Field.the-variants.Value}
 use Rattle.lines.proofs.Entries.{right, comes-back}
 
 -- a digit's byte, and a byte's digit

@@ -1,21 +1,11 @@
 -- A host's turn is the model's: what it keeps of its input is what `fed` leaves, and the LF at the end makes the last line whole. Assumes nothing.
-use mathlib.Core.Path.{_≡_, refl, sym, ap, _∙_}
-use mathlib.Core.Bool.{Bool, true, false, false≢true}
-use mathlib.Core.List.{List, [], _∷_, _++_, append-nil, append-assoc}
-use Prim.Native.Nat.{ℕ, suc, _+_, _<_, _≤_}
-use native.Mathlib.Omega.{arith}
-use native.Mathlib.Numerals.{add-one}
-use lib.Dec.{eqb, ltb, leb}
-use lib.ListN.{length, take, drop, set, getD, length-append, length-take, length-drop, length-set, drop-of-length-le}
-use lib.Seq.{getD-take, getD-drop, take-all, take-at, take-suc-set, drop-drop, drop-nil, length-take-le}
-use borrow.Author.Tests.{ltb-true, ltb-false, leb-true, leb-false, lt-leb, eqb-true, eqb-false}
+use Rattle.types.proofs.Prelude.{_≡_, refl, sym, ap, _∙_, Bool, true, false, false≢true, List, [], _∷_, _++_, append-nil, append-assoc, ℕ, suc, _+_, _<_, _≤_}
+use Rattle.types.proofs.Prelude.{arith, add-one, eqb, ltb, leb, length, take, drop, set, getD, length-append, length-take, length-drop, length-set, take-all}
+use Rattle.types.proofs.Prelude.{drop-drop, ltb-true, ltb-false, leb-true, leb-false, lt-leb, eqb-true, eqb-false, pick-true, pick-false, either}
+use Rattle.types.proofs.{Dones.done-as, Spans.over-after, Spans.over-span, Spans.length-over, Moves.put-turn}
+use lib.{ListN.drop-of-length-le, Seq.getD-take, Seq.getD-drop, Seq.take-at, Seq.take-suc-set, Seq.drop-nil, Seq.length-take-le}
 use Rattle.types.specs.{Span.over, Done.done}
-use Rattle.types.proofs.Dones.{done-as}
-use Rattle.types.proofs.Picks.{pick-true, pick-false, either}
-use Rattle.types.proofs.Spans.{over-after, over-span, length-over}
-use Rattle.types.proofs.Moves.{put-turn}
-use Rattle.lines.specs.Line.{lf, longest}
-use Rattle.lines.specs.Session.{Held, textOf, session}
+use Rattle.lines.specs.{Line.lf, Line.longest, Session.Held, Session.textOf, Session.session}
 use Rattle.lines.specs.Pieces.{lfAt, Run, ahead, wholeLines, closeOf, pieceOf, Host, Feed, fed, fedAll, whole}
 use Rattle.lines.specs.Input.{keptOf, unended, endedOf, finished}
 use Rattle.lines.proofs.LineEnds.{lf-le, lf-append}

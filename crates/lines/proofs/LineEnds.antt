@@ -1,17 +1,10 @@
 -- Where lines end: the first line of a text, and a session behind it. Assumes nothing.
-use mathlib.Core.Path.{_≡_, refl, sym, ap, _∙_}
-use mathlib.Core.Bool.{true, false}
-use mathlib.Core.List.{List, [], _∷_, _++_, append-assoc, append-nil}
-use Prim.Native.Nat.{ℕ, zero, suc, _+_, _<_, _≤_}
-use native.Mathlib.Omega.{arith}
-use lib.Dec.{ltb, eqb}
-use lib.ListN.{length, take, drop, getD, length-drop, drop-of-length-le}
-use lib.Seq.{drop-cons, drop-drop, drop-append-add, take-length}
-use borrow.Author.Tests.{ltb-true, ltb-false, eq-eqb, ne-eqb}
+use Rattle.types.proofs.Prelude.{_≡_, refl, sym, ap, _∙_, true, false, List, [], _∷_, _++_, append-assoc, append-nil, ℕ, zero, suc, _+_, _<_, _≤_, arith, ltb}
+use Rattle.types.proofs.Prelude.{eqb, length, take, drop, getD, length-drop, drop-cons, drop-drop, ltb-true, ltb-false, eq-eqb, ne-eqb, pick-true, pick-false}
+use Rattle.types.proofs.Prelude.{either}
+use lib.{ListN.drop-of-length-le, Seq.drop-append-add, Seq.take-length}
 use Rattle.types.specs.Pick.{pick}
-use Rattle.types.proofs.Picks.{pick-true, pick-false, either}
-use Rattle.lines.specs.Line.{lf}
-use Rattle.lines.specs.Session.{Held, onto, linesOf, turnOf, textOf, answersOf, session}
+use Rattle.lines.specs.{Line.lf, Session.Held, Session.onto, Session.linesOf, Session.turnOf, Session.textOf, Session.answersOf, Session.session}
 use Rattle.lines.specs.Pieces.{lfAt, wholeLines}
 
 pub lf-true : (b : ℕ) (l : List ℕ) → eqb b lf ≡ true → lfAt (b ∷ l) ≡ 0

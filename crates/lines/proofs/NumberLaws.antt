@@ -1,14 +1,9 @@
 -- Laws of what the numbers of fields stand for: each way, for every number in range. Assumes nothing.
-use mathlib.Core.Path.{_≡_, refl, sym, ap}
-use mathlib.Core.Bool.{Bool, true, false}
-use mathlib.Core.List.{[], _∷_}
-use Prim.Native.Nat.{ℕ, zero, suc, _≤_, min}
-use native.Mathlib.Omega.{arith}
-use lib.Dec.{eqb, leb}
+use Rattle.types.proofs.Prelude.{_≡_, refl, sym, ap, Bool, true, false, [], _∷_, ℕ, zero, suc, _≤_, arith, eqb, leb, ltb-true, leb-true, le-leb, eq-eqb}
+use Rattle.types.proofs.Prelude.{eqb-true, eqb-false, both-true, both-1, both-2, either}
+use Prim.Native.Nat.{min}
 use lib.ListN.{List·getD-eq-default}
-use borrow.Author.Tests.{ltb-true, leb-true, le-leb, eq-eqb, eqb-true, eqb-false}
 use Rattle.types.specs.{Pick.pick, Pick.both, Names.RefType, Names.TypedRawRef, Names.WantedMemory, Names.WantedTable}
-use Rattle.types.proofs.Picks.{both-true, both-1, both-2, either}
 use Rattle.types.specs.declared.raw.RefType.the-variants.{Func, Extern}
 use Rattle.memory.specs.Names.{LoadKind, StoreKind}
 use Rattle.memory.specs.declared.access.LoadKind.the-variants as load

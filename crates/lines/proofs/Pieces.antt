@@ -1,16 +1,9 @@
 -- Any cut of the input into pieces, with any room at each, gives the session of the whole; lines of any length have one answer. Assumes nothing.
-use mathlib.Core.Path.{_≡_, refl, sym, ap, _∙_}
-use mathlib.Core.Bool.{Bool, true, false}
-use mathlib.Core.List.{List, [], _∷_, _++_, append-assoc, append-nil}
-use Prim.Native.Nat.{ℕ, zero, suc, _+_, _<_, _≤_}
-use native.Mathlib.Omega.{arith}
-use lib.Dec.{ltb, leb}
-use lib.ListN.{length, take, drop, length-append, length-drop, drop-of-length-le}
-use lib.Seq.{drop-drop, drop-append-le, drop-length, take-append-add, take-at, take-length}
-use borrow.Author.Tests.{ltb-true, ltb-false, leb-false, lt-ltb, le-ltb, lt-leb}
-use Rattle.types.proofs.Picks.{pick-true, pick-false, either}
-use Rattle.lines.specs.Line.{lf, longest}
-use Rattle.lines.specs.AnswerLine.{answerBytes}
+use Rattle.types.proofs.Prelude.{_≡_, refl, sym, ap, _∙_, Bool, true, false, List, [], _∷_, _++_, append-assoc, append-nil, ℕ, zero, suc, _+_, _<_, _≤_, arith}
+use Rattle.types.proofs.Prelude.{ltb, leb, length, take, drop, length-append, length-drop, drop-drop, ltb-true, ltb-false, leb-false, lt-ltb, le-ltb, lt-leb}
+use Rattle.types.proofs.Prelude.{pick-true, pick-false, either}
+use lib.{ListN.drop-of-length-le, Seq.drop-append-le, Seq.drop-length, Seq.take-append-add, Seq.take-at, Seq.take-length}
+use Rattle.lines.specs.{Line.lf, Line.longest, AnswerLine.answerBytes}
 use Rattle.lines.specs.Session.{Held, Turn, malformed, turnBy, turnOf, textOf, session}
 use Rattle.lines.specs.Pieces.{lfAt, Run, ahead, wholeLines, closeOf, pieceOf, Host, Feed, fed, fedAll, whole}
 use Rattle.lines.proofs.Text.{long-malformed, answer-line-long}

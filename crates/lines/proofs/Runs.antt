@@ -1,29 +1,20 @@
 -- Laws of a run over a piece: what its loop keeps, and its ways out. Assumes nothing.
-use mathlib.Core.Path.{_≡_, refl, sym, ap, _∙_}
-use mathlib.Core.Bool.{Bool, true, false}
+use Rattle.types.proofs.Prelude.{_≡_, refl, sym, ap, _∙_, Bool, true, false, List, _++_, ℕ, suc, _+_, _-_, _*_, _/_, _<_, _≤_, arith, ltb, leb, length, take}
+use Rattle.types.proofs.Prelude.{drop, length-append, length-drop, drop-drop, ltb-true, ltb-false, lt-ltb, le-ltb, le-leb, lt-leb, pick-true, pick-false}
+use Rattle.types.proofs.{Prelude.either, Spans.over-nil, Spans.over-over, Spans.length-over}
 use mathlib.Core.Logic.{_⊎_, ⊎-elim}
-use mathlib.Core.List.{List, _++_}
-use Prim.Native.Nat.{ℕ, suc, _+_, _-_, _*_, _/_, _<_, _≤_}
-use native.Mathlib.Omega.{arith}
-use lib.Dec.{ltb, leb}
-use lib.ListN.{length, take, drop, length-append, length-drop}
-use lib.Seq.{drop-drop}
 use denote.Enum.Declared.{tagOf}
-use borrow.Author.Tests.{ltb-true, ltb-false, lt-ltb, le-ltb, le-leb, lt-leb}
 use Rattle.types.specs.{Pick.pick, Pick.both, Answer.refuse, Answer.accept, Span.over, Raw.rawBytes, Names.Answer}
 use Rattle.machine.specs.Names.{Buffers, freshMachine, soundOver, Stepped, step, Machine, Operation}
 use Rattle.machine.specs.Words.{rowLength, wordsOf, machineFrom, inForm}
-use Rattle.types.proofs.Picks.{pick-true, pick-false, either}
-use Rattle.types.proofs.Spans.{over-nil, over-over, length-over}
 use Rattle.lines.specs.{Line.longest, Line.lineOf, Code.operationOf, Code.readLine, AnswerLine.answerBytes, AnswerLine.answerLine}
 use Rattle.lines.specs.Session.{Held, Turn, turned, malformed, costsOf, turnBy, turnOf, textOf}
 use Rattle.lines.specs.Pieces.{lfAt, Run, still, ahead, wholeLines, closeOf, pieceOf}
 use Rattle.lines.specs.Progress.{Progressed, progressOf, pieceIn}
 use Rattle.lines.specs.stages.Runs.{heldOn, rowWith, sessionAs, skipping, endOf, WholeRan, closedOf}
 use Rattle.lines.specs.declared.{line.Line.Line, code.Read.Read, session.Session.Session, session.Progress.Progress}
+use Rattle.lines.proofs.{code.Read.the-type, Pieces.length-text, Pieces.piece-used}
 use Rattle.lines.specs.declared.code.Read.the-variants as read
-use Rattle.lines.proofs.code.Read.{the-type}
-use Rattle.lines.proofs.Pieces.{length-text, piece-used}
 
 -- a turn on what a line was read as
 pub turned-line : (h : Held) (l : List ℕ) {w : Line} {x : Read} {y : Turn} → w ≡ lineOf l → x ≡ operationOf w → y ≡ turnBy rawBytes h x → y ≡ turnOf rawBytes h l

@@ -1,34 +1,21 @@
 -- A line's text and what it says: each way, and only one text. A line of over 160 bytes says nothing; an answer line has 37. Assumes nothing.
-use mathlib.Core.Path.{_≡_, refl, sym, ap, _∙_}
-use mathlib.Core.Bool.{Bool, true, false}
-use mathlib.Core.List.{List, [], _∷_, _++_}
-use Prim.Native.Nat.{ℕ, zero, suc, _+_, _^_, _<_, _≤_}
-use native.Mathlib.Omega.{arith}
-use lib.Dec.{eqb}
-use lib.ListN.{length, take, getD, length-append, length-take}
-use borrow.Author.Tests.{ltb-true, leb-true, eqb-true, lt-ltb, le-leb}
+use Rattle.types.proofs.Prelude.{_≡_, refl, sym, ap, _∙_, Bool, true, false, List, [], _∷_, _++_, ℕ, zero, suc, _+_, _^_, _<_, _≤_, arith, eqb, length, take}
+use Rattle.types.proofs.Prelude.{getD, length-append, length-take, ltb-true, leb-true, eqb-true, lt-ltb, le-leb, pick-true, pick-false, both-1, both-2, either}
 use Rattle.types.specs.{Pick.pick, Pick.both, Span.over, Names.Answer, Names.Fuel, Names.RefType}
-use Rattle.types.proofs.Picks.{pick-true, pick-false, both-1, both-2, either}
-use Rattle.machine.specs.Operation.{itemField, itemFields, itemsOf}
-use Rattle.machine.specs.Names.{Items, Operation}
+use Rattle.machine.specs.{Operation.itemField, Operation.itemFields, Operation.itemsOf, Names.Items, Names.Operation}
+use Rattle.lines.specs.{Hex.hexText, Line.space, Line.lf, Line.longest, Line.lineText, Line.lineOf, Line.at, Fields.kindOf, Fields.flag}
+use Rattle.lines.specs.Code.{taken, itemsFrom, byCode, operationOf, readLine}
+use Rattle.lines.specs.{Writing.numbersOf, Writing.writeLine, Writing.writeMaking, AnswerLine.answerText, AnswerLine.answerBytes, AnswerLine.answerLine}
+use Rattle.lines.specs.Sayable.{Small, Said, Sayable}
+use Rattle.lines.specs.{stages.Codes.segmentRanges, stages.Back.filled, stages.Back.backOf, stages.Back.makingBack, declared.line.Line.Line, declared.code.Read.Read}
+use Rattle.lines.proofs.NumberLaws.{load-number, store-number, kind-number, flag-number, load-said, store-said, kind-said, flag-said}
+use Rattle.lines.proofs.NumberLaws.{reference-said, reference-fields, memory-in, memory-said, memory-fields, table-in, table-said, table-fields}
+use Rattle.lines.proofs.{FieldText.line-write, FieldText.line-read, FieldText.Told, BackLaws.few, Writing.length-hex, Writing.length-line}
 use Rattle.machine.specs.declared.operation.FuelOp.the-variants as fuel
 use Rattle.machine.specs.declared.operation.MemoryOp.the-variants as memory
 use Rattle.machine.specs.declared.operation.TableOp.the-variants as table
 use Rattle.machine.specs.declared.operation.Operation.the-variants as op
-use Rattle.lines.specs.Hex.{hexText}
-use Rattle.lines.specs.Line.{space, lf, longest, lineText, lineOf, at}
-use Rattle.lines.specs.Fields.{kindOf, flag}
-use Rattle.lines.specs.Code.{taken, itemsFrom, byCode, operationOf, readLine}
-use Rattle.lines.specs.Writing.{numbersOf, writeLine, writeMaking}
-use Rattle.lines.specs.AnswerLine.{answerText, answerBytes, answerLine}
-use Rattle.lines.specs.Sayable.{Small, Said, Sayable}
-use Rattle.lines.specs.{stages.Codes.segmentRanges, stages.Back.filled, stages.Back.backOf, stages.Back.makingBack, declared.line.Line.Line, declared.code.Read.Read}
 use Rattle.lines.specs.declared.code.Read.the-variants as read
-use Rattle.lines.proofs.NumberLaws.{load-number, store-number, kind-number, flag-number, load-said, store-said, kind-said, flag-said}
-use Rattle.lines.proofs.NumberLaws.{reference-said, reference-fields, memory-in, memory-said, memory-fields, table-in, table-said, table-fields}
-use Rattle.lines.proofs.FieldText.{line-write, line-read, Told}
-use Rattle.lines.proofs.BackLaws.{few}
-use Rattle.lines.proofs.Writing.{length-hex, length-line}
 
 -- a claim of the counts 0 to 4
 five : (C : ℕ → Type 0) (n : ℕ) → n ≤ 4 → C 0 → C 1 → C 2 → C 3 → C 4 → C n

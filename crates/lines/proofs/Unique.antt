@@ -1,9 +1,5 @@
 -- Uniqueness: each public function's contract names one answer, and one content of what it is lent to write, for each input. Assumes nothing.
-use mathlib.Core.Path.{sym, _∙_, ap}
-use mathlib.Core.Bool.{Bool}
-use mathlib.Core.List.{List}
-use Prim.Native.Nat.{ℕ}
-use denote.Ref.{now}
+use Rattle.types.proofs.Prelude.{sym, _∙_, ap, Bool, List, ℕ, now}
 use Rattle.types.proofs.One.{One, OneWith}
 use Rattle.types.specs.Done.{Done}
 use Rattle.lines.proofs.line.no_line.Reads as no-line-reads

@@ -1,18 +1,10 @@
 -- Laws of writing: a number's digits, and the parts of a line one after the other. Assumes nothing.
-use mathlib.Core.Path.{_≡_, refl, sym, ap, _∙_}
-use mathlib.Core.Bool.{true}
-use mathlib.Core.List.{List, [], _∷_, _++_, append-assoc, append-nil}
-use Prim.Native.Nat.{ℕ, zero, suc, _+_, _-_, _*_, _<_, _≤_, _/_, _%_}
-use native.Mathlib.Omega.{arith}
-use native.Mathlib.Numerals.{add-one}
-use lib.ListN.{length, take, set, getD, length-append, length-take}
-use lib.Seq.{take-suc}
-use borrow.Author.Tests.{lt-ltb, le-ltb}
-use Rattle.types.specs.{Done.done, Span.over, Names.Answer, Names.Fuel}
-use Rattle.types.proofs.Picks.{pick-true, pick-false}
+use Rattle.types.proofs.Prelude.{_≡_, refl, sym, ap, _∙_, true, List, [], _∷_, _++_, append-assoc, append-nil, ℕ, zero, suc, _+_, _-_, _*_, _<_, _≤_, _/_, _%_}
+use Rattle.types.proofs.Prelude.{arith, add-one, length, take, set, getD, length-append, length-take, lt-ltb, le-ltb, pick-true, pick-false}
 use Rattle.types.proofs.Spans.{over-nil, over-put, over-over, over-last}
-use Rattle.lines.specs.Hex.{hexText, charOf}
-use Rattle.lines.specs.Line.{space, lf, fieldsText, lineText, wroteOf}
+use lib.Seq.{take-suc}
+use Rattle.types.specs.{Done.done, Span.over, Names.Answer, Names.Fuel}
+use Rattle.lines.specs.{Hex.hexText, Hex.charOf, Line.space, Line.lf, Line.fieldsText, Line.lineText, Line.wroteOf}
 use Rattle.lines.specs.AnswerLine.{answerBytes, answerText, answerLine, answeredOf}
 
 -- so many digits

@@ -1,12 +1,6 @@
 -- What an operation leaves alone: every instance but its target, and all of a record in use but its size. Assumes nothing.
-use Prim.Native.Nat.{ℕ}
-use mathlib.Core.Path.{_≡_}
-use mathlib.Core.Bool.{true}
-use Rattle.machine.specs.Machine.{Buffers}
-use Rattle.machine.specs.Sound.{soundOver}
-use Rattle.machine.specs.Step.{step}
-use Rattle.machine.specs.Frame.{OthersStay, OnlySizes}
-use Rattle.machine.specs.declared.records.Machine.{Machine}
+use Rattle.types.proofs.Prelude.{ℕ, _≡_, true}
+use Rattle.machine.specs.{Machine.Buffers, Sound.soundOver, Step.step, Frame.OthersStay, Frame.OnlySizes, declared.records.Machine.Machine}
 use Rattle.machine.specs.declared.operation.Operation.{Operation}
 use Rattle.machine.proofs.Touched.{step-touched}
 

@@ -1,28 +1,15 @@
 -- A machine's words say that machine, and the machine of any row has a machine's shape. Assumes nothing.
-use Prim.Native.Nat.{ℕ, zero, suc, _+_, _%_, _<_}
-use mathlib.Core.Path.{_≡_, refl, sym, ap, _∙_}
-use mathlib.Core.Bool.{Bool, true, false}
-use mathlib.Core.List.{List, [], _∷_, _++_, append-nil}
-use native.Mathlib.Omega.{arith}
-use lib.ListN.{length, getD, drop, replicate}
-use Rattle.types.specs.Span.{over}
-use Rattle.types.specs.Limiter.{noLimiter}
-use Rattle.types.specs.declared.fuel.FuelCosts.{FuelCosts}
-use Rattle.types.specs.IndexType.{is64, indexOf}
-use Rattle.types.specs.declared.index_ty.IndexType.{IndexType}
-use Rattle.types.specs.declared.index_ty.IndexType.the-variants.{I32, I64}
-use Rattle.types.specs.declared.memory_ty.PageSize.{PageSize}
-use Rattle.types.specs.declared.memory_ty.PageSize.the-variants.{One, Wasm}
-use Rattle.types.specs.declared.raw.RefType.{RefType}
-use Rattle.types.specs.declared.raw.RefType.the-variants.{Func, Extern}
+use Rattle.types.proofs.Prelude.{ℕ, zero, suc, _+_, _%_, _<_, _≡_, refl, sym, ap, _∙_, Bool, true, false, List, [], _∷_, _++_, append-nil, arith, length, getD}
+use Rattle.types.proofs.Prelude.{drop, replicate}
+use Rattle.types.specs.{Span.over, Limiter.noLimiter, declared.fuel.FuelCosts.FuelCosts, IndexType.is64, IndexType.indexOf}
+use Rattle.types.specs.{declared.index_ty.IndexType.IndexType, declared.index_ty.IndexType.the-variants.I32, declared.index_ty.IndexType.the-variants.I64}
+use Rattle.types.specs.{declared.memory_ty.PageSize.PageSize, declared.memory_ty.PageSize.the-variants.One, declared.memory_ty.PageSize.the-variants.Wasm}
+use Rattle.types.specs.{declared.raw.RefType.RefType, declared.raw.RefType.the-variants.Func, declared.raw.RefType.the-variants.Extern}
 use Rattle.memory.specs.declared.memory.Memory.{Memory}
-use Rattle.table.specs.declared.table.Table.{Table}
-use Rattle.table.specs.declared.element.ElementSegment.{ElementSegment}
-use Rattle.machine.proofs.Rows.{join}
-use Rattle.machine.proofs.Places.{records-length}
+use Rattle.table.specs.{declared.table.Table.Table, declared.element.ElementSegment.ElementSegment}
+use Rattle.machine.proofs.{Rows.join, Places.records-length}
 use Rattle.machine.specs.Words.{recordLength, segmentLength, tablesAt, segmentsAt, fuelAt, scriptAt}
-use Rattle.machine.specs.Machine.{noMemory, noTable, noSegment, freshMachine}
-use Rattle.machine.specs.declared.records.Machine.{Machine}
+use Rattle.machine.specs.{Machine.noMemory, Machine.noTable, Machine.noSegment, Machine.freshMachine, declared.records.Machine.Machine}
 use Rattle.machine.specs.Words.{rowLength, yesWord, saysYes, isWasm, pageOf, isExtern, elementOf, rowsOf, wordsOf}
 use Rattle.machine.specs.Words.{memoryWords, tableWords, segmentWords, countWords, fuelWords, placeWords}
 use Rattle.machine.specs.Words.{limitsFrom, memoryFrom, tableFrom, segmentFrom, recordsFrom, countsFrom, costFrom, answerFrom, fuelFrom, limiterFrom, machineFrom}

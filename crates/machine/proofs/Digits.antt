@@ -1,14 +1,7 @@
 -- Laws of a field's digits and of the answers that lead them. Assumes nothing.
-use Prim.Native.Nat.{ℕ, zero, suc, _+_, _-_, _/_, _%_, _≤_, _<_}
-use mathlib.Core.Path.{_≡_, refl, sym, ap, _∙_}
-use mathlib.Core.Bool.{true, false}
-use mathlib.Core.List.{List, [], _∷_, _++_}
-use native.Mathlib.Omega.{arith}
-use lib.Dec.{leb}
-use lib.ListN.{length, take, drop, getD, set}
-use borrow.Author.Tests.{le-leb, lt-leb}
+use Rattle.types.proofs.Prelude.{ℕ, zero, suc, _+_, _-_, _/_, _%_, _≤_, _<_, _≡_, refl, sym, ap, _∙_, true, false, List, [], _∷_, _++_, arith, leb, length}
+use Rattle.types.proofs.Prelude.{take, drop, getD, set, le-leb, lt-leb, both-left, both-then}
 use Rattle.types.specs.Pick.{both}
-use Rattle.types.proofs.Picks.{both-left, both-then}
 use Rattle.machine.specs.Operation.{digitsOf, mostOf, leading}
 
 -- a list from a place on

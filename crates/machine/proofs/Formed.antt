@@ -1,22 +1,13 @@
 -- A row in form holds the words of the machine that it says. Assumes nothing.
-use Prim.Native.Nat.{ℕ, zero, suc, _+_, _^_, _≤_, _<_}
-use mathlib.Core.Path.{_≡_, refl, sym, ap, _∙_}
-use mathlib.Core.Bool.{true}
-use mathlib.Core.List.{List, [], _∷_, _++_}
-use native.Mathlib.Omega.{arith}
-use lib.ListN.{length, getD}
-use borrow.Author.Tests.{leb-true, ltb-true}
-use Rattle.types.specs.Span.{over, cut}
-use Rattle.types.specs.IndexType.{is64, indexOf}
-use Rattle.types.proofs.Picks.{both-1, both-2}
+use Rattle.types.proofs.Prelude.{ℕ, zero, suc, _+_, _^_, _≤_, _<_, _≡_, refl, sym, ap, _∙_, true, List, [], _∷_, _++_, arith, length, getD, leb-true, ltb-true}
+use Rattle.types.proofs.Prelude.{both-1, both-2}
+use Rattle.types.specs.{Span.over, Span.cut, IndexType.is64, IndexType.indexOf}
 use Rattle.machine.specs.Words.{recordLength, segmentLength, tablesAt, segmentsAt, countsAt, fuelAt, limiterAt, scriptAt, rowLength}
 use Rattle.machine.specs.Words.{yesWord, saysYes, isWasm, pageOf, isExtern, elementOf, wordsOf}
 use Rattle.machine.specs.Words.{memoryWords, tableWords, segmentWords, countWords, fuelWords, placeWords}
 use Rattle.machine.specs.Words.{limitsFrom, memoryFrom, tableFrom, segmentFrom, recordsFrom, countsFrom, costFrom, answerFrom, fuelFrom, limiterFrom, machineFrom}
-use Rattle.machine.specs.Words.{allAt, flagAt, costAt, answerAt, recordInForm, fuelInForm, inForm}
-use Rattle.machine.specs.stages.Rows.{Holds}
-use Rattle.machine.proofs.Rows.{join}
-use Rattle.machine.proofs.Places.{cut-add, cut-next, cut-nothing, over-cut, rows-cut}
+use Rattle.machine.specs.{Words.allAt, Words.flagAt, Words.costAt, Words.answerAt, Words.recordInForm, Words.fuelInForm, Words.inForm, stages.Rows.Holds}
+use Rattle.machine.proofs.{Rows.join, Places.cut-add, Places.cut-next, Places.cut-nothing, Places.over-cut, Places.rows-cut}
 
 -- a flag comes back, whatever it says
 flag-word : (n : ℕ) → n ≤ 1 → yesWord (saysYes n) ≡ n

@@ -1,24 +1,13 @@
 -- A row that a machine's words were put to is in form, where the machine is one that a program holds and its script's answers are at most 2. Assumes nothing.
-use Prim.Native.Nat.{ℕ, _+_, _≤_}
-use mathlib.Core.Path.{_≡_, refl, sym, ap, _∙_}
-use mathlib.Core.Bool.{Bool, true, false}
-use mathlib.Core.List.{List, _++_}
-use native.Mathlib.Omega.{arith}
-use lib.Dec.{leb}
-use lib.ListN.{length, getD, drop}
-use borrow.Author.Tests.{le-leb, lt-ltb}
-use Rattle.types.specs.Pick.{both}
-use Rattle.types.specs.Span.{over}
-use Rattle.types.specs.IndexType.{is64}
-use Rattle.types.proofs.Picks.{both-true}
+use Rattle.types.proofs.Prelude.{ℕ, _+_, _≤_, _≡_, refl, sym, ap, _∙_, Bool, true, false, List, _++_, arith, leb, length, getD, drop, le-leb, lt-ltb, both-true}
 use Rattle.types.proofs.Spans.{length-over}
+use Rattle.types.specs.{Pick.both, Span.over, IndexType.is64}
 use Rattle.memory.specs.declared.memory.Memory.{Memory}
 use Rattle.table.specs.declared.table.Table.{Table}
 use Rattle.machine.specs.Machine.{noMemory, noTable, noSegment}
 use Rattle.machine.specs.Words.{recordLength, segmentLength, tablesAt, segmentsAt, scriptAt, rowLength, yesWord, isWasm, isExtern, rowsOf, wordsOf}
 use Rattle.machine.specs.Words.{memoryWords, tableWords, segmentWords, countWords, fuelWords, placeWords, allAt, flagAt, answerAt, recordInForm, fuelInForm, inForm}
-use Rattle.machine.specs.stages.Rows.{Shaped}
-use Rattle.machine.specs.declared.records.Machine.{Machine}
+use Rattle.machine.specs.{stages.Rows.Shaped, declared.records.Machine.Machine}
 use Rattle.machine.proofs.Back.{placed, placed-same, words-length}
 
 -- a yes or no is 0 or 1

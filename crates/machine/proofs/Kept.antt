@@ -1,22 +1,12 @@
 -- What every operation keeps: a sound machine stays sound, buffers keep their lengths, and on an unsound machine nothing changes. Assumes nothing.
-use Prim.Native.Nat.{ℕ}
-use mathlib.Core.Path.{_≡_, refl, sym, ap, subst, _∙_}
-use mathlib.Core.Bool.{Bool, true, false}
-use mathlib.Core.List.{List, [], _∷_}
-use native.Mathlib.Omega.{arith}
-use lib.ListN.{length, replicate, length-replicate}
-use Rattle.types.proofs.Picks.{pick-true, pick-false, either}
+use Rattle.types.proofs.Prelude.{ℕ, _≡_, refl, sym, ap, subst, _∙_, Bool, true, false, List, [], _∷_, arith, length, replicate, length-replicate, pick-true}
+use Rattle.types.proofs.Prelude.{pick-false, either}
 use Rattle.types.specs.declared.fuel.FuelCosts.{FuelCosts}
 use Rattle.machine.specs.Machine.{Buffers, noMemory, noTable, noSegment, freshMachine}
-use Rattle.machine.specs.Sound.{soundMemories, soundTables, soundSegments, soundReferences, soundOver}
-use Rattle.machine.specs.Operation.{wellFormed}
-use Rattle.machine.specs.Outcome.{changed, settled}
-use Rattle.machine.specs.Step.{Performed, decide, step, run}
-use Rattle.machine.specs.declared.records.Machine.{Machine}
+use Rattle.machine.specs.{Sound.soundMemories, Sound.soundTables, Sound.soundSegments, Sound.soundReferences, Sound.soundOver, Operation.wellFormed}
+use Rattle.machine.specs.{Outcome.changed, Outcome.settled, Step.Performed, Step.decide, Step.step, Step.run, declared.records.Machine.Machine}
 use Rattle.machine.specs.declared.operation.Operation.{Operation}
-use Rattle.machine.proofs.ListLaws.{none-sound}
-use Rattle.machine.proofs.Rooms.{parts, whole}
-use Rattle.machine.proofs.Touched.{Touched, step-touched}
+use Rattle.machine.proofs.{ListLaws.none-sound, Rooms.parts, Rooms.whole, Touched.Touched, Touched.step-touched}
 
 -- a machine that was touched as an operation may is sound
 touched-sound : (m : Machine) (b : Buffers) (op : Operation) (m′ : Machine) (b′ : Buffers) → soundOver m b ≡ true → Touched m b op m′ b′ → soundOver m′ b′ ≡ true

@@ -1,10 +1,6 @@
 -- Laws of a test on an instance's number, and of a value with two parts. Assumes nothing.
-use Prim.Native.Nat.{ℕ, _≤_, _<_}
-use mathlib.Core.Path.{_≡_, sym, ap, _∙_}
-use lib.Dec.{ltb}
-use borrow.Author.Tests.{lt-ltb, le-ltb}
+use Rattle.types.proofs.Prelude.{ℕ, _≤_, _<_, _≡_, sym, ap, _∙_, ltb, lt-ltb, le-ltb, pick-true, pick-false}
 use Rattle.types.specs.Pick.{pick}
-use Rattle.types.proofs.Picks.{pick-true, pick-false}
 
 -- a number that is not in use
 pub unknown : {A : Type 0} {a x : A} (y : A) (i n : ℕ) → n ≤ i → a ≡ x → a ≡ pick (ltb i n) y x

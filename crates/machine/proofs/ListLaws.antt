@@ -1,15 +1,8 @@
 -- Laws of sound lists of records, over any kind of record: each record is sound; a record replaced, a record added; rooms lie apart. Assumes nothing.
-use Prim.Native.Nat.{ℕ, zero, suc, _+_, _-_, _≤_, _<_}
-use mathlib.Core.Path.{_≡_, refl, sym, ap, subst, _∙_}
-use mathlib.Core.Bool.{Bool, true, false}
-use mathlib.Core.List.{List, [], _∷_}
-use native.Mathlib.Omega.{arith}
-use native.Mathlib.Numerals.{add-one}
-use lib.Dec.{eqb}
-use lib.ListN.{length, take, getD, set, length-set}
-use borrow.Author.Tests.{le-leb, leb-true, eq-eqb, eqb-true, eqb-false, ne-eqb}
+use Rattle.types.proofs.Prelude.{ℕ, zero, suc, _+_, _-_, _≤_, _<_, _≡_, refl, sym, ap, subst, _∙_, Bool, true, false, List, [], _∷_, arith, add-one, eqb}
+use Rattle.types.proofs.Prelude.{length, take, getD, set, length-set, le-leb, leb-true, eq-eqb, eqb-true, eqb-false, ne-eqb, pick-true, pick-false, both-true}
+use Rattle.types.proofs.Prelude.{both-1, both-2, either}
 use Rattle.types.specs.Pick.{pick}
-use Rattle.types.proofs.Picks.{pick-true, pick-false, both-true, both-1, both-2, either}
 use Rattle.machine.specs.Sound.{follow, soundList}
 
 module _ {A : Type 0} (sound : A → Bool) (start end : A → ℕ) where

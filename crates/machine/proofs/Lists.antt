@@ -1,14 +1,8 @@
 -- Laws of record lists whose rooms follow each other, over any kind of record. Assumes nothing.
-use Prim.Native.Nat.{ℕ, zero, suc, _+_, _≤_, _<_}
-use mathlib.Core.Path.{_≡_, refl, sym, ap, _∙_}
-use mathlib.Core.Bool.{Bool, true, false}
-use mathlib.Core.List.{List, [], _∷_}
-use native.Mathlib.Omega.{arith}
-use lib.Dec.{eqb}
-use lib.ListN.{length, take, drop, getD, List·getD-eq-default}
-use borrow.Author.Tests.{le-leb, lt-leb, eq-eqb, ne-eqb}
+use Rattle.types.proofs.Prelude.{ℕ, zero, suc, _+_, _≤_, _<_, _≡_, refl, sym, ap, _∙_, Bool, true, false, List, [], _∷_, arith, eqb, length, take, drop, getD}
+use Rattle.types.proofs.Prelude.{le-leb, lt-leb, eq-eqb, ne-eqb, both-left, both-right, both-then}
+use lib.ListN.{List·getD-eq-default}
 use Rattle.types.specs.Pick.{both}
-use Rattle.types.proofs.Picks.{both-left, both-right, both-then}
 use Rattle.machine.specs.Sound.{follow, soundList}
 
 -- past its places a list has nothing

@@ -1,15 +1,9 @@
 -- Laws of records in a row: each stands at its place, its words are a cut of the row, and a record written to its place is one of the list. Assumes nothing.
-use Prim.Native.Nat.{ℕ, zero, suc, _+_, _*_, _≤_, _<_}
-use mathlib.Core.Path.{_≡_, refl, sym, ap, _∙_}
-use mathlib.Core.Bool.{Bool, true, false}
-use mathlib.Core.List.{List, [], _∷_, _++_, append-assoc}
-use native.Mathlib.Omega.{arith}
-use lib.ListN.{length, take, drop, set, getD, length-take, take-append-drop}
-use lib.Seq.{take-add, drop-drop, drop-cons, drop-append-add}
-use Rattle.types.specs.Pick.{both}
-use Rattle.types.specs.Span.{over, cut}
-use Rattle.types.proofs.Picks.{both-1, both-2}
+use Rattle.types.proofs.Prelude.{ℕ, zero, suc, _+_, _*_, _≤_, _<_, _≡_, refl, sym, ap, _∙_, Bool, true, false, List, [], _∷_, _++_, append-assoc, arith, length}
+use Rattle.types.proofs.Prelude.{take, drop, set, getD, length-take, drop-drop, drop-cons, both-1, both-2}
 use Rattle.types.proofs.Spans.{length-over}
+use lib.{ListN.take-append-drop, Seq.take-add, Seq.drop-append-add}
+use Rattle.types.specs.{Pick.both, Span.over, Span.cut}
 use Rattle.machine.specs.Words.{rowsOf, recordsFrom, allAt}
 use Rattle.machine.proofs.Rows.{over-all}
 

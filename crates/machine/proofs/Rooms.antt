@@ -1,15 +1,8 @@
 -- Laws of a sound machine: its parts, its instances, and that the next room starts inside its buffer. Assumes nothing.
-use Prim.Native.Nat.{ℕ, _≤_, _<_}
-use mathlib.Core.Path.{_≡_}
-use mathlib.Core.Bool.{true}
-use Rattle.types.proofs.Picks.{both-true, both-1, both-2}
-use Rattle.memory.specs.Memory.{soundMemory}
-use Rattle.memory.specs.declared.memory.Memory.{Memory}
+use Rattle.types.proofs.Prelude.{ℕ, _≤_, _<_, _≡_, true, both-true, both-1, both-2}
+use Rattle.memory.specs.{Memory.soundMemory, declared.memory.Memory.Memory}
 use Rattle.memory.proofs.Sounds.{sound-is}
-use Rattle.table.specs.Table.{soundTable}
-use Rattle.table.specs.Element.{soundSegment}
-use Rattle.table.specs.declared.table.Table.{Table}
-use Rattle.table.specs.declared.element.ElementSegment.{ElementSegment}
+use Rattle.table.specs.{Table.soundTable, Element.soundSegment, declared.table.Table.Table, declared.element.ElementSegment.ElementSegment}
 use Rattle.table.proofs.Sounds.{sound-room, segment-room}
 use Rattle.machine.specs.Machine.{memoryAt, tableAt, segmentAt, noMemory, noTable, noSegment, nextByte, nextCell, nextItem}
 use Rattle.machine.specs.Sound.{soundMemories, soundTables, soundSegments, soundReferences, soundMachine}

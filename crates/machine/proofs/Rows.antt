@@ -1,14 +1,9 @@
 -- Laws of rows of words that are written piece by piece. Assumes nothing.
-use Prim.Native.Nat.{ℕ, zero, suc, _+_, _*_, _≤_, _<_}
-use mathlib.Core.Path.{_≡_, refl, sym, ap, _∙_}
-use mathlib.Core.List.{List, [], _∷_, _++_, append-assoc, append-nil}
-use native.Mathlib.Omega.{arith}
-use native.Mathlib.Numerals.{add-one}
-use lib.ListN.{length, take, set, getD, length-append, drop-of-length-le}
-use lib.Seq.{take-all, length-take-le}
-use Rattle.types.specs.Span.{over}
-use Rattle.types.proofs.Spans.{over-nil, over-over}
+use Rattle.types.proofs.Prelude.{ℕ, zero, suc, _+_, _*_, _≤_, _<_, _≡_, refl, sym, ap, _∙_, List, [], _∷_, _++_, append-assoc, append-nil, arith, add-one}
+use Rattle.types.proofs.{Prelude.length, Prelude.take, Prelude.set, Prelude.getD, Prelude.length-append, Prelude.take-all, Spans.over-nil, Spans.over-over}
 use Rattle.types.proofs.Moves.{put-more}
+use lib.{ListN.drop-of-length-le, Seq.length-take-le}
+use Rattle.types.specs.Span.{over}
 use Rattle.machine.specs.Words.{rowsOf}
 
 -- a loop that writes a row word by word: before it, a turn, after it

@@ -1,46 +1,25 @@
 -- What an operation writes to a row that holds its machine's words are the words of the machine after it, and the row then says that machine. Assumes nothing.
-use Prim.Native.Nat.{ℕ, _+_, _*_, _≤_, _<_}
-use mathlib.Core.Path.{_≡_, refl, sym, ap, subst, _∙_}
-use mathlib.Core.Bool.{Bool, true, false, false≢true}
-use mathlib.Core.List.{List, _++_}
-use native.Mathlib.Omega.{arith}
-use lib.Dec.{ltb}
-use lib.ListN.{length, set, length-set}
-use borrow.Author.Tests.{ltb-true, leb-true, le-leb, lt-leb}
-use Rattle.types.specs.Pick.{pick}
-use Rattle.types.specs.Span.{over}
-use Rattle.types.specs.Raw.{rawBytes}
-use Rattle.types.specs.declared.fuel.Fuel.{Fuel}
-use Rattle.types.specs.declared.limiter.Limiter.{Limiter}
-use Rattle.types.specs.Answer.{refuse}
-use Rattle.types.proofs.Picks.{pick-true, pick-false, both-true, both-left, both-right, both-1, both-2, either}
+use Rattle.types.proofs.Prelude.{ℕ, _+_, _*_, _≤_, _<_, _≡_, refl, sym, ap, subst, _∙_, Bool, true, false, false≢true, List, _++_, arith, ltb, length, set}
+use Rattle.types.proofs.Prelude.{length-set, ltb-true, leb-true, le-leb, lt-leb, pick-true, pick-false, both-true, both-left, both-right, both-1, both-2}
+use Rattle.types.proofs.Prelude.{either}
+use Rattle.types.specs.{Pick.pick, Span.over, Raw.rawBytes, declared.fuel.Fuel.Fuel, declared.limiter.Limiter.Limiter, Answer.refuse}
 use Rattle.memory.specs.declared.memory.Memory.{Memory}
-use Rattle.table.specs.declared.table.Table.{Table}
-use Rattle.table.specs.declared.element.ElementSegment.{ElementSegment}
-use Rattle.machine.specs.Machine.{Buffers, noMemory, noTable, noSegment}
-use Rattle.machine.specs.Sound.{soundOver}
-use Rattle.machine.specs.Operation.{wellFormed}
+use Rattle.table.specs.{declared.table.Table.Table, declared.element.ElementSegment.ElementSegment}
+use Rattle.machine.specs.{Machine.Buffers, Machine.noMemory, Machine.noTable, Machine.noSegment, Sound.soundOver, Operation.wellFormed}
 use Rattle.machine.specs.Outcome.{keeps, withMemories, withTables, withSegments, changed, settled}
 use Rattle.machine.specs.Step.{Stepped, onNone, after, perform, decide, step}
 use Rattle.machine.specs.Words.{recordLength, segmentLength, tablesAt, segmentsAt, countsAt, rowLength}
 use Rattle.machine.specs.Words.{memoryWords, tableWords, segmentWords, rowsOf, instanceWords, standingWords, stateWords, wordsOf, machineFrom, inForm}
 use Rattle.machine.specs.Row.{InRow, rowKeeps, rowAfter, operateRow}
 use Rattle.machine.specs.stages.Rows.{Inside, endsInside, Fits, Shaped, changedRow, writesOf, settledRow, rowSettled, Goes, Holds, proceedRow, Steps, Proceeds}
-use Rattle.machine.specs.declared.records.Machine.{Machine}
-use Rattle.machine.specs.declared.records.Counts.{Counts}
-use Rattle.machine.specs.declared.outcome.Outcome.{Outcome}
-use Rattle.machine.specs.declared.outcome.Change.{Change}
-use Rattle.machine.specs.declared.outcome.Change.the-variants as change
-use Rattle.machine.specs.declared.operation.Operation.{Operation}
-use Rattle.machine.specs.declared.operation.Writes.{Writes}
-use Rattle.machine.specs.declared.operation.Writes.the-variants as writes
+use Rattle.machine.specs.{declared.records.Machine.Machine, declared.records.Counts.Counts, declared.outcome.Outcome.Outcome}
+use Rattle.machine.specs.{declared.outcome.Change.Change, declared.operation.Operation.Operation, declared.operation.Writes.Writes}
 use Rattle.machine.proofs.Lengths.{length-memory, length-table, length-segment, length-standing}
-use Rattle.machine.proofs.Rows.{rows-length, length-both, over-all}
-use Rattle.machine.proofs.Places.{over-left, over-right, over-in, rows-set}
-use Rattle.machine.proofs.Back.{row-back, shaped-from}
-use Rattle.machine.proofs.Formed.{form-holds}
-use Rattle.machine.proofs.Written.{Left, left}
+use Rattle.machine.proofs.{Rows.rows-length, Rows.length-both, Rows.over-all, Places.over-left, Places.over-right, Places.over-in, Places.rows-set}
+use Rattle.machine.proofs.{Back.row-back, Back.shaped-from, Formed.form-holds, Written.Left, Written.left}
 use Rattle.machine.proofs.Rooms.{next-byte-inside, next-cell-inside, next-item-inside}
+use Rattle.machine.specs.declared.outcome.Change.the-variants as change
+use Rattle.machine.specs.declared.operation.Writes.the-variants as writes
 
 -- how long the parts are
 state-long : (k : Counts) (f : Fuel) (p : Limiter) → length (p .script) ≡ 16 → length (stateWords k f p) ≡ 26

@@ -1,34 +1,17 @@
 -- On a row in form the two sizes are what the operations 12 and 22 answer, refusals too. Assumes nothing.
-use Prim.Native.Nat.{ℕ, zero, suc, _+_, _*_, _<_}
-use mathlib.Core.Path.{_≡_, refl, sym, ap, _∙_}
-use mathlib.Core.Bool.{Bool, true}
-use mathlib.Core.List.{List}
-use native.Mathlib.Omega.{arith}
-use lib.Dec.{leb, ltb}
-use lib.ListN.{length}
-use borrow.Author.Tests.{ltb-true, leb-true, le-leb}
-use Rattle.types.specs.Pick.{unless}
-use Rattle.types.specs.Answer.{refuse}
-use Rattle.types.specs.Done.{Done}
-use Rattle.types.specs.declared.answer.Answer.{Answer}
-use Rattle.types.proofs.Picks.{pick-true, pick-false, both-1, both-2, either}
-use Rattle.machine.specs.Machine.{Buffers}
-use Rattle.machine.specs.Sound.{soundList, soundMemories, soundTables, soundMachine, soundOver}
-use Rattle.machine.specs.Operation.{wellFormed, memoryWellFormed}
-use Rattle.machine.specs.Memories.{performMemory, onMemory}
-use Rattle.machine.specs.Tables.{performTable, onTable}
-use Rattle.machine.specs.Step.{Stepped, perform, step}
+use Rattle.types.proofs.Prelude.{ℕ, zero, suc, _+_, _*_, _<_, _≡_, refl, sym, ap, _∙_, Bool, true, List, arith, leb, ltb, length, ltb-true, leb-true, le-leb}
+use Rattle.types.proofs.Prelude.{pick-true, pick-false, both-1, both-2, either}
+use Rattle.types.specs.{Pick.unless, Answer.refuse, Done.Done, declared.answer.Answer.Answer}
+use Rattle.machine.specs.{Machine.Buffers, Sound.soundList, Sound.soundMemories, Sound.soundTables, Sound.soundMachine, Sound.soundOver}
+use Rattle.machine.specs.{Operation.wellFormed, Operation.memoryWellFormed, Memories.performMemory, Memories.onMemory}
+use Rattle.machine.specs.{Tables.performTable, Tables.onTable, Step.Stepped, Step.perform, Step.step}
 use Rattle.machine.specs.Words.{recordLength, tablesAt, rowLength, machineFrom, allAt, recordInForm, inForm}
-use Rattle.machine.specs.Row.{rowPages, rowCells}
-use Rattle.machine.specs.declared.records.Machine.{Machine}
-use Rattle.machine.specs.declared.outcome.Outcome.{Outcome}
+use Rattle.machine.specs.{Row.ifSound, Row.rowPages, Row.rowCells, declared.records.Machine.Machine, declared.outcome.Outcome.Outcome}
 use Rattle.machine.specs.declared.operation.Operation.{Operation}
+use Rattle.machine.proofs.{Formed.form-long, Rooms.parts, Settling.goes, Settling.unsound-stops}
 use Rattle.machine.specs.declared.operation.Operation.the-variants as op
 use Rattle.machine.specs.declared.operation.MemoryOp.the-variants as memory
 use Rattle.machine.specs.declared.operation.TableOp.the-variants as table
-use Rattle.machine.proofs.Formed.{form-long}
-use Rattle.machine.proofs.Rooms.{parts}
-use Rattle.machine.proofs.Settling.{goes, unsound-stops}
 
 -- a test that holds at some places holds at each of them
 all-each : (t : List ℕ → ℕ → Bool) (w : ℕ) (l : List ℕ) (a n i p : ℕ) → i < n → p ≡ a + w * i → allAt t w l a n ≡ true → t l p ≡ true
@@ -69,7 +52,8 @@ module _ (r : ℕ) (l : List ℕ) (b : Buffers) (i : ℕ) (f : inForm l ≡ true
 
   -- a size's own checks on a sound machine, and 19 on an unsound one, are those of an operation that says nothing wrong
   as-answered : (o : Operation) (a : Answer) → wellFormed o ≡ true → (soundOver m b ≡ true → a ≡ perform r m b o .out .answer)
-      → unless (leb rowLength (length l)) (refuse 19 0) (unless (soundOver m b) (refuse 19 0) a) ≡ step r m b o .answer
+      → ifSound l (length (b .bytes)) (length (b .cells)) (length (b .items)) a ≡ step r m b o .answer
+  unfolding ifSound
   as-answered o a w h =
       pick-true _ _ _ (le-leb rowLength (length l) (form-long l f))
       ∙ either (soundOver m b)

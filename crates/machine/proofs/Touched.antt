@@ -1,73 +1,42 @@
 -- What an operation does to records in use and to the cells of their rooms, over any kind of record; each operation touches its target alone. Assumes nothing.
-use Prim.Native.Nat.{ℕ, _+_, _-_, _≤_, _<_}
-use mathlib.Core.Path.{_≡_, refl, sym, ap, subst, _∙_}
-use mathlib.Core.Bool.{Bool, true, false}
-use mathlib.Core.List.{List}
-use mathlib.Core.Logic.{_⊎_, inl, inr}
-use native.Mathlib.Omega.{arith}
-use lib.Dec.{eqb, ltb}
-use lib.ListN.{length, take, drop, getD, set}
-use lib.Seq.{take-take, drop-drop, getD-set-same, getD-set-other}
-use borrow.Author.Tests.{lt-ltb, eqb-true, eqb-false, ltb-true, ltb-false}
-use Rattle.types.specs.Pick.{pick}
-use Rattle.types.specs.Span.{cut}
-use Rattle.types.specs.Done.{Done}
-use Rattle.types.specs.declared.fuel.Fuel.{Fuel}
-use Rattle.types.specs.declared.limiter.Limiter.{Limiter}
-use Rattle.types.specs.declared.raw.RefType.{RefType}
-use Rattle.types.specs.declared.raw.TypedRawRef.{TypedRawRef}
-use Rattle.memory.specs.declared.grow.GrownMemory.{GrownMemory}
-use Rattle.memory.specs.declared.new.CreatedMemory.{CreatedMemory}
-use Rattle.table.specs.declared.grow.GrownTable.{GrownTable}
-use Rattle.table.specs.declared.new.CreatedTable.{CreatedTable}
-use Rattle.types.specs.declared.memory_ty.MemoryType.{MemoryType}
-use Rattle.types.specs.declared.memory_ty.WantedMemory.{WantedMemory}
-use Rattle.types.specs.declared.span.CopySpan.{CopySpan}
-use Rattle.types.specs.declared.table_ty.WantedTable.{WantedTable}
-use Rattle.types.proofs.Picks.{pick-true, both-1, either}
+use Rattle.types.proofs.Prelude.{ℕ, _+_, _-_, _≤_, _<_, _≡_, refl, sym, ap, subst, _∙_, Bool, true, false, List, arith, eqb, ltb, length, take, drop, getD, set}
+use Rattle.types.proofs.Prelude.{drop-drop, lt-ltb, eqb-true, eqb-false, ltb-true, ltb-false, pick-true, both-1, either}
 use Rattle.types.proofs.Spans.{length-over, over-low, over-after, cut-of}
-use Rattle.memory.specs.Memory as of-memory
-use Rattle.memory.specs.Memory.{soundMemory}
-use Rattle.memory.specs.declared.memory.Memory.{Memory}
-use Rattle.memory.specs.New.{newMemory}
-use Rattle.memory.specs.Grow.{growMemory}
-use Rattle.memory.specs.declared.new.MadeMemory.{MadeMemory}
-use Rattle.memory.specs.declared.new.MadeMemory.the-variants as made-memory
+use mathlib.Core.Logic.{_⊎_, inl, inr}
+use lib.Seq.{take-take, getD-set-same, getD-set-other}
+use Rattle.types.specs.{Pick.pick, Span.cut, Done.Done, declared.fuel.Fuel.Fuel, declared.limiter.Limiter.Limiter, declared.raw.RefType.RefType}
+use Rattle.types.specs.{declared.raw.TypedRawRef.TypedRawRef, declared.memory_ty.MemoryType.MemoryType, declared.memory_ty.WantedMemory.WantedMemory}
+use Rattle.types.specs.{declared.span.CopySpan.CopySpan, declared.table_ty.WantedTable.WantedTable}
+use Rattle.memory.specs.{declared.grow.GrownMemory.GrownMemory, declared.new.CreatedMemory.CreatedMemory, Memory.soundMemory, declared.memory.Memory.Memory}
+use Rattle.memory.specs.{New.newMemory, Grow.growMemory, declared.new.MadeMemory.MadeMemory}
+use Rattle.table.specs.{declared.grow.GrownTable.GrownTable, declared.new.CreatedTable.CreatedTable, Table.soundTable, New.newTable, Grow.growTable}
+use Rattle.table.specs.{Element.dropped, Element.newSegment, Element.soundSegment, declared.new.MadeTable.MadeTable, declared.element.MadeSegment.MadeSegment}
+use Rattle.table.specs.{declared.table.Table.Table, declared.element.ElementSegment.ElementSegment}
 use Rattle.memory.proofs.Sounds.{sound-is}
-use Rattle.memory.proofs.Frames as memory-frames
-use Rattle.table.specs.Table as of-table
-use Rattle.table.specs.Table.{soundTable}
-use Rattle.table.specs.New.{newTable}
-use Rattle.table.specs.Grow.{growTable}
-use Rattle.table.specs.Element.{dropped, newSegment, soundSegment}
-use Rattle.table.specs.declared.new.MadeTable.{MadeTable}
-use Rattle.table.specs.declared.new.MadeTable.the-variants as made-table
-use Rattle.table.specs.declared.element.MadeSegment.{MadeSegment}
-use Rattle.table.specs.declared.element.MadeSegment.the-variants as made-segment
-use Rattle.table.specs.declared.table.Table.{Table}
-use Rattle.table.specs.declared.element.ElementSegment.{ElementSegment}
 use Rattle.table.proofs.Frames.{Kept, dropped-sound}
-use Rattle.table.proofs.Frames as table-frames
 use Rattle.machine.specs.Machine.{Buffers, buffers, noMemory, noTable, noSegment, memoryAt, tableAt, segmentAt, nextByte, nextCell, nextItem}
 use Rattle.machine.specs.Sound.{soundList, soundMemories, soundTables, soundSegments, soundOver}
 use Rattle.machine.specs.Frame.{InMemory, InTable, InSegment, NewItems, targetOf}
 use Rattle.machine.specs.Outcome.{withMemories, withTables, withSegments, changed, standing, oneMemoryMore, oneTableMore, oneSegmentMore, settled}
-use Rattle.machine.specs.Operation.{wellFormed, itemsOf}
-use Rattle.machine.specs.Fueling.{onFuel}
+use Rattle.machine.specs.{Operation.wellFormed, Operation.itemsOf, Fueling.onFuel}
 use Rattle.machine.specs.Memories.{performMemory, onMemory, madeMemory, newMemoryOn}
 use Rattle.machine.specs.Tables.{performTable, onTable, madeTable, newTableOn, copyKnown, copyOn}
 use Rattle.machine.specs.Segments.{initOn, dropOn, madeSegment, newSegmentOn}
 use Rattle.machine.specs.Step.{Performed, onNone, onBytes, onCells, onItems, perform, decide, step}
-use Rattle.machine.specs.declared.records.Machine.{Machine}
-use Rattle.machine.specs.declared.outcome.Outcome.{Outcome}
-use Rattle.machine.specs.declared.outcome.Change.the-variants as change
-use Rattle.machine.specs.declared.operation.Operation.{Operation}
-use Rattle.machine.specs.declared.operation.Operation.the-variants as op
-use Rattle.machine.specs.declared.operation.MemoryOp.{MemoryOp}
-use Rattle.machine.specs.declared.operation.MemoryOp.the-variants as memory
-use Rattle.machine.specs.declared.operation.TableOp.{TableOp}
-use Rattle.machine.specs.declared.operation.TableOp.the-variants as table
+use Rattle.machine.specs.{declared.records.Machine.Machine, declared.outcome.Outcome.Outcome, declared.operation.Operation.Operation}
+use Rattle.machine.specs.{declared.operation.MemoryOp.MemoryOp, declared.operation.TableOp.TableOp}
 use Rattle.machine.proofs.Rooms.{Parts, parts, memory-sound, table-sound, segment-sound}
+use Rattle.memory.specs.Memory as of-memory
+use Rattle.memory.specs.declared.new.MadeMemory.the-variants as made-memory
+use Rattle.memory.proofs.Frames as memory-frames
+use Rattle.table.specs.Table as of-table
+use Rattle.table.specs.declared.new.MadeTable.the-variants as made-table
+use Rattle.table.specs.declared.element.MadeSegment.the-variants as made-segment
+use Rattle.table.proofs.Frames as table-frames
+use Rattle.machine.specs.declared.outcome.Change.the-variants as change
+use Rattle.machine.specs.declared.operation.Operation.the-variants as op
+use Rattle.machine.specs.declared.operation.MemoryOp.the-variants as memory
+use Rattle.machine.specs.declared.operation.TableOp.the-variants as table
 use Rattle.machine.proofs.ListLaws as lists
 
 -- spans that lie apart from the cells that may differ are as they were

@@ -1,5 +1,5 @@
 -- Uniqueness: each public function's contract names one answer, and one content of what it is lent to write, for each input. Assumes nothing.
-use mathlib.Core.Path.{sym, _∙_, ap}
+use Rattle.types.proofs.Prelude.{sym, _∙_, ap, List, ℕ, now}
 use Rattle.types.proofs.One.{One, OneWith}
 use Rattle.machine.proofs.fields.hand_script.Reads as hand-script-reads
 use Rattle.machine.proofs.fields.hand_script.Kinds as hand-script-kinds
@@ -29,9 +29,6 @@ use Rattle.machine.specs.Row.{Rowed, InRow}
 use Rattle.types.specs.Done.{Done}
 use Rattle.memory.specs.declared.grow.GrownMemory.{GrownMemory}
 use Rattle.table.specs.declared.grow.GrownTable.{GrownTable}
-use mathlib.Core.List.{List}
-use Prim.Native.Nat.{ℕ}
-use denote.Ref.{now}
 use Rattle.machine.specs.Machine.{Buffers, buffers}
 use Rattle.machine.specs.Step.{Performed}
 use Rattle.machine.proofs.records.Machine.new.Reads as new-reads

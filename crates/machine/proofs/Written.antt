@@ -1,56 +1,31 @@
 -- Which words an operation leaves: no record changes but by a creation, a growth or a drop, no answer of the script but by handing one over. Assumes nothing.
-use Prim.Native.Nat.{ℕ}
-use mathlib.Core.Path.{_≡_, refl, ap}
-use mathlib.Core.Bool.{Bool, true, false}
-use mathlib.Core.List.{List}
-use lib.Dec.{ltb}
+use Rattle.types.proofs.Prelude.{ℕ, _≡_, refl, ap, Bool, true, false, List, ltb}
 use lib.Seq.{set-getD}
-use Rattle.types.specs.Pick.{pick}
-use Rattle.types.specs.Done.{Done}
-use Rattle.types.specs.Limiter.{moved}
-use Rattle.types.specs.declared.fuel.Fuel.{Fuel}
-use Rattle.types.specs.declared.fuel.FuelStep.{FuelStep}
-use Rattle.types.specs.declared.fuel.FuelStep.the-variants as step
-use Rattle.types.specs.declared.limiter.Limiter.{Limiter}
-use Rattle.types.specs.declared.memory_ty.WantedMemory.{WantedMemory}
-use Rattle.types.specs.declared.table_ty.WantedTable.{WantedTable}
-use Rattle.types.specs.declared.raw.TypedRawRef.{TypedRawRef}
-use Rattle.memory.specs.New.{newMemory}
-use Rattle.memory.specs.Grow.{growMemory}
-use Rattle.memory.specs.declared.memory.Memory.{Memory}
-use Rattle.memory.specs.declared.grow.GrownMemory.{GrownMemory}
-use Rattle.memory.specs.declared.new.MadeMemory.{MadeMemory}
-use Rattle.memory.specs.declared.new.MadeMemory.the-variants as made-memory
-use Rattle.memory.specs.declared.new.CreatedMemory.{CreatedMemory}
-use Rattle.table.specs.New.{newTable}
-use Rattle.table.specs.Grow.{growTable}
-use Rattle.table.specs.declared.table.Table.{Table}
-use Rattle.table.specs.declared.grow.GrownTable.{GrownTable}
-use Rattle.table.specs.declared.new.MadeTable.{MadeTable}
-use Rattle.table.specs.declared.new.MadeTable.the-variants as made-table
-use Rattle.table.specs.declared.new.CreatedTable.{CreatedTable}
-use Rattle.table.specs.declared.element.MadeSegment.{MadeSegment}
-use Rattle.table.specs.declared.element.MadeSegment.the-variants as made-segment
+use Rattle.types.specs.{Pick.pick, Done.Done, Limiter.moved, declared.fuel.Fuel.Fuel, declared.fuel.FuelStep.FuelStep, declared.limiter.Limiter.Limiter}
+use Rattle.types.specs.{declared.memory_ty.WantedMemory.WantedMemory, declared.table_ty.WantedTable.WantedTable, declared.raw.TypedRawRef.TypedRawRef}
+use Rattle.memory.specs.{New.newMemory, Grow.growMemory, declared.memory.Memory.Memory, declared.grow.GrownMemory.GrownMemory}
+use Rattle.memory.specs.{declared.new.MadeMemory.MadeMemory, declared.new.CreatedMemory.CreatedMemory}
+use Rattle.table.specs.{New.newTable, Grow.growTable, declared.table.Table.Table, declared.grow.GrownTable.GrownTable, declared.new.MadeTable.MadeTable}
+use Rattle.table.specs.{declared.new.CreatedTable.CreatedTable, declared.element.MadeSegment.MadeSegment}
 use Rattle.machine.specs.Machine.{Buffers, memoryAt, tableAt, noMemory, noTable}
 use Rattle.machine.specs.Outcome.{withMemories, withTables, changed}
 use Rattle.machine.specs.Fueling.{setBy, chargedBy, performFuel, onFuel}
 use Rattle.machine.specs.Memories.{performMemory, onMemory, madeMemory, newMemoryOn}
 use Rattle.machine.specs.Tables.{performTable, onTable, copyKnown, copyOn, madeTable, newTableOn}
-use Rattle.machine.specs.Segments.{initOn, dropOn, madeSegment, newSegmentOn}
-use Rattle.machine.specs.Step.{perform}
+use Rattle.machine.specs.{Segments.initOn, Segments.dropOn, Segments.madeSegment, Segments.newSegmentOn, Step.perform}
 use Rattle.machine.specs.stages.Rows.{fuelWrites, memoryWrites, tableWrites, writesOf}
-use Rattle.machine.specs.declared.records.Machine.{Machine}
-use Rattle.machine.specs.declared.outcome.Outcome.{Outcome}
-use Rattle.machine.specs.declared.outcome.Change.the-variants as change
-use Rattle.machine.specs.declared.operation.Writes.{Writes}
-use Rattle.machine.specs.declared.operation.Writes.the-variants as writes
-use Rattle.machine.specs.declared.operation.FuelOp.{FuelOp}
-use Rattle.machine.specs.declared.operation.FuelOp.the-variants as fuel
-use Rattle.machine.specs.declared.operation.MemoryOp.{MemoryOp}
-use Rattle.machine.specs.declared.operation.MemoryOp.the-variants as memory
-use Rattle.machine.specs.declared.operation.TableOp.{TableOp}
-use Rattle.machine.specs.declared.operation.TableOp.the-variants as table
+use Rattle.machine.specs.{declared.records.Machine.Machine, declared.outcome.Outcome.Outcome, declared.operation.Writes.Writes}
+use Rattle.machine.specs.{declared.operation.FuelOp.FuelOp, declared.operation.MemoryOp.MemoryOp, declared.operation.TableOp.TableOp}
 use Rattle.machine.specs.declared.operation.Operation.{Operation}
+use Rattle.types.specs.declared.fuel.FuelStep.the-variants as step
+use Rattle.memory.specs.declared.new.MadeMemory.the-variants as made-memory
+use Rattle.table.specs.declared.new.MadeTable.the-variants as made-table
+use Rattle.table.specs.declared.element.MadeSegment.the-variants as made-segment
+use Rattle.machine.specs.declared.outcome.Change.the-variants as change
+use Rattle.machine.specs.declared.operation.Writes.the-variants as writes
+use Rattle.machine.specs.declared.operation.FuelOp.the-variants as fuel
+use Rattle.machine.specs.declared.operation.MemoryOp.the-variants as memory
+use Rattle.machine.specs.declared.operation.TableOp.the-variants as table
 use Rattle.machine.specs.declared.operation.Operation.the-variants as op
 
 -- what holds on both ways of a test

@@ -48,18 +48,20 @@ operateRow r l b op =
 unfoldable pub fuelOf : List ℕ → Fuel
 fuelOf l = unless (leb rowLength (length l)) (newFuel false (record { copied = 0; translated = 0; validated = 0 })) (fuelFrom l)
 
--- sizes, over buffers of these lengths: 19 for a row that is too short, for unsound records or buffers; 16 for a number that no instance has;
--- 19 where that record's flags are out of form. The form of the rest is not tested
+-- over buffers of these lengths: 19 for a row that is too short, for unsound records or buffers
+unfoldable pub ifSound : List ℕ → ℕ → ℕ → ℕ → Answer → Answer
+ifSound l bytes cells items a =
+    unless (leb rowLength (length l)) (refuse 19 0) (unless (soundMachine (machineFrom l) bytes cells items) (refuse 19 0) a)
+
+-- sizes: then 16 for a number that no instance has, 19 where that record's flags are out of form; the form of the rest is not tested
 unfoldable pub rowPages : List ℕ → ℕ → ℕ → ℕ → ℕ → Answer
 rowPages l bytes cells items i =
-    unless (leb rowLength (length l)) (refuse 19 0)
-    (unless (soundMachine (machineFrom l) bytes cells items) (refuse 19 0)
+    ifSound l bytes cells items
     (unless (ltb i (machineFrom l .counts .memories)) (refuse 16 0)
-    (unless (recordInForm l (recordLength * i)) (refuse 19 0) (accept (pagesOf (memoryAt (machineFrom l) i))))))
+    (unless (recordInForm l (recordLength * i)) (refuse 19 0) (accept (pagesOf (memoryAt (machineFrom l) i)))))
 
 unfoldable pub rowCells : List ℕ → ℕ → ℕ → ℕ → ℕ → Answer
 rowCells l bytes cells items i =
-    unless (leb rowLength (length l)) (refuse 19 0)
-    (unless (soundMachine (machineFrom l) bytes cells items) (refuse 19 0)
+    ifSound l bytes cells items
     (unless (ltb i (machineFrom l .counts .tables)) (refuse 16 0)
-    (unless (recordInForm l (tablesAt + recordLength * i)) (refuse 19 0) (accept (tableAt (machineFrom l) i .size)))))
+    (unless (recordInForm l (tablesAt + recordLength * i)) (refuse 19 0) (accept (tableAt (machineFrom l) i .size))))

@@ -1,26 +1,10 @@
 -- Laws of an access: its address, and the bytes that a store leaves. Assumes nothing.
-use Prim.Native.Nat.{ℕ, _+_, _-_, _^_, _≤_, _<_}
-use mathlib.Core.Path.{_≡_, refl, sym, ap, _∙_}
-use mathlib.Core.Bool.{Bool, true, false}
-use mathlib.Core.List.{List}
-use native.Mathlib.Omega.{arith}
-use lib.Dec.{ltb}
-use lib.ListN.{length}
-use borrow.Author.Tests.{lt-ltb, le-ltb}
+use Rattle.types.proofs.Prelude.{ℕ, _+_, _-_, _^_, _≤_, _<_, _≡_, refl, sym, ap, _∙_, Bool, true, false, List, arith, ltb, length, lt-ltb, le-ltb, pick-true}
+use Rattle.types.proofs.{Prelude.pick-false, Spans.within-is, Moves.put-part}
 use borrow.Rule.Slice.PartMut.{putMid, midOf, mid-len}
-use Rattle.types.specs.Pick.{pick}
-use Rattle.types.specs.Done.{done}
-use Rattle.types.specs.Span.{inside, over}
-use Rattle.types.proofs.Picks.{pick-true, pick-false}
-use Rattle.types.proofs.Spans.{within-is}
-use Rattle.types.proofs.Moves.{put-part}
-use Rattle.memory.specs.LittleEndian.{leBytes}
-use Rattle.memory.specs.Access.{widthBytes, addressOf, storeWidth, storeFound}
-use Rattle.memory.specs.stages.Facts.{Found}
-use Rattle.types.specs.Answer.{accept}
-use Rattle.memory.specs.declared.access.Width.{Width}
-use Rattle.memory.specs.declared.access.StoreKind.{StoreKind}
-use Rattle.memory.specs.declared.access.Address.{Address}
+use Rattle.types.specs.{Pick.pick, Done.done, Span.inside, Span.over, Answer.accept}
+use Rattle.memory.specs.{LittleEndian.leBytes, Access.widthBytes, Access.addressOf, Access.storeWidth, Access.storeFound, stages.Facts.Found}
+use Rattle.memory.specs.{declared.access.Width.Width, declared.access.StoreKind.StoreKind, declared.access.Address.Address}
 use Rattle.memory.specs.declared.access.Address.the-variants.{At, Outside}
 use Rattle.memory.proofs.Bytes.{length-bytes}
 

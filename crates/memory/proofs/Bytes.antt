@@ -1,16 +1,10 @@
 -- Laws of numbers and their bytes, over the number of bytes. Assumes nothing.
-use mathlib.Core.Path.{_≡_, refl, ap, sym, _∙_}
-use mathlib.Core.List.{List, [], _∷_, _++_, append-assoc, append-nil}
-use Prim.Native.Nat.{ℕ, zero, suc, _+_, _-_, _*_, _/_, _%_, _^_, _≤_, _<_}
-use native.Mathlib.Omega.{arith}
-use native.Mathlib.Numerals.{add-one}
+use Rattle.types.proofs.Prelude.{_≡_, refl, ap, sym, _∙_, List, [], _∷_, _++_, append-assoc, append-nil, ℕ, zero, suc, _+_, _-_, _*_, _/_, _%_, _^_, _≤_, _<_}
+use Rattle.types.proofs.Prelude.{arith, add-one, length, take, set, getD, drop-cons, take-all}
 use native.Mathlib.Nat.{lt-of-lt-of-le}
-use lib.Pow.{pow-add, pow-mono, pow-pos}
-use lib.ListN.{length, take, set, getD}
-use lib.Seq.{drop-cons, take-suc-set, take-all}
+use lib.{Pow.pow-add, Pow.pow-mono, Pow.pow-pos, Seq.take-suc-set}
 use Rattle.types.specs.Span.{cut}
-use Rattle.memory.specs.LittleEndian.{leBytes, leValue}
-use Rattle.memory.specs.stages.Facts.{Reach, Read}
+use Rattle.memory.specs.{LittleEndian.leBytes, LittleEndian.leValue, stages.Facts.Reach, stages.Facts.Read}
 
 pub length-bytes : (n v : ℕ) → length (leBytes n v) ≡ n
 unfolding leBytes

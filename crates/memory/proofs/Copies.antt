@@ -1,9 +1,5 @@
 -- Laws of a lent part that becomes another list. Assumes nothing.
-use Prim.Native.Nat.{ℕ, _+_, _-_, _≤_}
-use mathlib.Core.Path.{_≡_, ap, _∙_}
-use mathlib.Core.List.{List}
-use native.Mathlib.Omega.{arith}
-use lib.ListN.{length, take, drop}
+use Rattle.types.proofs.Prelude.{ℕ, _+_, _-_, _≤_, _≡_, ap, _∙_, List, arith, length, take, drop}
 use borrow.Rule.Slice.PartMut.{putMid, midOf}
 use Rattle.types.specs.Span.{over, cut}
 use Rattle.types.proofs.Moves.{put-part}

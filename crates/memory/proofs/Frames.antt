@@ -1,63 +1,35 @@
 -- Laws for the layer above: what is stored is loaded; a refusal changes nothing; an acceptance changes its span alone; soundness is kept. Assumes nothing.
-use Prim.Native.Nat.{ℕ, zero, suc, _+_, _-_, _*_, _/_, _%_, _^_, _≤_, _<_}
-use mathlib.Core.Path.{_≡_, refl, sym, ap, subst, _∙_}
-use mathlib.Core.Bool.{true, false}
-use mathlib.Core.List.{List, [], _∷_}
+use Rattle.types.proofs.Prelude.{ℕ, zero, suc, _+_, _-_, _*_, _/_, _%_, _^_, _≤_, _<_, _≡_, refl, sym, ap, subst, _∙_, true, false, List, [], _∷_, arith, eqb}
+use Rattle.types.proofs.Prelude.{leb, length, take, drop, getD, replicate, length-replicate, leb-true, eqb-true, pick-true, pick-false, both-1, both-2, either}
+use Rattle.types.proofs.{Spans.within-is, Spans.over-nil, Spans.over-span, Spans.over-after, Spans.cut-before, Spans.length-over, Moves.length-cut}
+use Rattle.types.proofs.{Sizes.page-pos, Grants.Fair, Grants.creation-fair, Grants.growth-fair, Built.built-valid, Built.built-refused, Built.minimum-is}
 use mathlib.Core.Logic.{_⊎_, inl, inr, ⊎-elim}
-use native.Mathlib.Omega.{arith}
 use native.Mathlib.Nat.{div-add-mod', mul-div-cancel, mul-mod-left}
-use lib.Arith.{digits-mod, digits-div}
-use lib.Pow.{mod-pow-add}
-use lib.Dec.{eqb, leb}
-use lib.ListN.{length, take, drop, getD, replicate, length-replicate}
-use borrow.Author.Tests.{leb-true, eqb-true}
-use Rattle.types.specs.Pick.{pick, both}
-use Rattle.types.specs.Done.{Done, done}
-use Rattle.types.specs.Span.{inside, cut, over}
-use Rattle.types.specs.Answer.{numberOf, refusal, refuse, accept}
-use Rattle.types.specs.Limits.{admitsOf, validMaximum, validLimits}
+use lib.{Arith.digits-mod, Arith.digits-div, Pow.mod-pow-add}
+use Rattle.types.specs.{Pick.pick, Pick.both, Done.Done, Done.done, Span.inside, Span.cut, Span.over}
+use Rattle.types.specs.{Answer.numberOf, Answer.refusal, Answer.refuse, Answer.accept, Limits.admitsOf, Limits.validMaximum, Limits.validLimits}
 use Rattle.types.specs.MemoryType.{pageBytes, pageBound, validMemory, buildMemory, minimumBytes}
-use Rattle.types.specs.declared.answer.Answer.{Answer}
-use Rattle.types.specs.declared.answer.Answer.the-variants as answer
-use Rattle.types.specs.declared.answer.Refusal.{Refusal}
-use Rattle.types.specs.declared.fuel.Fuel.{Fuel}
-use Rattle.types.specs.declared.limiter.Limiter.{Limiter}
-use Rattle.types.specs.declared.limiter.Permit.{Permit}
-use Rattle.types.specs.declared.limiter.Permit.the-variants.{Granted, Denied}
-use Rattle.types.specs.declared.memory_ty.MemoryType.{MemoryType}
-use Rattle.types.specs.declared.memory_ty.BuiltMemory.{BuiltMemory}
-use Rattle.types.specs.declared.memory_ty.BuiltMemory.the-variants as built
-use Rattle.types.specs.declared.memory_ty.ByteSize.{ByteSize}
+use Rattle.types.specs.{declared.answer.Answer.Answer, declared.answer.Refusal.Refusal, declared.fuel.Fuel.Fuel, declared.limiter.Limiter.Limiter}
+use Rattle.types.specs.{declared.limiter.Permit.Permit, declared.limiter.Permit.the-variants.Granted, declared.limiter.Permit.the-variants.Denied}
+use Rattle.types.specs.{declared.memory_ty.MemoryType.MemoryType, declared.memory_ty.BuiltMemory.BuiltMemory, declared.memory_ty.ByteSize.ByteSize}
 use Rattle.types.specs.declared.memory_ty.ByteSize.the-variants.{Bytes, Overflow}
 use Rattle.types.specs.declared.memory_ty.WantedMemory.{WantedMemory}
-use Rattle.types.proofs.Picks.{pick-true, pick-false, both-1, both-2, either}
-use Rattle.types.proofs.Spans.{within-is, over-nil, over-span, over-after, cut-before, length-over}
-use Rattle.types.proofs.Moves.{length-cut}
-use Rattle.types.proofs.Sizes.{page-pos}
-use Rattle.types.proofs.Grants.{Fair, creation-fair, growth-fair}
-use Rattle.types.proofs.Built.{built-valid, built-refused, minimum-is}
 use Rattle.memory.specs.LittleEndian.{leBytes, leValue}
 use Rattle.memory.specs.Access.{widthBytes, addressOf, loadWidth, extend, loadedOf, loadFound, loadAt, storeWidth, storeFound, storeAt}
 use Rattle.memory.specs.Memory.{pagesOf, resized, soundMemory, loadMemory, storeMemory}
-use Rattle.memory.specs.Host.{readUsed, readMemory, writeUsed, writeMemory}
+use Rattle.memory.specs.{Host.readUsed, Host.readMemory, Host.writeUsed, Host.writeMemory, Grow.grownSize, declared.access.LoadKind.LoadKind}
+use Rattle.memory.specs.{declared.access.StoreKind.StoreKind, declared.access.Address.Address}
+use Rattle.memory.specs.{declared.access.Address.the-variants.At, declared.access.Address.the-variants.Outside, declared.memory.Memory.Memory}
+use Rattle.memory.specs.declared.new.MadeMemory.the-variants.{Made, Refused}
+use Rattle.memory.specs.{declared.new.CreatedMemory.CreatedMemory, declared.grow.GrownMemory.GrownMemory}
+use Rattle.memory.proofs.{Bytes.length-bytes, Accesses.address-is, Sounds.Sound, Sounds.sound-is, Sounds.is-sound, Growths.reach-is, Growths.reach-more}
+use Rattle.memory.proofs.Readings.{grow-goes, grow-stops, new-goes, new-stops}
+use Rattle.types.specs.declared.answer.Answer.the-variants as answer
+use Rattle.types.specs.declared.memory_ty.BuiltMemory.the-variants as built
 use Rattle.memory.specs.New as new
 use Rattle.memory.specs.stages.New as new-stages
 use Rattle.memory.specs.Grow as grow
-use Rattle.memory.specs.Grow.{grownSize}
 use Rattle.memory.specs.stages.Grow as grow-stages
-use Rattle.memory.specs.declared.access.LoadKind.{LoadKind}
-use Rattle.memory.specs.declared.access.StoreKind.{StoreKind}
-use Rattle.memory.specs.declared.access.Address.{Address}
-use Rattle.memory.specs.declared.access.Address.the-variants.{At, Outside}
-use Rattle.memory.specs.declared.memory.Memory.{Memory}
-use Rattle.memory.specs.declared.new.MadeMemory.the-variants.{Made, Refused}
-use Rattle.memory.specs.declared.new.CreatedMemory.{CreatedMemory}
-use Rattle.memory.specs.declared.grow.GrownMemory.{GrownMemory}
-use Rattle.memory.proofs.Bytes.{length-bytes}
-use Rattle.memory.proofs.Accesses.{address-is}
-use Rattle.memory.proofs.Sounds.{Sound, sound-is, is-sound}
-use Rattle.memory.proofs.Growths.{reach-is, reach-more}
-use Rattle.memory.proofs.Readings.{grow-goes, grow-stops, new-goes, new-stops}
 
 -- every cell a byte, past the end too
 abbrev pub Octets : List ℕ → Type 0

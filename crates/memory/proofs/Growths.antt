@@ -1,32 +1,14 @@
 -- Laws of growth: how far it may reach, and what a granted one has. Assumes nothing.
-use Prim.Native.Nat.{ℕ, _+_, _-_, _*_, _/_, _^_, _≤_, _<_}
-use mathlib.Core.Path.{_≡_, refl, sym, ap, _∙_}
-use mathlib.Core.Bool.{Bool, true, false}
-use native.Mathlib.Omega.{arith}
+use Rattle.types.proofs.Prelude.{ℕ, _+_, _-_, _*_, _/_, _^_, _≤_, _<_, _≡_, refl, sym, ap, _∙_, Bool, true, false, arith, leb, ltb, lt-ltb, le-ltb, leb-true}
+use Rattle.types.proofs.Prelude.{leb-false, pick-true, pick-false, both-2, both-left, both-right, both-then}
+use Rattle.types.proofs.{Prices.too-large, Prices.product-fits, Sizes.page-pos, Grants.creation-fair, Grants.granted-growth}
 use native.Mathlib.Nat.{add-mul, div-add-mod', mul-le-mul-left}
-use lib.Dec.{leb, ltb}
-use borrow.Author.Tests.{lt-ltb, le-ltb, leb-true, leb-false}
-use Rattle.types.specs.Pick.{pick, both}
-use Rattle.types.specs.Limits.{admitsOf}
-use Rattle.types.specs.MemoryType.{pageBytes, pageBound, byteSize}
-use Rattle.types.specs.stages.Grant.{grantCreation}
-use Rattle.types.specs.declared.fuel.Fuel.{Fuel}
-use Rattle.types.specs.declared.limiter.Limiter.{Limiter}
-use Rattle.types.specs.declared.limiter.Asked.{Asked}
-use Rattle.types.specs.declared.grant.Growth.{Growth}
-use Rattle.types.specs.declared.limiter.Permit.the-variants.{Granted}
-use Rattle.types.specs.declared.memory_ty.MemoryType.{MemoryType}
-use Rattle.types.specs.declared.memory_ty.ByteSize.{ByteSize}
+use Rattle.types.specs.{Pick.pick, Pick.both, Limits.admitsOf, MemoryType.pageBytes, MemoryType.pageBound, MemoryType.byteSize, stages.Grant.grantCreation}
+use Rattle.types.specs.{declared.fuel.Fuel.Fuel, declared.limiter.Limiter.Limiter, declared.limiter.Asked.Asked, declared.grant.Growth.Growth}
+use Rattle.types.specs.{declared.limiter.Permit.the-variants.Granted, declared.memory_ty.MemoryType.MemoryType, declared.memory_ty.ByteSize.ByteSize}
 use Rattle.types.specs.declared.memory_ty.ByteSize.the-variants.{Bytes, Overflow}
-use Rattle.types.proofs.Picks.{pick-true, pick-false, both-2, both-left, both-right, both-then}
-use Rattle.types.proofs.Prices.{too-large, product-fits}
-use Rattle.types.proofs.Sizes.{page-pos}
-use Rattle.types.proofs.Grants.{creation-fair, granted-growth}
-use Rattle.memory.specs.Memory.{pagesOf, soundMemory}
-use Rattle.memory.specs.Grow.{mayHave}
-use Rattle.memory.specs.stages.Grow.{reachPages, reachOf, grantOf}
-use Rattle.memory.specs.stages.Facts.{Held, Roomy}
-use Rattle.memory.specs.declared.memory.Memory.{Memory}
+use Rattle.memory.specs.{Memory.pagesOf, Memory.soundMemory, Grow.mayHave, stages.Grow.reachPages, stages.Grow.reachOf, stages.Grow.grantOf}
+use Rattle.memory.specs.{stages.Facts.Held, stages.Facts.Roomy, declared.memory.Memory.Memory}
 use Rattle.memory.proofs.Sounds.{Sound, sound-is}
 
 -- the bytes of so many pages stay below 2^64, by a quotient

@@ -1,14 +1,10 @@
 -- Two's complement: the number of a bit pattern, over what its sign's bit is worth. Assumes nothing.
-use Prim.Native.Nat.{ℕ, zero, suc, _+_, _-_, _%_, _<_, _≤_, _^_}
-use mathlib.Core.Path.{_≡_, refl, sym, _∙_, ap, subst}
-use mathlib.Core.Bool.{Bool, true, false, cond}
+use Rattle.types.proofs.Prelude.{ℕ, zero, suc, _+_, _-_, _%_, _<_, _≤_, _^_, _≡_, refl, sym, _∙_, ap, subst, Bool, true, false, arith, ltb, lt-ltb, le-ltb}
+use Rattle.types.proofs.Prelude.{ltb-true, ltb-false}
+use mathlib.Core.Bool.{cond}
 use native.Mathlib.Nat.{zero-add, not-suc-le-zero, mod-eq-of-lt, mod-eq-sub-mod, mod-lt}
-use native.Mathlib.Omega.{arith}
-use lib.Dec.{ltb}
-use borrow.Author.Tests.{lt-ltb, le-ltb, ltb-true, ltb-false}
 use lib.IntN.{ℤ, pos, negsuc, _-ℤ_, subℕ}
-use mir.Syntax.{Width, w8, w16, w32, w64, w128}
-use mir.Val.{SFits, toZ, ofZ, hbits, sel}
+use mir.{Syntax.Width, Syntax.w8, Syntax.w16, Syntax.w32, Syntax.w64, Syntax.w128, Val.SFits, Val.toZ, Val.ofZ, Val.hbits, Val.sel}
 use mir.Facts.{toZ-pos, toZ-neg, toZ-ofZ}
 use Rattle.memory.specs.stages.Facts.{signedOf, SignsBy}
 

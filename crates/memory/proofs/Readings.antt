@@ -1,33 +1,18 @@
 -- The stages of the code are the chains of checks that the definitions say. Assumes nothing.
-use mathlib.Core.Path.{_≡_, ap, sym, _∙_}
-use mathlib.Core.Bool.{Bool, true, false}
-use mathlib.Core.List.{List}
-use Prim.Native.Nat.{ℕ, _+_, _-_, _^_}
-use lib.Dec.{eqb, leb, ltb}
-use lib.ListN.{length, replicate}
-use Rattle.types.specs.Pick.{pick, both, unless}
-use Rattle.types.specs.Done.{Done, done}
-use Rattle.types.specs.Span.{over}
-use Rattle.types.specs.Answer.{refusal, refuse, accept}
-use Rattle.types.specs.Fuel.{short, paid}
-use Rattle.types.specs.Limiter.{saysOf, moved, heardOf, noticed}
-use Rattle.types.specs.declared.fuel.Fuel.{Fuel}
-use Rattle.types.specs.declared.limiter.Limiter.{Limiter}
-use Rattle.types.proofs.Picks.{pick-ap, pick-true, pick-false}
-use Rattle.types.proofs.Chains.{growth-chain, creation-chain}
+use Rattle.types.proofs.Prelude.{_≡_, ap, sym, _∙_, Bool, true, false, List, ℕ, _+_, _-_, _^_, eqb, leb, ltb, length, replicate, pick-true, pick-false}
+use Rattle.types.proofs.{Picks.pick-ap, Chains.growth-chain, Chains.creation-chain}
+use Rattle.types.specs.{Pick.pick, Pick.both, Pick.unless, Done.Done, Done.done, Span.over, Answer.refusal, Answer.refuse, Answer.accept, Fuel.short, Fuel.paid}
+use Rattle.types.specs.{Limiter.saysOf, Limiter.moved, Limiter.heardOf, Limiter.noticed, declared.fuel.Fuel.Fuel, declared.limiter.Limiter.Limiter}
 use Rattle.types.specs.MemoryType.{validExponent, validMemory, buildMemory, byteSize, minimumBytes}
-use Rattle.types.specs.declared.memory_ty.BuiltMemory.the-variants as built
 use Rattle.types.specs.declared.memory_ty.ByteSize.the-variants.{Bytes, Overflow}
 use Rattle.types.specs.declared.memory_ty.WantedMemory.{WantedMemory}
 use Rattle.memory.specs.Memory.{pagesOf, resized, soundMemory}
 use Rattle.memory.specs.Grow.{answered, mayHave, grownSize, growthPrice, growMemory}
 use Rattle.memory.specs.stages.Grow.{reachPages, reachOf, enlargedBy, grantOf, growTo, byReach, growSound}
+use Rattle.memory.specs.{stages.New.madeBy, stages.New.madeOf, stages.New.bySize, stages.New.byType, declared.memory.Memory.Memory}
+use Rattle.memory.specs.{declared.new.MadeMemory.the-variants.Made, declared.new.CreatedMemory.CreatedMemory, declared.grow.GrownMemory.GrownMemory}
+use Rattle.types.specs.declared.memory_ty.BuiltMemory.the-variants as built
 use Rattle.memory.specs.New as new
-use Rattle.memory.specs.stages.New.{madeBy, madeOf, bySize, byType}
-use Rattle.memory.specs.declared.memory.Memory.{Memory}
-use Rattle.memory.specs.declared.new.MadeMemory.the-variants.{Made}
-use Rattle.memory.specs.declared.new.CreatedMemory.{CreatedMemory}
-use Rattle.memory.specs.declared.grow.GrownMemory.{GrownMemory}
 
 module _ (m : Memory) (bs : List ℕ) (n : ℕ) (f : Fuel) (l : Limiter) where
   -- a growth within the bounds, from the limiter's question on

@@ -1,22 +1,10 @@
 -- Laws of soundness: what the test shows, and the exits of the functions that test it. Assumes nothing.
-use Prim.Native.Nat.{ℕ, _+_, _/_, _%_, _^_, _≤_, _<_}
-use mathlib.Core.Path.{_≡_, sym, ap, _∙_}
-use mathlib.Core.Bool.{Bool, true, false}
-use native.Mathlib.Omega.{arith}
-use lib.Dec.{leb}
-use borrow.Author.Tests.{le-leb, lt-leb, leb-true, eq-eqb, ne-eqb, eqb-true}
-use Rattle.types.specs.Pick.{both}
-use Rattle.types.specs.Limits.{admitsOf}
-use Rattle.types.specs.MemoryType.{pageBytes, pageBound, validMemory}
-use Rattle.types.proofs.Picks.{both-true, both-left, both-right, both-then, both-1, both-2}
-use Rattle.types.specs.IndexType.{maxSize}
-use Rattle.types.specs.declared.index_ty.IndexType.{IndexType}
-use Rattle.types.specs.declared.index_ty.IndexType.the-variants.{I64}
-use Rattle.types.specs.declared.memory_ty.PageSize.{PageSize}
-use Rattle.types.specs.declared.memory_ty.PageSize.the-variants.{One}
-use Rattle.types.specs.declared.memory_ty.MemoryType.{MemoryType}
-use Rattle.memory.specs.Memory.{pagesOf, soundRoom, soundSize, soundMemory}
-use Rattle.memory.specs.declared.memory.Memory.{Memory}
+use Rattle.types.proofs.Prelude.{ℕ, _+_, _/_, _%_, _^_, _≤_, _<_, _≡_, sym, ap, _∙_, Bool, true, false, arith, leb, le-leb, lt-leb, leb-true, eq-eqb, ne-eqb}
+use Rattle.types.proofs.Prelude.{eqb-true, both-true, both-left, both-right, both-then, both-1, both-2}
+use Rattle.types.specs.{Pick.both, Limits.admitsOf, MemoryType.pageBytes, MemoryType.pageBound, MemoryType.validMemory, IndexType.maxSize}
+use Rattle.types.specs.{declared.index_ty.IndexType.IndexType, declared.index_ty.IndexType.the-variants.I64, declared.memory_ty.PageSize.PageSize}
+use Rattle.types.specs.{declared.memory_ty.PageSize.the-variants.One, declared.memory_ty.MemoryType.MemoryType}
+use Rattle.memory.specs.{Memory.pagesOf, Memory.soundRoom, Memory.soundSize, Memory.soundMemory, declared.memory.Memory.Memory}
 
 -- what a sound record has
 pub record Sound (m : Memory) (len : ℕ) : Type 0 where

@@ -1,20 +1,15 @@
 -- Laws of the value that a load answers, over its kind. Assumes nothing.
-use Prim.Native.Nat.{ℕ, _+_, _*_, _^_, _≤_, _<_}
-use mathlib.Core.Path.{_≡_, sym, ap, subst, _∙_}
-use native.Mathlib.Omega.{arith}
+use Rattle.types.proofs.Prelude.{ℕ, _+_, _*_, _^_, _≤_, _<_, _≡_, sym, ap, subst, _∙_, arith}
 use lib.IntN.{ℤ, pos}
-use mir.Syntax.{w32, w64}
-use mir.Syntax as machine
-use mir.Val.{SFits, toZ, ofZ, hbits}
-use mir.Facts.{toZ-pos, toZ-ofZ}
+use mir.{Syntax.w32, Syntax.w64, Val.SFits, Val.toZ, Val.ofZ, Val.hbits, Facts.toZ-pos, Facts.toZ-ofZ}
 use Rattle.types.specs.declared.answer.Value.{Value}
-use Rattle.types.specs.declared.answer.Value.the-variants as value
-use Rattle.memory.specs.Access.{widthBytes, loadWidth, extend}
-use Rattle.memory.specs.stages.Facts.{Reach, SignsBy, signedOf}
+use Rattle.memory.specs.{Access.widthBytes, Access.loadWidth, Access.extend, stages.Facts.Reach, stages.Facts.SignsBy, stages.Facts.signedOf}
 use Rattle.memory.specs.declared.access.Width.{Width}
 use Rattle.memory.specs.declared.access.Width.the-variants.{W8, W16, W32, W64}
 use Rattle.memory.specs.declared.access.LoadKind.{LoadKind}
 use Rattle.memory.proofs.Patterns.{signed-is, signed-fits}
+use mir.Syntax as machine
+use Rattle.types.specs.declared.answer.Value.the-variants as value
 
 width-few : (w : Width) → widthBytes w ≤ 8
 width-few W8 = omega arith

@@ -1,12 +1,8 @@
 -- One law for each way out of a function that decides: its premises are what the code knows there. Assumes nothing.
-use mathlib.Core.Path.{_≡_, sym, _∙_}
-use mathlib.Core.Bool.{Bool, true, false, not}
-use Prim.Native.Nat.{ℕ, _≤_, _<_}
-use lib.Dec.{leb, eqb}
-use borrow.Author.Tests.{le-leb, lt-leb, eq-eqb, ne-eqb, not-true, not-false}
+use Rattle.types.proofs.Prelude.{_≡_, sym, _∙_, Bool, true, false, ℕ, _≤_, _<_, leb, eqb, le-leb, lt-leb, eq-eqb, ne-eqb, not-true, not-false, pick-true}
+use Rattle.types.proofs.{Prelude.pick-false, Prelude.both-left, Prelude.both-then, Prelude.known-test, Dones.done-as}
+use mathlib.Core.Bool.{not}
 use Rattle.types.specs.Pick.{pick, both}
-use Rattle.types.proofs.Picks.{pick-true, pick-false, both-left, both-then, known-test}
-use Rattle.types.proofs.Dones.{done-as}
 
 module _ {A : Type 0} {x : A} (a b : A) where
   -- a call's result was tested

@@ -1,68 +1,34 @@
 -- Laws of the operations, for the layer above: what accepted and refused ones leave, what every one keeps, and that sound records stay sound. Assumes nothing.
-use mathlib.Core.Path.{_≡_, refl, sym, ap, _∙_}
-use mathlib.Core.Bool.{Bool, true, false}
-use mathlib.Core.List.{List}
+use Rattle.types.proofs.Prelude.{_≡_, refl, sym, ap, _∙_, Bool, true, false, List, ℕ, _+_, _-_, _≤_, _<_, arith, le-leb, leb-true, leb-false, ltb-true}
+use Rattle.types.proofs.Prelude.{eqb-true, leb, eqb, length, take, drop, set, replicate, length-replicate, pick-true, pick-false, both-true, both-1, both-2}
+use Rattle.types.proofs.{Spans.within-is, Spans.length-over, Spans.over-low, Spans.over-after, Moves.length-cut}
+use Rattle.types.proofs.{Stepping.fill-closed, Stepping.init-closed, Stepping.copy-closed, Grants.granted-span, Grants.granted-creation, Grants.granted-admits}
 use mathlib.Core.Logic.{inl, inr}
-use Prim.Native.Nat.{ℕ, _+_, _-_, _≤_, _<_}
-use native.Mathlib.Omega.{arith}
 use native.Mathlib.Nat.{le-refl}
-use borrow.Author.Tests.{le-leb, leb-true, leb-false, ltb-true, eqb-true}
-use lib.Dec.{leb, eqb}
-use lib.ListN.{length, take, drop, set, replicate, length-replicate}
-use Rattle.types.specs.Pick.{pick, both}
-use Rattle.types.specs.Span.{over}
-use Rattle.types.specs.Steps.{fillSteps, initSteps, copySteps, Apart}
-use Rattle.types.specs.Answer.{accept}
-use Rattle.types.specs.IndexType.{maxSize}
+use Rattle.types.specs.{Pick.pick, Pick.both, Span.over, Steps.fillSteps, Steps.initSteps, Steps.copySteps, Steps.Apart, Answer.accept, IndexType.maxSize}
 use Rattle.types.specs.Limits.{admitsOf, validMaximum, validLimits}
 use Rattle.types.specs.TableType.{tableBound, validTable, validated, buildTable, tableType}
-use Rattle.types.specs.Done.{Done, done, spanDone}
-use Rattle.types.specs.stages.Grant.{spanned}
-use Rattle.types.specs.declared.answer.Answer.{Answer}
-use Rattle.types.specs.declared.answer.Answer.the-variants as answer
-use Rattle.types.specs.declared.answer.Refusal.{Refusal}
-use Rattle.types.specs.declared.answer.Value.{Value}
-use Rattle.types.specs.declared.fuel.Fuel.{Fuel}
-use Rattle.types.specs.declared.grant.Spanned.{Spanned}
-use Rattle.types.specs.declared.fuel.FuelStep.{FuelStep}
-use Rattle.types.specs.declared.fuel.FuelStep.the-variants as step
-use Rattle.types.specs.declared.limiter.Limiter.{Limiter}
-use Rattle.types.specs.declared.limiter.Permit.{Permit}
-use Rattle.types.specs.declared.limiter.Permit.the-variants.{Granted, Denied}
-use Rattle.types.specs.declared.limits.Limits.{Limits}
-use Rattle.types.specs.declared.raw.RefType.{RefType}
-use Rattle.types.specs.declared.raw.TypedRawRef.{TypedRawRef}
-use Rattle.types.specs.declared.span.CopySpan.{CopySpan}
-use Rattle.types.specs.declared.span.FillSpan.{FillSpan}
-use Rattle.types.specs.declared.table_ty.TableType.{TableType}
-use Rattle.types.specs.declared.table_ty.BuiltTable.{BuiltTable}
-use Rattle.types.specs.declared.table_ty.BuiltTable.the-variants as built
-use Rattle.types.specs.declared.table_ty.WantedTable.{WantedTable}
-use Rattle.types.proofs.Picks.{pick-true, pick-false, both-true, both-1, both-2}
-use Rattle.types.proofs.Spans.{within-is, length-over, over-low, over-after}
-use Rattle.types.proofs.Moves.{length-cut}
-use Rattle.types.proofs.Stepping.{fill-closed, init-closed, copy-closed}
+use Rattle.types.specs.{Done.Done, Done.done, Done.spanDone, stages.Grant.spanned, declared.answer.Answer.Answer, declared.answer.Refusal.Refusal}
+use Rattle.types.specs.{declared.answer.Value.Value, declared.fuel.Fuel.Fuel, declared.grant.Spanned.Spanned, declared.fuel.FuelStep.FuelStep}
+use Rattle.types.specs.{declared.limiter.Limiter.Limiter, declared.limiter.Permit.Permit}
+use Rattle.types.specs.{declared.limiter.Permit.the-variants.Granted, declared.limiter.Permit.the-variants.Denied, declared.limits.Limits.Limits}
+use Rattle.types.specs.{declared.raw.RefType.RefType, declared.raw.TypedRawRef.TypedRawRef, declared.span.CopySpan.CopySpan, declared.span.FillSpan.FillSpan}
+use Rattle.types.specs.{declared.table_ty.TableType.TableType, declared.table_ty.BuiltTable.BuiltTable, declared.table_ty.WantedTable.WantedTable}
 use Rattle.table.proofs.Readings.{grow-reads, new-reads, fill-reads, copy-reads, within-reads, init-reads}
-use Rattle.types.proofs.Grants.{granted-span, granted-creation, granted-admits}
+use Rattle.table.proofs.{Sounds.buffer-within, Sounds.sound-room, Sounds.sound-size, Sounds.sound-within, Sounds.segment-places, Growths.growth-fits}
 use Rattle.table.specs.Table.{resized, soundBuffer, soundSize, soundTable, setSound, setTable}
-use Rattle.table.specs.Element.{dropped, soundSegment, newSegment}
-use Rattle.table.specs.New.{refused, tableOf, newTable}
+use Rattle.table.specs.{Element.dropped, Element.soundSegment, Element.newSegment, New.refused, New.tableOf, New.newTable}
 use Rattle.table.specs.stages.New.{madeBy, madeOf, byKind, byType}
 use Rattle.table.specs.stages.Grow.{enlargedBy, grantOf, growTo, growSome, growSound}
 use Rattle.table.specs.stages.Spans.{fillKind, fillSound, copyBounds, copyKinds, initSome, initBounds, initKinds}
-use Rattle.table.specs.Grow.{answered, growTable}
-use Rattle.table.specs.Fill.{fillTable}
-use Rattle.table.specs.Copy.{roomsApart, soundTwo, copyTable, copyWithin}
-use Rattle.table.specs.Init.{initTable}
-use Rattle.table.specs.declared.table.Table.{Table}
-use Rattle.table.specs.declared.element.ElementSegment.{ElementSegment}
-use Rattle.table.specs.declared.element.MadeSegment.{MadeSegment}
-use Rattle.table.specs.declared.element.MadeSegment.the-variants as segment
-use Rattle.table.specs.declared.new.MadeTable.the-variants.{Made, Refused}
-use Rattle.table.specs.declared.new.CreatedTable.{CreatedTable}
+use Rattle.table.specs.{Grow.answered, Grow.growTable, Fill.fillTable, Copy.roomsApart, Copy.soundTwo, Copy.copyTable, Copy.copyWithin, Init.initTable}
+use Rattle.table.specs.{declared.table.Table.Table, declared.element.ElementSegment.ElementSegment, declared.element.MadeSegment.MadeSegment}
+use Rattle.table.specs.{declared.new.MadeTable.the-variants.Made, declared.new.MadeTable.the-variants.Refused, declared.new.CreatedTable.CreatedTable}
 use Rattle.table.specs.declared.grow.GrownTable.{GrownTable}
-use Rattle.table.proofs.Sounds.{buffer-within, sound-room, sound-size, sound-within, segment-places}
-use Rattle.table.proofs.Growths.{growth-fits}
+use Rattle.types.specs.declared.answer.Answer.the-variants as answer
+use Rattle.types.specs.declared.fuel.FuelStep.the-variants as step
+use Rattle.types.specs.declared.table_ty.BuiltTable.the-variants as built
+use Rattle.table.specs.declared.element.MadeSegment.the-variants as segment
 
 -- ds is cs but for cells from x on and before e
 pub record Kept (x e : ℕ) (cs ds : List ℕ) : Type 0 where

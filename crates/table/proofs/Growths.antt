@@ -1,24 +1,10 @@
 -- What a granted creation or growth shows of the room, and the sizes that no index type reaches. Assumes nothing.
-use mathlib.Core.Path.{_≡_, sym, ap, _∙_}
-use Prim.Native.Nat.{ℕ, _+_, _-_, _^_, _≤_, _<_}
-use native.Mathlib.Omega.{arith}
-use borrow.Author.Tests.{leb-true, le-ltb}
-use lib.Dec.{leb, ltb}
-use Rattle.types.specs.Pick.{pick}
-use Rattle.types.specs.IndexType.{maxSize}
-use Rattle.types.specs.stages.Grant.{grantCreation}
-use Rattle.types.specs.declared.fuel.Fuel.{Fuel}
-use Rattle.types.specs.declared.grant.Growth.{Growth}
-use Rattle.types.specs.declared.index_ty.IndexType.{IndexType}
-use Rattle.types.specs.declared.index_ty.IndexType.the-variants.{I32, I64}
-use Rattle.types.specs.declared.limiter.Asked.{Asked}
-use Rattle.types.specs.declared.limiter.Limiter.{Limiter}
-use Rattle.types.specs.declared.limiter.Permit.the-variants.{Granted}
-use Rattle.types.proofs.Picks.{pick-false}
+use Rattle.types.proofs.Prelude.{_≡_, sym, ap, _∙_, ℕ, _+_, _-_, _^_, _≤_, _<_, arith, leb-true, le-ltb, leb, ltb, pick-false}
 use Rattle.types.proofs.Grants.{granted-creation, granted-growth}
-use Rattle.table.specs.stages.Facts.{Roomed, Roomy}
-use Rattle.table.specs.stages.Grow.{grantOf}
-use Rattle.table.specs.declared.table.Table.{Table}
+use Rattle.types.specs.{Pick.pick, IndexType.maxSize, stages.Grant.grantCreation, declared.fuel.Fuel.Fuel, declared.grant.Growth.Growth}
+use Rattle.types.specs.{declared.index_ty.IndexType.IndexType, declared.index_ty.IndexType.the-variants.I32, declared.index_ty.IndexType.the-variants.I64}
+use Rattle.types.specs.{declared.limiter.Asked.Asked, declared.limiter.Limiter.Limiter, declared.limiter.Permit.the-variants.Granted}
+use Rattle.table.specs.{stages.Facts.Roomed, stages.Facts.Roomy, stages.Grow.grantOf, declared.table.Table.Table}
 
 -- the cells of a creation that is granted lie in the buffer
 pub creation-room : (l : Limiter) (start min room len : ℕ) {a : Asked} → start + room ≤ len → a ≡ grantCreation l (leb min room) → a .permit ≡ Granted

@@ -1,26 +1,13 @@
 -- Laws of span operations: what the grant of a span shows of its bounds, and what its outcome is. Assumes nothing.
-use mathlib.Core.Path.{_≡_, sym, ap, _∙_}
-use mathlib.Core.Bool.{Bool, true, false, not}
-use mathlib.Core.List.{List}
-use Prim.Native.Nat.{ℕ, _+_, _≤_}
-use native.Mathlib.Omega.{arith}
-use borrow.Author.Tests.{not-false}
-use Rattle.types.specs.Pick.{both}
-use Rattle.types.specs.Span.{inside}
-use Rattle.types.specs.Answer.{accept}
-use Rattle.types.specs.Done.{spanDone}
-use Rattle.types.specs.stages.Grant.{grantSpan, spanned}
-use Rattle.types.specs.declared.answer.Answer.the-variants as answer
-use Rattle.types.specs.declared.answer.Refusal.{Refusal}
-use Rattle.types.specs.declared.fuel.Fuel.{Fuel}
-use Rattle.types.specs.declared.fuel.FuelStep.{FuelStep}
+use Rattle.types.proofs.Prelude.{_≡_, sym, ap, _∙_, Bool, true, false, List, ℕ, _+_, _≤_, arith, not-false, both-1, both-2, known-test}
+use Rattle.types.proofs.{Spans.within-is, Grants.granted-span}
+use mathlib.Core.Bool.{not}
+use Rattle.types.specs.{Pick.both, Span.inside, Answer.accept, Done.spanDone, stages.Grant.grantSpan, stages.Grant.spanned, declared.answer.Refusal.Refusal}
+use Rattle.types.specs.{declared.fuel.Fuel.Fuel, declared.fuel.FuelStep.FuelStep}
 use Rattle.types.specs.declared.fuel.FuelStep.the-variants.{Done, Refused}
-use Rattle.types.proofs.Picks.{both-1, both-2, known-test}
-use Rattle.types.proofs.Spans.{within-is}
-use Rattle.types.proofs.Grants.{granted-span}
-use Rattle.table.specs.stages.Facts.{Within, Places, Goes}
-use Rattle.table.specs.declared.table.Table.{Table}
+use Rattle.table.specs.{stages.Facts.Within, stages.Facts.Places, stages.Facts.Goes, declared.table.Table.Table}
 use Rattle.table.specs.declared.element.ElementSegment.{ElementSegment}
+use Rattle.types.specs.declared.answer.Answer.the-variants as answer
 
 -- by the fuel step
 pub spanned-done : (s : FuelStep) (f g : Fuel) (cs new r : List ℕ) → s ≡ Done g → r ≡ new → spanDone (accept 0) g r ≡ spanned s f cs new

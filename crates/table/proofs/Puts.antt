@@ -1,12 +1,8 @@
 -- Laws of fills that are copied on. Assumes nothing.
-use mathlib.Core.Path.{_≡_, refl, sym, ap, _∙_}
-use mathlib.Core.List.{List, _++_}
-use Prim.Native.Nat.{ℕ, _+_, _-_, _≤_}
-use native.Mathlib.Omega.{arith}
-use lib.ListN.{length, take, drop, replicate, length-replicate, replicate-append-replicate}
-use lib.Seq.{take-all, take-at, take-take}
-use Rattle.types.specs.Span.{over, cut}
+use Rattle.types.proofs.Prelude.{_≡_, refl, sym, ap, _∙_, List, _++_, ℕ, _+_, _-_, _≤_, arith, length, take, drop, replicate, length-replicate, take-all}
 use Rattle.types.proofs.Spans.{over-after, over-before, over-over, over-span}
+use lib.{ListN.replicate-append-replicate, Seq.take-at, Seq.take-take}
+use Rattle.types.specs.Span.{over, cut}
 
 -- m filled cells more, after k
 pub fill-on : (l cs r : List ℕ) (to k m n v : ℕ) → n ≡ k + m → to + n ≤ length l → cs ≡ over l to (replicate k v) → r ≡ over cs (to + k) (replicate m v) → r ≡ over l to (replicate n v)

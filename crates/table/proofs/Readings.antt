@@ -1,45 +1,21 @@
 -- The stages of the code are the chains of checks that the definitions say. Assumes nothing.
-use mathlib.Core.Path.{_≡_, ap, sym, _∙_}
-use mathlib.Core.List.{List}
-use Prim.Native.Nat.{ℕ, _+_, _-_, _*_}
+use Rattle.types.proofs.Prelude.{_≡_, ap, sym, _∙_, List, ℕ, _+_, _-_, _*_, eqb, leb, ltb, length, replicate}
+use Rattle.types.proofs.{Picks.pick-ap, Chains.growth-chain, Chains.creation-chain, Chains.charge-chain, Chains.span-chain}
 use native.Mathlib.Nat.{add-sub-cancel-left}
-use lib.Dec.{eqb, leb, ltb}
-use lib.ListN.{length, replicate}
-use Rattle.types.specs.Pick.{pick, both, unless}
-use Rattle.types.specs.Span.{inside, cut, over}
-use Rattle.types.specs.Answer.{refusal, refuse, accept}
-use Rattle.types.specs.Price.{price}
-use Rattle.types.specs.Fuel.{short, paid}
-use Rattle.types.specs.Done.{Done, done, spanDone}
-use Rattle.types.specs.Limiter.{saysOf, moved, heardOf, noticed}
-use Rattle.types.specs.declared.fuel.Fuel.{Fuel}
-use Rattle.types.specs.declared.grant.Spanned.{Spanned}
-use Rattle.types.specs.declared.limiter.Limiter.{Limiter}
-use Rattle.types.proofs.Picks.{pick-ap}
-use Rattle.types.proofs.Chains.{growth-chain, creation-chain, charge-chain, span-chain}
-use Rattle.types.specs.IndexType.{maxSize}
-use Rattle.types.specs.Limits.{admitsOf}
-use Rattle.types.specs.TableType.{validTable, validated, buildTable, elementMatches}
-use Rattle.types.specs.declared.raw.TypedRawRef.{TypedRawRef}
-use Rattle.types.specs.declared.span.CopySpan.{CopySpan}
-use Rattle.types.specs.declared.span.FillSpan.{FillSpan}
-use Rattle.types.specs.declared.table_ty.BuiltTable.the-variants as built
-use Rattle.types.specs.declared.table_ty.WantedTable.{WantedTable}
-use Rattle.table.specs.Table.{resized, soundBuffer, soundTable}
-use Rattle.table.specs.Element.{soundSegment}
-use Rattle.table.specs.New as new
-use Rattle.table.specs.Grow.{answered, cellsPrice, growTable}
-use Rattle.table.specs.Fill.{fillTable}
-use Rattle.table.specs.Copy.{soundTwo, copyTable, copyWithin}
-use Rattle.table.specs.Init.{initTable}
+use Rattle.types.specs.{Pick.pick, Pick.both, Pick.unless, Span.inside, Span.cut, Span.over, Answer.refusal, Answer.refuse, Answer.accept, Price.price}
+use Rattle.types.specs.{Fuel.short, Fuel.paid, Done.Done, Done.done, Done.spanDone, Limiter.saysOf, Limiter.moved, Limiter.heardOf, Limiter.noticed}
+use Rattle.types.specs.{declared.fuel.Fuel.Fuel, declared.grant.Spanned.Spanned, declared.limiter.Limiter.Limiter, IndexType.maxSize, Limits.admitsOf}
+use Rattle.types.specs.{TableType.validTable, TableType.validated, TableType.buildTable, TableType.elementMatches, declared.raw.TypedRawRef.TypedRawRef}
+use Rattle.types.specs.{declared.span.CopySpan.CopySpan, declared.span.FillSpan.FillSpan, declared.table_ty.WantedTable.WantedTable}
+use Rattle.table.specs.{Table.resized, Table.soundBuffer, Table.soundTable, Element.soundSegment, Grow.answered, Grow.cellsPrice, Grow.growTable}
+use Rattle.table.specs.{Fill.fillTable, Copy.soundTwo, Copy.copyTable, Copy.copyWithin, Init.initTable}
 use Rattle.table.specs.stages.New.{madeBy, madeOf, byKind, byType}
 use Rattle.table.specs.stages.Grow.{enlargedBy, grantOf, growTo, growSome, growSound}
 use Rattle.table.specs.stages.Spans.{fillKind, fillSound, copyBounds, copyKinds, initSome, initBounds, initKinds}
-use Rattle.table.specs.declared.table.Table.{Table}
-use Rattle.table.specs.declared.element.ElementSegment.{ElementSegment}
-use Rattle.table.specs.declared.new.MadeTable.the-variants.{Made}
-use Rattle.table.specs.declared.new.CreatedTable.{CreatedTable}
-use Rattle.table.specs.declared.grow.GrownTable.{GrownTable}
+use Rattle.table.specs.{declared.table.Table.Table, declared.element.ElementSegment.ElementSegment, declared.new.MadeTable.the-variants.Made}
+use Rattle.table.specs.{declared.new.CreatedTable.CreatedTable, declared.grow.GrownTable.GrownTable}
+use Rattle.types.specs.declared.table_ty.BuiltTable.the-variants as built
+use Rattle.table.specs.New as new
 
 module _ (r : ℕ) (t : Table) (cs : List ℕ) (n : ℕ) (v : TypedRawRef) (f : Fuel) (l : Limiter) where
   -- a growth within the index bound, from the limiter's question on, by d new cells

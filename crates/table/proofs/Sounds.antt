@@ -1,17 +1,10 @@
 -- What soundness says of the places of tables and segments. Assumes nothing.
-use mathlib.Core.Path.{_≡_}
-use mathlib.Core.Bool.{Bool, true, false, not}
-use Prim.Native.Nat.{ℕ, _+_, _≤_, _<_}
-use native.Mathlib.Omega.{arith}
-use borrow.Author.Tests.{leb-true, not-false}
-use Rattle.types.specs.Pick.{both}
-use Rattle.types.proofs.Picks.{both-1, both-2, known-test}
+use Rattle.types.proofs.Prelude.{_≡_, Bool, true, false, ℕ, _+_, _≤_, _<_, arith, leb-true, not-false, both-1, both-2, known-test}
 use Rattle.types.proofs.Spans.{within-is}
-use Rattle.table.specs.Table.{soundBuffer, soundSize, soundTable}
-use Rattle.table.specs.Element.{soundSegment}
-use Rattle.table.specs.Copy.{soundTwo}
-use Rattle.table.specs.stages.Facts.{Within, Roomed, Places}
-use Rattle.table.specs.declared.table.Table.{Table}
+use mathlib.Core.Bool.{not}
+use Rattle.types.specs.Pick.{both}
+use Rattle.table.specs.{Table.soundBuffer, Table.soundSize, Table.soundTable, Element.soundSegment, Copy.soundTwo}
+use Rattle.table.specs.{stages.Facts.Within, stages.Facts.Roomed, stages.Facts.Places, declared.table.Table.Table}
 use Rattle.table.specs.declared.element.ElementSegment.{ElementSegment}
 
 pub buffer-within : (start places len : ℕ) → soundBuffer start places len ≡ true → start + places ≤ len

@@ -1,8 +1,5 @@
 -- Uniqueness: each public function's contract names one answer, and one content of what it is lent to write, for each input. Assumes nothing.
-use mathlib.Core.Path.{sym, _∙_}
-use mathlib.Core.List.{List}
-use Prim.Native.Nat.{ℕ}
-use denote.Ref.{now}
+use Rattle.types.proofs.Prelude.{sym, _∙_, List, ℕ, now}
 use Rattle.types.proofs.One.{One, OneWith}
 use Rattle.types.proofs.Dones.{done-parts}
 use Rattle.table.proofs.table.Table.copy.Reads as table-copy-reads

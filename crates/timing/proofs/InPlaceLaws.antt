@@ -1,8 +1,5 @@
 -- Laws of an operation that is done again and again in place. Assumes nothing.
-use Prim.Native.Nat.{ℕ, zero, suc, _-_, _<_, _≤_}
-use mathlib.Core.Path.{_≡_, refl, ap}
-use mathlib.Core.Bool.{Bool}
-use native.Mathlib.Omega.{arith}
+use Rattle.types.proofs.Prelude.{ℕ, zero, suc, _-_, _<_, _≤_, _≡_, refl, ap, Bool, arith}
 use Rattle.machine.specs.declared.operation.Operation.{Operation}
 use Rattle.timing.specs.InPlace.{Rowing, again}
 

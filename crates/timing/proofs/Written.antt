@@ -1,11 +1,6 @@
 -- Laws that carry what a function's parts are known to be into its own statement. Assumes nothing.
-use Prim.Native.Nat.{ℕ}
-use mathlib.Core.Path.{_≡_, ap, _∙_}
-use mathlib.Core.Bool.{Bool}
-use mathlib.Core.List.{List}
-use Rattle.types.specs.declared.answer.Answer.{Answer}
-use Rattle.types.specs.declared.fuel.Fuel.{Fuel}
-use Rattle.types.specs.Done.{Done}
+use Rattle.types.proofs.Prelude.{ℕ, _≡_, ap, _∙_, Bool, List}
+use Rattle.types.specs.{declared.answer.Answer.Answer, declared.fuel.Fuel.Fuel, Done.Done}
 use Rattle.lines.specs.AnswerLine.{answeredOf}
 
 pub answered-as : (l : List ℕ) {x : Done Bool} {a b : Answer} {f g : Fuel} → x ≡ answeredOf l a f → a ≡ b → f ≡ g → x ≡ answeredOf l b g

@@ -1,21 +1,12 @@
 -- What building a type shows: a valid type, or refusal 1; and the bytes of its minimum. Assumes nothing.
-use mathlib.Core.Path.{_≡_, sym, ap, _∙_}
-use mathlib.Core.Bool.{Bool, true}
-use Prim.Native.Nat.{ℕ, _*_, _^_}
-use native.Mathlib.Omega.{arith}
-use lib.Dec.{ltb}
-use borrow.Author.Tests.{eq-eqb, ne-eqb}
-use Rattle.types.specs.Answer.{refusal}
-use Rattle.types.specs.Pick.{pick, both}
+use Rattle.types.proofs.Prelude.{_≡_, sym, ap, _∙_, Bool, true, ℕ, _*_, _^_, arith, ltb, eq-eqb, ne-eqb, pick-true, pick-false, both-2, either}
+use Rattle.types.specs.{Answer.refusal, Pick.pick, Pick.both}
 use Rattle.types.specs.MemoryType.{pageBytes, pageOf, memoryType, validExponent, validMemory, validated, buildMemory, byteSize, minimumBytes}
-use Rattle.types.specs.declared.answer.Refusal.{Refusal}
-use Rattle.types.specs.declared.limits.Limits.{Limits}
-use Rattle.types.specs.declared.memory_ty.MemoryType.{MemoryType}
-use Rattle.types.specs.declared.memory_ty.BuiltMemory.the-variants as built
+use Rattle.types.specs.{declared.answer.Refusal.Refusal, declared.limits.Limits.Limits, declared.memory_ty.MemoryType.MemoryType}
 use Rattle.types.specs.declared.memory_ty.ByteSize.the-variants.{Bytes, Overflow}
 use Rattle.types.specs.declared.memory_ty.BuiltMemory.{BuiltMemory}
 use Rattle.types.specs.declared.memory_ty.PageSize.the-variants.{One, Wasm}
-use Rattle.types.proofs.Picks.{pick-true, pick-false, both-2, either}
+use Rattle.types.specs.declared.memory_ty.BuiltMemory.the-variants as built
 
 -- the bytes of a minimum that is below 2^64
 pub minimum-is : (t : MemoryType) (size : ℕ) → minimumBytes t ≡ Bytes size → t .limits .minimum * pageBytes (t .page) ≡ size

@@ -1,21 +1,11 @@
 -- The stages of grants are chains of checks in document 01's order. Assumes nothing.
-use mathlib.Core.Path.{_≡_, refl}
-use mathlib.Core.Bool.{Bool, true, false}
-use mathlib.Core.List.{List}
-use Prim.Native.Nat.{ℕ, _-_}
-use lib.Dec.{eqb, ltb}
-use Rattle.types.specs.Pick.{pick, both, unless}
-use Rattle.types.specs.Answer.{refusal, refuse, accept}
+use Rattle.types.proofs.Prelude.{_≡_, refl, Bool, true, false, List, ℕ, _-_, eqb, ltb}
+use Rattle.types.specs.{Pick.pick, Pick.both, Pick.unless, Answer.refusal, Answer.refuse, Answer.accept}
 use Rattle.types.specs.Fuel.{left, short, paid, consumeIf, consumeUnchecked}
 use Rattle.types.specs.Limiter.{saysOf, moved, permitOf, ask, heardOf, notify}
 use Rattle.types.specs.stages.Grant.{told, creationRoom, creationPermit, grantCreation, growthRoom, growthPaid, growthFuel, growthPermit, grantGrowth, grantSpan, spanned}
-use Rattle.types.specs.Done.{spanDone}
-use Rattle.types.specs.declared.fuel.Fuel.{Fuel}
-use Rattle.types.specs.declared.fuel.FuelStep.the-variants.{Done, Refused}
-use Rattle.types.specs.declared.grant.Growth.{Growth}
-use Rattle.types.specs.declared.limiter.Asked.{Asked}
-use Rattle.types.specs.declared.limiter.Limiter.{Limiter}
-use Rattle.types.specs.declared.limiter.Permit.{Permit}
+use Rattle.types.specs.{Done.spanDone, declared.fuel.Fuel.Fuel, declared.fuel.FuelStep.the-variants.Done, declared.fuel.FuelStep.the-variants.Refused}
+use Rattle.types.specs.{declared.grant.Growth.Growth, declared.limiter.Asked.Asked, declared.limiter.Limiter.Limiter, declared.limiter.Permit.Permit}
 use Rattle.types.specs.declared.limiter.Permit.the-variants.{Granted, Denied}
 
 -- a denial of which the limiter is told

@@ -1,7 +1,5 @@
 -- Two results with their cells are the same where their parts are, and only there. Assumes nothing.
-use mathlib.Core.Path.{_≡_, ap}
-use mathlib.Core.List.{List}
-use Prim.Native.Nat.{ℕ}
+use Rattle.types.proofs.Prelude.{_≡_, ap, List, ℕ}
 use Rattle.types.specs.Done.{Done, done}
 
 module _ {A : Type 0} {r s : A} {cs ds : List ℕ} where

@@ -1,14 +1,10 @@
 -- Floats and their bits, over the format. Assumes nothing.
-use mathlib.Core.Path.{_≡_, refl, sym, subst, _∙_}
-use mathlib.Core.Bool.{Bool, true, false, not}
-use Prim.Native.Nat.{ℕ, _*_, _<_, _^_}
+use Rattle.types.proofs.Prelude.{_≡_, refl, sym, subst, _∙_, Bool, true, false, ℕ, _*_, _<_, _^_}
+use mathlib.Core.Bool.{not}
 use lib.Dec.{T}
 use lib.Ieee.{Float, nan, inf, fin, Format, binary32, binary64, ofBits, toBits, nanBits, isNan, ne, top}
-use lib.Ieee.Bits.{toBits-ofBits, nanBits-is}
-use lib.Ieee.Compare.{differs-from-itself, nan-differs}
-use Rattle.types.specs.Pick.{pick}
-use Rattle.types.specs.Answer.{float32, float64, bitsOf}
-use Rattle.types.specs.declared.answer.Value.{Value}
+use lib.{Ieee.Bits.toBits-ofBits, Ieee.Bits.nanBits-is, Ieee.Compare.differs-from-itself, Ieee.Compare.nan-differs}
+use Rattle.types.specs.{Pick.pick, Answer.float32, Answer.float64, Answer.bitsOf, declared.answer.Value.Value}
 use Rattle.types.specs.declared.answer.Value.the-variants.{F32, F64, Nan32, Nan64}
 
 -- a float that does not differ from itself is no NaN, and one that does is the NaN

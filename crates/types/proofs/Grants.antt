@@ -1,22 +1,11 @@
 -- What a grant shows: that the cells fit; and what a denial shows: a number that is not 0. Assumes nothing.
-use mathlib.Core.Path.{_≡_, refl, ap}
-use mathlib.Core.Bool.{Bool, true, false}
-use Prim.Native.Nat.{ℕ, _-_, _<_}
-use native.Mathlib.Omega.{arith}
-use lib.Dec.{eqb, ltb}
-use Rattle.types.specs.Pick.{pick, both}
-use Rattle.types.specs.Answer.{refusal}
-use Rattle.types.specs.Fuel.{left, consumeIf, consumeUnchecked}
+use Rattle.types.proofs.Prelude.{_≡_, refl, ap, Bool, true, false, ℕ, _-_, _<_, arith, eqb, ltb, both-1, both-2}
+use Rattle.types.specs.{Pick.pick, Pick.both, Answer.refusal, Fuel.left, Fuel.consumeIf, Fuel.consumeUnchecked}
 use Rattle.types.specs.Limiter.{saysOf, permitOf, ask, heardOf, notify}
 use Rattle.types.specs.stages.Grant.{told, creationRoom, creationPermit, grantCreation, growthRoom, growthPaid, growthFuel, growthPermit, grantGrowth, grantSpan}
-use Rattle.types.specs.declared.answer.Refusal.{Refusal}
-use Rattle.types.specs.declared.fuel.Fuel.{Fuel}
-use Rattle.types.specs.declared.fuel.FuelStep.{FuelStep}
-use Rattle.types.specs.declared.fuel.FuelStep.the-variants.{Done, Refused}
-use Rattle.types.specs.declared.limiter.Limiter.{Limiter}
-use Rattle.types.specs.declared.limiter.Permit.{Permit}
-use Rattle.types.specs.declared.limiter.Permit.the-variants.{Granted, Denied}
-use Rattle.types.proofs.Picks.{both-1, both-2}
+use Rattle.types.specs.{declared.answer.Refusal.Refusal, declared.fuel.Fuel.Fuel, declared.fuel.FuelStep.FuelStep}
+use Rattle.types.specs.{declared.fuel.FuelStep.the-variants.Done, declared.fuel.FuelStep.the-variants.Refused, declared.limiter.Limiter.Limiter}
+use Rattle.types.specs.{declared.limiter.Permit.Permit, declared.limiter.Permit.the-variants.Granted, declared.limiter.Permit.the-variants.Denied}
 
 -- a permit is a grant only where a test holds, and denies only with a number
 abbrev pub Fair : Permit → Bool → Type 0

@@ -1,12 +1,8 @@
 -- Laws of a number in two halves of 64 bits. Assumes nothing.
-use mathlib.Core.Path.{_≡_, ap, sym, _∙_}
-use Prim.Native.Nat.{ℕ, _+_, _-_, _*_, _/_, _%_, _^_, _<_, _≤_}
-use native.Mathlib.Omega.{arith}
+use Rattle.types.proofs.Prelude.{_≡_, ap, sym, _∙_, ℕ, _+_, _-_, _*_, _/_, _%_, _^_, _<_, _≤_, arith}
 use native.Mathlib.Nat.{mul-assoc, mul-add-div-right, div-div-eq-div-mul, mul-div-cancel, mul-mod-left, add-zero, zero-add, mod-lt}
-use lib.Arith.{digits-div, digits-mod, digits-lt, mod-mul}
-use lib.Pow.{pow-add, pow-pos, shr-lt}
-use Rattle.types.specs.declared.wide.Wide.{Wide}
-use Rattle.types.specs.Wide.{whole, halves}
+use lib.{Arith.digits-div, Arith.digits-mod, Arith.digits-lt, Arith.mod-mul, Pow.pow-add, Pow.pow-pos, Pow.shr-lt}
+use Rattle.types.specs.{declared.wide.Wide.Wide, Wide.whole, Wide.halves}
 
 pub whole-halves : (n : ℕ) → whole (halves n) ≡ n
 unfolding whole halves

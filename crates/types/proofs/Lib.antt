@@ -1,3 +1,4 @@
+pub mod Prelude
 pub mod One
 pub mod Dones
 pub mod Picks

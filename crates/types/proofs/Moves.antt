@@ -1,16 +1,11 @@
 -- What a turn of a loop that copies, fills or puts adds to a span, over cells of any size. Assumes nothing.
-use mathlib.Core.Path.{_≡_, refl, ap, sym, _∙_}
-use mathlib.Core.List.{List, _++_, append-nil}
-use Prim.Native.Nat.{ℕ, suc, _+_, _-_, _≤_, _<_}
-use native.Mathlib.Omega.{arith}
-use native.Mathlib.Numerals.{add-one}
-use native.Mathlib.Nat.{add-zero}
-use lib.ListN.{length, take, drop, set, getD, replicate, length-take, length-drop, length-replicate, drop-of-length-le}
-use lib.Seq.{take-suc, take-add, drop-drop, take-all}
-use borrow.Rule.Slice.PartMut.{putMid, midOf, mid-len}
-use Rattle.types.specs.Span.{over, cut}
-use Rattle.types.specs.stages.Facts.{Two}
+use Rattle.types.proofs.Prelude.{_≡_, refl, ap, sym, _∙_, List, _++_, append-nil, ℕ, suc, _+_, _-_, _≤_, _<_, arith, add-one, length, take, drop, set}
+use Rattle.types.proofs.Prelude.{getD, replicate, length-take, length-drop, length-replicate, drop-drop, take-all}
 use Rattle.types.proofs.Spans.{over-nil, over-put, over-over, over-under, over-after, cut-before}
+use native.Mathlib.Nat.{add-zero}
+use lib.{ListN.drop-of-length-le, Seq.take-suc, Seq.take-add}
+use borrow.Rule.Slice.PartMut.{putMid, midOf, mid-len}
+use Rattle.types.specs.{Span.over, Span.cut, stages.Facts.Two}
 
 pub length-cut : (l : List ℕ) (a n : ℕ) → a + n ≤ length l → length (cut l a n) ≡ n
 unfolding cut

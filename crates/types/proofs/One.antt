@@ -1,7 +1,5 @@
 -- What it is for a contract to name one outcome: any two that meet it at the same arguments are equal. Assumes nothing.
-use mathlib.Core.Path.{_≡_}
-use mathlib.Core.List.{List}
-use Prim.Native.Nat.{ℕ}
+use Rattle.types.proofs.Prelude.{_≡_, List, ℕ}
 use contract.Lifetimes.{Lfts}
 use borrow.Fn.Kinds.{PK, RK, Dens, In, Out, resT, endedOf}
 use denote.Triple.Clauses.{AtExit}

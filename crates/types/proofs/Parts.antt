@@ -1,14 +1,9 @@
 -- Laws of a list that takes another's place part by part, over cells of any size. Assumes nothing.
-use mathlib.Core.Path.{_≡_, refl, sym, ap, _∙_}
-use mathlib.Core.List.{List, _++_}
-use Prim.Native.Nat.{ℕ, _+_, _-_, _/_, _≤_, _<_}
-use native.Mathlib.Omega.{arith}
-use lib.ListN.{length, take, length-take, length-drop}
-use lib.Seq.{take-add, take-all}
+use Rattle.types.proofs.Prelude.{_≡_, refl, sym, ap, _∙_, List, _++_, ℕ, _+_, _-_, _/_, _≤_, _<_, arith, length, take, length-take, length-drop}
+use Rattle.types.proofs.{Prelude.take-all, Spans.over-over, Moves.put-part, Moves.put-none, Moves.put-all}
+use lib.Seq.{take-add}
 use borrow.Rule.Slice.PartMut.{putMid, midOf, mid-len}
 use Rattle.types.specs.Span.{over}
-use Rattle.types.proofs.Spans.{over-over}
-use Rattle.types.proofs.Moves.{put-part, put-none, put-all}
 
 -- the cells from i to e, after those up to i
 pub put-on : (l s t ys : List ℕ) (i e : ℕ) → i ≤ e → e ≤ length t → length l ≡ length t → length s ≡ length l

@@ -1,6 +1,5 @@
 -- Laws of `pick` and `both`, and the sets of laws that close the exits of a function that decides. Assumes nothing.
-use mathlib.Core.Bool.{Bool, true, false, false≢true}
-use mathlib.Core.Path.{_≡_, refl, sym, ap, _∙_}
+use mathlib.{Core.Bool.Bool, Core.Bool.true, Core.Bool.false, Core.Bool.false≢true, Core.Path._≡_, Core.Path.refl, Core.Path.sym, Core.Path.ap, Core.Path._∙_}
 use borrow.Author.Tests.{lt-ltb, le-ltb, le-leb, lt-leb, eq-eqb, ne-eqb, not-true, not-false}
 use Rattle.types.specs.Pick.{pick, both}
 

@@ -1,13 +1,7 @@
 -- Laws of the price, over the byte length and so over the cell size. Assumes nothing.
-use mathlib.Core.Path.{_≡_, ap, sym, _∙_}
-use Prim.Native.Nat.{ℕ, suc, _+_, _-_, _*_, _/_, _^_, _<_, _≤_}
-use native.Mathlib.Omega.{arith}
+use Rattle.types.proofs.Prelude.{_≡_, ap, sym, _∙_, ℕ, suc, _+_, _-_, _*_, _/_, _^_, _<_, _≤_, arith, eq-eqb, ne-eqb, eqb, pick-true, pick-false}
 use native.Mathlib.Nat.{div-mul-le-self, mul-le-mul-right, mul-comm, lt-div-mul-add, mul-zero, mul-le-mul}
-use borrow.Author.Tests.{eq-eqb, ne-eqb}
-use lib.Dec.{eqb}
-use Rattle.types.specs.Pick.{pick}
-use Rattle.types.specs.Price.{capped, price}
-use Rattle.types.proofs.Picks.{pick-true, pick-false}
+use Rattle.types.specs.{Pick.pick, Price.capped, Price.price}
 
 pub capped-small : (n : ℕ) → n < 2 ^ 64 → capped n ≡ n
 unfolding capped

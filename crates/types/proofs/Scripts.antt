@@ -1,19 +1,10 @@
 -- Laws of the limiter's script. Assumes nothing.
-use mathlib.Core.Path.{_≡_, refl, sym, ap, _∙_}
-use mathlib.Core.Bool.{true, false}
-use mathlib.Core.List.{List, [], _∷_, _++_}
-use Prim.Native.Nat.{ℕ, zero, suc, _+_, _<_, _≤_}
-use native.Mathlib.Omega.{arith}
+use Rattle.types.proofs.Prelude.{_≡_, refl, sym, ap, _∙_, true, false, List, [], _∷_, _++_, ℕ, zero, suc, _+_, _<_, _≤_, arith, add-one, leb, length}
+use Rattle.types.proofs.Prelude.{take, drop, getD, set, replicate, length-take, drop-cons, le-leb, lt-leb, leb-true, both-left, both-right, both-then}
+use Rattle.types.proofs.Prelude.{both-1}
 use native.Mathlib.Nat.{not-suc-le-zero, le-of-suc-le-suc}
-use native.Mathlib.Numerals.{add-one}
-use lib.Dec.{leb}
-use lib.ListN.{length, take, drop, getD, set, replicate, length-take, List·getD-eq-default}
-use lib.Seq.{getD-take, drop-cons, take-length}
-use borrow.Author.Tests.{le-leb, lt-leb, leb-true}
-use Rattle.types.specs.declared.limiter.Limiter.{Limiter}
-use Rattle.types.specs.Limiter.{saysOf, padded, allAnswers, wellFormed}
-use Rattle.types.specs.Pick.{both}
-use Rattle.types.proofs.Picks.{both-left, both-right, both-then, both-1}
+use lib.{ListN.List·getD-eq-default, Seq.getD-take, Seq.take-length}
+use Rattle.types.specs.{declared.limiter.Limiter.Limiter, Limiter.saysOf, Limiter.padded, Limiter.allAnswers, Limiter.wellFormed, Pick.both}
 
 -- past the script's end, and past its row
 pub says-past : (l : Limiter) → l .count ≤ l .at → 0 ≡ saysOf l

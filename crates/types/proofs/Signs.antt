@@ -1,15 +1,7 @@
 -- Two's complement, over the width: the bits of a signed number by its difference from -1. Assumes nothing.
-use Prim.Native.Nat.{ℕ, suc, _+_, _-_, _%_, _<_, _^_}
-use mathlib.Core.Path.{_≡_, refl, sym, _∙_, ap, subst}
-use mathlib.Core.Bool.{true, false, false≢true}
-use native.Mathlib.Omega.{arith}
-use lib.Dec.{T, leb·zero}
-use borrow.Author.Tests.{le-ltb}
-use lib.IntN.{ℤ, pos, negsuc, natAbs, _-ℤ_}
-use lib.Signed.{leZ, nonNeg}
-use mir.Syntax.{Width, w8, w16, w32, w64, w128}
-use mir.Val.{Fits, SFits, toZ, ofZ, bits, hbits}
-use mir.Facts.{toZ-ofZ}
+use Rattle.types.proofs.Prelude.{ℕ, suc, _+_, _-_, _%_, _<_, _^_, _≡_, refl, sym, _∙_, ap, subst, true, false, false≢true, arith, le-ltb}
+use lib.{Dec.T, Dec.leb·zero, IntN.ℤ, IntN.pos, IntN.negsuc, IntN.natAbs, IntN._-ℤ_, Signed.leZ, Signed.nonNeg}
+use mir.{Syntax.Width, Syntax.w8, Syntax.w16, Syntax.w32, Syntax.w64, Syntax.w128, Val.Fits, Val.SFits, Val.toZ, Val.ofZ, Val.bits, Val.hbits, Facts.toZ-ofZ}
 
 twice : (w : Width) → 2 ^ bits w ≡ 2 ^ hbits w + 2 ^ hbits w
 twice w8 = refl

@@ -1,19 +1,10 @@
 -- Laws of page sizes and sizes in bytes. Assumes nothing.
-use mathlib.Core.Path.{_≡_, sym, ap, _∙_}
-use Prim.Native.Nat.{ℕ, _-_, _*_, _/_, _^_, _<_, _≤_}
-use native.Mathlib.Omega.{arith}
-use borrow.Author.Tests.{lt-ltb, le-ltb}
-use Rattle.types.specs.declared.memory_ty.PageSize.{PageSize}
-use Rattle.types.specs.declared.memory_ty.PageSize.the-variants.{One, Wasm}
-use Rattle.types.specs.declared.memory_ty.ByteSize.the-variants.{Bytes, Overflow}
-use mathlib.Core.Bool.{false}
-use Rattle.types.specs.IndexType.{maxSize}
-use Rattle.types.specs.declared.index_ty.IndexType.{IndexType}
-use Rattle.types.specs.declared.index_ty.IndexType.the-variants.{I32, I64}
-use Rattle.types.specs.declared.memory_ty.MemoryType.{MemoryType}
-use Rattle.types.specs.MemoryType.{log2Of, pageBytes, byteSize, maximumBytes}
-use Rattle.types.proofs.Picks.{pick-true, pick-false}
+use Rattle.types.proofs.Prelude.{_≡_, sym, ap, _∙_, ℕ, _-_, _*_, _/_, _^_, _<_, _≤_, arith, lt-ltb, le-ltb, false, pick-true, pick-false}
 use Rattle.types.proofs.Prices.{too-large, product-fits}
+use Rattle.types.specs.{declared.memory_ty.PageSize.PageSize, declared.memory_ty.PageSize.the-variants.One, declared.memory_ty.PageSize.the-variants.Wasm}
+use Rattle.types.specs.{declared.memory_ty.ByteSize.the-variants.Bytes, declared.memory_ty.ByteSize.the-variants.Overflow, IndexType.maxSize}
+use Rattle.types.specs.{declared.index_ty.IndexType.IndexType, declared.index_ty.IndexType.the-variants.I32, declared.index_ty.IndexType.the-variants.I64}
+use Rattle.types.specs.{declared.memory_ty.MemoryType.MemoryType, MemoryType.log2Of, MemoryType.pageBytes, MemoryType.byteSize, MemoryType.maximumBytes}
 
 pub log2-few : (p : PageSize) → log2Of p < 64
 log2-few One = omega arith

@@ -1,14 +1,10 @@
 -- Laws of spans, over cells of any size: their bounds, what a replaced span holds, and what stays outside it. Assumes nothing.
-use mathlib.Core.Path.{_≡_, refl, ap, sym, _∙_}
-use mathlib.Core.Bool.{Bool, true, false}
-use mathlib.Core.List.{List, [], _∷_, _++_, append-assoc}
-use Prim.Native.Nat.{ℕ, zero, suc, _+_, _-_, _≤_, _<_}
-use native.Mathlib.Omega.{arith}
+use Rattle.types.proofs.Prelude.{_≡_, refl, ap, sym, _∙_, Bool, true, false, List, [], _∷_, _++_, append-assoc, ℕ, zero, suc, _+_, _-_, _≤_, _<_, arith}
+use Rattle.types.proofs.Prelude.{leb, length, take, drop, set, getD, length-append, length-drop, length-set, drop-cons, drop-drop, le-leb, lt-leb}
+use Rattle.types.proofs.Prelude.{leb-true, leb-false}
 use native.Mathlib.Nat.{add-zero}
-use lib.Dec.{leb}
-use lib.ListN.{length, take, drop, set, getD, length-append, length-drop, length-set, take-append-drop}
-use lib.Seq.{take-at, drop-at, set-at, length-take-le, drop-cons, take-suc-set, drop-set-lt, take-set-le, append-snoc, drop-append-add, drop-drop, getD-set-same, take-take, take-nil}
-use borrow.Author.Tests.{le-leb, lt-leb, leb-true, leb-false}
+use lib.ListN.{take-append-drop}
+use lib.Seq.{take-at, drop-at, set-at, length-take-le, take-suc-set, drop-set-lt, take-set-le, append-snoc, drop-append-add, getD-set-same, take-take, take-nil}
 use Rattle.types.specs.Span.{inside, over, cut}
 
 -- the bounds, for all starts and lengths

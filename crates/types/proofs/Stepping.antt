@@ -1,19 +1,11 @@
 -- The standard's steps of fill, init and copy leave the closed form: a span replaced by what the source was before. Assumes nothing.
-use mathlib.Core.Path.{_≡_, refl, ap, sym, _∙_}
-use mathlib.Core.Bool.{Bool, true, false}
-use mathlib.Core.Logic.{_⊎_, inl, inr}
-use mathlib.Core.List.{List, [], _∷_, _++_}
-use Prim.Native.Nat.{ℕ, zero, suc, _+_, _-_, _≤_, _<_}
-use native.Mathlib.Omega.{arith}
-use native.Mathlib.Nat.{add-suc, add-assoc}
-use borrow.Author.Tests.{leb-true, leb-false}
-use lib.Dec.{leb}
-use lib.ListN.{length, take, drop, set, getD, replicate, length-set, length-take, length-drop}
-use lib.Seq.{drop-cons, take-suc, getD-drop, drop-set-lt, drop-set-add, take-set-le}
-use Rattle.types.specs.Pick.{pick}
-use Rattle.types.specs.Span.{over, cut}
-use Rattle.types.specs.Steps.{fillSteps, initSteps, copySteps, Apart}
+use Rattle.types.proofs.Prelude.{_≡_, refl, ap, sym, _∙_, Bool, true, false, List, [], _∷_, _++_, ℕ, zero, suc, _+_, _-_, _≤_, _<_, arith, leb-true}
+use Rattle.types.proofs.Prelude.{leb-false, leb, length, take, drop, set, getD, replicate, length-set, length-take, length-drop, drop-cons}
 use Rattle.types.proofs.Spans.{over-nil, over-first, over-last}
+use mathlib.Core.Logic.{_⊎_, inl, inr}
+use native.Mathlib.Nat.{add-suc, add-assoc}
+use lib.Seq.{take-suc, getD-drop, drop-set-lt, drop-set-add, take-set-le}
+use Rattle.types.specs.{Pick.pick, Span.over, Span.cut, Steps.fillSteps, Steps.initSteps, Steps.copySteps, Steps.Apart}
 
 pub fill-closed : (n : ℕ) (l : List ℕ) (x i v : ℕ) → x + i + n ≤ length l → fillSteps n l x i v ≡ over l (x + i) (replicate n v)
 unfolding fillSteps

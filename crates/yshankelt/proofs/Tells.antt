@@ -1,39 +1,17 @@
 -- Laws of what C is told of a machine in a row of words. Assumes nothing.
-use Prim.Native.Nat.{ℕ, _+_, _≤_, _<_}
-use mathlib.Core.Path.{_≡_, refl, sym, ap, _∙_}
-use mathlib.Core.Bool.{true, false}
-use mathlib.Core.List.{List, [], _∷_}
-use native.Mathlib.Omega.{arith}
-use lib.ListN.{length, getD, replicate}
-use borrow.Author.Tests.{le-leb, eq-eqb, ne-eqb}
-use Rattle.types.proofs.Picks.{pick-true, pick-false, either}
-use Rattle.types.proofs.Spans.{length-over}
-use Rattle.types.specs.Pick.{pick}
-use Rattle.types.specs.Span.{over}
-use Rattle.types.specs.Answer.{refuse, numberOf, shownOf}
-use Rattle.types.specs.Raw.{rawBytes}
-use Rattle.types.specs.declared.answer.Answer.{Answer}
+use Rattle.types.proofs.Prelude.{ℕ, _+_, _≤_, _<_, _≡_, refl, sym, ap, _∙_, true, false, List, [], _∷_, arith, length, getD, replicate, le-leb, eq-eqb, ne-eqb}
+use Rattle.types.proofs.{Prelude.pick-true, Prelude.pick-false, Prelude.either, Spans.length-over}
+use Rattle.types.specs.{Pick.pick, Span.over, Answer.refuse, Answer.numberOf, Answer.shownOf, Raw.rawBytes, declared.answer.Answer.Answer}
 use Rattle.types.specs.declared.fuel.Fuel.{Fuel}
-use Rattle.machine.specs.Machine.{Buffers}
-use Rattle.machine.specs.Operation.{wellFormed}
-use Rattle.machine.specs.Outcome.{settled, changed}
-use Rattle.machine.specs.Step.{decide, step}
-use Rattle.machine.specs.Words.{rowLength, machineFrom, inForm, wordsOf}
-use Rattle.machine.specs.Row.{InRow, operateRow, fuelOf}
-use Rattle.machine.specs.stages.Rows.{Shaped}
+use Rattle.machine.specs.{Machine.Buffers, Operation.wellFormed, Outcome.settled, Outcome.changed, Step.decide, Step.step}
+use Rattle.machine.specs.{Words.rowLength, Words.machineFrom, Words.inForm, Words.wordsOf, Row.InRow, Row.operateRow, Row.fuelOf, stages.Rows.Shaped}
 use Rattle.machine.specs.declared.records.Machine.{Machine}
-use Rattle.machine.proofs.Back.{words-length, row-back}
-use Rattle.machine.proofs.Formed.{form-holds}
-use Rattle.lines.specs.Code.{operationOf, readLine}
-use Rattle.lines.specs.Session.{Held, Turn, turnBy, turnOf}
-use Rattle.lines.specs.AnswerLine.{fuelShown}
-use Rattle.lines.specs.{Line.lineOf, Line.lineText, stages.Back.filled}
-use Rattle.lines.specs.Sayable.{Small}
+use Rattle.machine.proofs.{Back.words-length, Back.row-back, Formed.form-holds}
+use Rattle.lines.specs.{Code.operationOf, Code.readLine, Session.Held, Session.Turn, Session.turnBy, Session.turnOf, AnswerLine.fuelShown}
+use Rattle.lines.specs.{Line.lineOf, Line.lineText, stages.Back.filled, Sayable.Small, declared.line.Line.Line, declared.code.Read.Read}
 use Rattle.lines.proofs.FieldText.{line-write}
-use Rattle.lines.specs.declared.line.Line.{Line}
-use Rattle.lines.specs.declared.code.Read.{Read}
-use Rattle.lines.specs.declared.code.Read.the-variants as read
 use Rattle.yshankelt.specs.Whole.{Call, call, goodLine, lineFrom, answered, told, operateOf}
+use Rattle.lines.specs.declared.code.Read.the-variants as read
 
 -- at most 8 fields, place by place
 pub eight-fields : (l : List ℕ) → length l ≤ 8

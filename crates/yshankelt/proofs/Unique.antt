@@ -1,8 +1,5 @@
 -- Uniqueness: each public function's contract names one answer, and one content of what it is lent to write, for each input. Assumes nothing.
-use mathlib.Core.Path.{sym, ap, _∙_}
-use mathlib.Core.List.{List}
-use Prim.Native.Nat.{ℕ}
-use denote.Ref.{now}
+use Rattle.types.proofs.Prelude.{sym, ap, _∙_, List, ℕ, now}
 use Rattle.types.proofs.One.{One, OneWith}
 use Rattle.machine.specs.Machine.{Buffers, buffers}
 use Rattle.machine.specs.Row.{Rowed}

@@ -1,9 +1,5 @@
 -- `session::drain` meets its contract. Assumes nothing.
-use mathlib.Core.Path.{_≡_, refl}
-use native.Mathlib.Omega.{arith}
-use lib.ListN.{length}
-use Prim.Native.Nat.{_-_, _≤_}
-use borrow.Author.Needs.{needs}
+use Rattle.types.proofs.Prelude.{_≡_, refl, arith, length, _-_, _≤_, needs}
 use Rattle.session.proofs.drain.Statement.{statement}
 use Rattle.session.proofs.drain.Tie as tie
 

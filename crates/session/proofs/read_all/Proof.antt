@@ -1,8 +1,5 @@
 -- `session::read_all` meets its contract. Assumes nothing.
-use mathlib.Core.Path.{_≡_, refl}
-use native.Mathlib.Omega.{arith}
-use lib.ListN.{length}
-use borrow.Author.Needs.{needs}
+use Rattle.types.proofs.Prelude.{_≡_, refl, arith, length, needs}
 use Rattle.session.proofs.read_all.Statement.{statement}
 use Rattle.session.proofs.read_all.Tie as tie
 

@@ -1,9 +1,6 @@
 -- `timing::set_from` meets its contract. Assumes nothing.
-use mathlib.Core.Path.{ap, _∙_}
-use Rattle.types.specs.Answer.{numberOf}
-use Rattle.types.specs.Done.{Done}
-use Rattle.types.specs.declared.answer.Answer.{Answer}
-use borrow.Author.Needs.{needs}
+use Rattle.types.proofs.Prelude.{ap, _∙_, needs}
+use Rattle.types.specs.{Answer.numberOf, Done.Done, declared.answer.Answer.Answer}
 use Rattle.timing.proofs.set_from.Statement.{statement}
 use Rattle.timing.proofs.set_from.Tie as tie
 

@@ -1,8 +1,5 @@
 -- `edges::memories::lines` meets its contract. Assumes nothing.
-use Prim.Native.Nat.{_-_}
-use mathlib.Core.Path.{_≡_}
-use lib.ListN.{length}
-use borrow.Author.Needs.{needs}
+use Rattle.types.proofs.Prelude.{_-_, _≡_, length, needs}
 use Rattle.edges.proofs.memories.lines.Statement.{statement}
 use Rattle.edges.proofs.memories.lines.Tie as tie
 

@@ -1,8 +1,5 @@
 -- `edges::print::bytes` meets its contract. Assumes nothing.
-use Prim.Native.Nat.{_≤_, _-_}
-use native.Mathlib.Omega.{arith}
-use lib.ListN.{length}
-use borrow.Author.Needs.{needs}
+use Rattle.types.proofs.Prelude.{_≤_, _-_, arith, length, needs}
 use Rattle.edges.proofs.print.bytes.Statement.{statement}
 use Rattle.edges.proofs.print.bytes.Tie as tie
 

@@ -1,7 +1,5 @@
 -- `edges::print::cells` meets its contract. Assumes nothing.
-use Prim.Native.Nat.{_≤_, _-_}
-use lib.ListN.{length}
-use borrow.Author.Needs.{needs}
+use Rattle.types.proofs.Prelude.{_≤_, _-_, length, needs}
 use Rattle.edges.proofs.print.cells.Statement.{statement}
 use Rattle.edges.proofs.print.cells.Tie as tie
 

@@ -1,9 +1,5 @@
 -- `edges::tables::lines` meets its contract. Assumes nothing.
-use Prim.Native.Nat.{_-_}
-use mathlib.Core.Path.{_≡_}
-use native.Mathlib.Omega.{arith}
-use lib.ListN.{length}
-use borrow.Author.Needs.{needs}
+use Rattle.types.proofs.Prelude.{_-_, _≡_, arith, length, needs}
 use Rattle.edges.proofs.tables.lines.Statement.{statement}
 use Rattle.edges.proofs.tables.lines.Tie as tie
 

@@ -1,7 +1,5 @@
 -- `edges::text::find` meets its contract. Assumes nothing.
-use Prim.Native.Nat.{_≤_, _-_}
-use lib.ListN.{length}
-use borrow.Author.Needs.{needs}
+use Rattle.types.proofs.Prelude.{_≤_, _-_, length, needs}
 use Rattle.edges.proofs.text.find.Statement.{statement}
 use Rattle.edges.proofs.text.find.Tie as tie
 

@@ -1,8 +1,5 @@
 -- `edges::text::numbers` meets its contract. Assumes nothing.
-use Prim.Native.Nat.{_≤_, _-_}
-use mathlib.Core.Path.{_≡_}
-use lib.ListN.{length}
-use borrow.Author.Needs.{needs}
+use Rattle.types.proofs.Prelude.{_≤_, _-_, _≡_, length, needs}
 use Rattle.edges.proofs.text.numbers.Statement.{statement}
 use Rattle.edges.proofs.text.numbers.Tie as tie
 

@@ -1,8 +1,5 @@
 -- `edges::text::word` meets its contract. Assumes nothing.
-use Prim.Native.Nat.{_≤_, _<_, _-_}
-use native.Mathlib.Omega.{arith}
-use lib.ListN.{length}
-use borrow.Author.Needs.{needs}
+use Rattle.types.proofs.Prelude.{_≤_, _<_, _-_, arith, length, needs}
 use Rattle.edges.proofs.text.word.Statement.{statement}
 use Rattle.edges.proofs.text.word.Tie as tie
 

@@ -1,6 +1,5 @@
 -- `lent::fuel::charge` meets its contract. Assumes nothing.
-use mathlib.Core.Path.{sym}
-use borrow.Author.Needs.{needs}
+use Rattle.types.proofs.Prelude.{sym, needs}
 use Rattle.lent.proofs.fuel.charge.Statement.{statement}
 use Rattle.lent.proofs.fuel.charge.Tie as tie
 

@@ -1,6 +1,5 @@
 -- `lent::fuel::charge_if` meets its contract. Assumes nothing.
-use mathlib.Core.Path.{sym}
-use borrow.Author.Needs.{needs}
+use Rattle.types.proofs.Prelude.{sym, needs}
 use Rattle.lent.proofs.fuel.charge_if.Statement.{statement}
 use Rattle.lent.proofs.fuel.charge_if.Tie as tie
 

@@ -1,7 +1,6 @@
 -- `lent::fuel::get` meets its contract. Assumes nothing.
+use Rattle.types.proofs.Prelude.{sym, needs}
 use Rattle.lent.specs.stages.Fuel.{leftOf}
-use mathlib.Core.Path.{sym}
-use borrow.Author.Needs.{needs}
 use Rattle.lent.proofs.fuel.get.Statement.{statement}
 use Rattle.lent.proofs.fuel.get.Tie as tie
 

@@ -1,10 +1,10 @@
 -- `lent::fuel::request` meets its contract, by a walk of its MIR: the borrow is opened, the record copied out, `requested` called on it, the amount left stored, the borrow closed. Assumes nothing.
 use Rattle.lent.proofs.Walk.{_≡_, refl, ap, subst, [], _∷_, List, ℕ, fullShare, URA, named, Val, vptr, Lft, Share, ftrue, fat, flft, fobs, fbor, GName, SProp, ent, emp, via, fst∗, id⊢, snd∗, exE, Routine, Heap, Calls, Loops, WpFn, Atoms, sem, Fun, fact, givenOf, tables, FmC, Given, ‵, raw, _⊛_, some, later, ⋆, _$_, _∵_, !, qed, by, move, keep, drop, use1, split, join, pick, rewrite, fsplit, fsplit3, fjoin, fjoin3, feqI, suffices, frame, await, done, look, look-raw, init, forget, stop, hop, fld, from, load, of-opd, and-then, no-more, assigns, land, returns, enter, alloc1, alloc0, params1, pass1, pass0, free1, free0, whole, sub, look-in, store-in, Body, owns, Is, shows, mem, RefT, MutRef, ptr-vals, mut-tells, plain, only, opens, closes, owned, peeks, heard, nothing, spelt, yes, Contract, Triple, calls-at, ensured, lasts, onEntry, tripleOf, cited, says, Stays, stay-none, stay-ref, walkOf, AllGo, goes-none, goes-ref, Walks, ends-at, walked, Mem, closes-walk}
-use denote.Struct.Laws as LL
-use denote.Enum.Laws as EL
+use Rattle.lent.proofs.{FuelLaws.request-done, fuel.requested.Symbol.name as #base·requested, fuel.request.Key.name as #base·request}
 use Rattle.types.specs.{Fuel.left, declared.fuel.Fuel.Fuel}
 use Rattle.lent.specs.{Fuel.requested, stages.Fuel.leftOf, declared.fuel.FuelLeft.FuelLeft, declared.fuel.FuelRequest.FuelRequest}
-use Rattle.lent.proofs.FuelLaws.{request-done}
+use denote.Struct.Laws as LL
+use denote.Enum.Laws as EL
 use Rattle.types.proofs.fuel.Fuel as T
 use Rattle.types.proofs.fuel.Fuel.Laws as T′
 use Rattle.lent.proofs.fuel.FuelLeft as R
@@ -15,9 +15,7 @@ use Rattle.types.proofs.answer.Answer as S
 use Rattle.types.proofs.answer.Answer.Laws as S′
 use Rattle.lent.proofs.fuel.requested as core
 use Rattle.lent.proofs.fuel.requested.Symbol as core-def
-use Rattle.lent.proofs.fuel.requested.Symbol.{name as #base·requested}
 use Rattle.lent.proofs.fuel.requested.Met as core-thm
-use Rattle.lent.proofs.fuel.request.Key.{name as #base·request}
 use Rattle.lent.proofs.fuel.request as f
 use Rattle.lent.proofs.fuel.request.Statement as stated
 use Rattle.lent.proofs.fuel.request.Code as code

@@ -1,8 +1,7 @@
 -- `lent::memories::alone` meets its contract. Assumes nothing.
-use mathlib.Core.Path.{ap}
+use Rattle.types.proofs.Prelude.{ap, needs}
 use Rattle.machine.specs.{Machine.freshMachine, declared.records.Machine.Machine}
 use Rattle.lent.specs.stages.Growth.{memoriesAlone}
-use borrow.Author.Needs.{needs}
 use Rattle.lent.proofs.memories.alone.Statement.{statement}
 use Rattle.lent.proofs.memories.alone.Tie as tie
 

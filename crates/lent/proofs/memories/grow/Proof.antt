@@ -1,11 +1,12 @@
 -- `lent::memories::grow` meets its contract, by a walk of its code: a list with too few places is refused. Assumes nothing.
 use Rattle.lent.proofs.Walk.{_≡_, refl, sym, [], _∷_, List, ℕ, _≤_, _<_, _^_, ltb→lt, nltb→le, lit<, length, URA, named, w64, Val, vint, Lft, Share, ftrue, flft, fres, SProp, ent, emp, via, fst∗, id⊢, Routine, Heap, Calls, Loops, WpFn, Atoms, Fun, fact, givenOf, tables, FmC, Given, Item, atRet, ‵, raw, _⊛_, some, later, ⋆, _$_, _∵_, !, qed, by, move, keep, drop, use1, group, split, join, pick, fsplit, fsplit3, fjoin, feqL, suffices, frame, await, done, look, init, stop, hop, fld, from, load, lit, addr, of-opd, bin, and-then, no-more, assigns, land, first, branches, skips, exec, returns-within, returns, enter, alloc1, alloc0, params1, pass1, pass0, agg, whole, sub, look-in, name-done, owns, Is, shows, uint-makes, uint-vals, uint-tells, u8, u64, usize, RefT, MutRef, ptr-vals, mut-tells, slice-vals, MutSlice, Room, finally, res-finally, mut-slice-tells, plain, owned, peeks, heard, nothing, yes, Contract, Triple, calls-at, ensured, lasts, onEntry, tripleOf, cited, says, Stays, stay-none, gave-ref, gave-slice, walkOf, AllGo, goes-none, goes-gave-ref, goes-gave-slice, Walks, ends-at, walked, Mem, list-of, record-of, closes-walk, free-all, held, bare}
-use denote.Struct.Laws as LL
-use denote.Enum.Laws as EL
+use Rattle.lent.proofs.{GrowthAnswers.memory-answers, memories.grow_here.Symbol.name as #grow-here, memories.grow.Key.name as #grow}
+use Rattle.lent.proofs.memories.grow.Code.Mir.{t-4}
 use Rattle.types.specs.{Answer.refusal, Answer.refuse, declared.fuel.Fuel.Fuel, declared.limiter.Limiter.Limiter, declared.answer.Answer.Answer}
 use Rattle.lent.specs.{Growth.Lending, Growth.lending, Growth.grew, Memories.growMemoryAt}
-use Rattle.lent.proofs.GrowthAnswers.{memory-answers}
 use Rattle.memory.specs.declared.memory.Memory.{Memory}
+use denote.Struct.Laws as LL
+use denote.Enum.Laws as EL
 use Rattle.memory.proofs.memory.Memory as Y
 use Rattle.types.proofs.fuel.Fuel as F
 use Rattle.types.proofs.limiter.Limiter as Lm
@@ -15,13 +16,10 @@ use Rattle.types.proofs.answer.Refusal as R
 use Rattle.types.proofs.answer.Refusal.Laws as R′
 use Rattle.lent.proofs.memories.grow_here as step
 use Rattle.lent.proofs.memories.grow_here.Symbol as step-def
-use Rattle.lent.proofs.memories.grow_here.Symbol.{name as #grow-here}
 use Rattle.lent.proofs.memories.grow_here.Met as step-thm
-use Rattle.lent.proofs.memories.grow.Key.{name as #grow}
 use Rattle.lent.proofs.memories.grow as f
 use Rattle.lent.proofs.memories.grow.Statement as stated
 use Rattle.lent.proofs.memories.grow.Code as code
-use Rattle.lent.proofs.memories.grow.Code.Mir.{t-4}
 
 abbrev Arg : Type 0
 Arg = RefT (List Memory) × (ℕ × (ℕ × (RefT (List ℕ) × (ℕ × (RefT Fuel × (RefT Limiter × Unit {0}))))))

@@ -1,16 +1,17 @@
 -- `lent::memories::grow_here` meets its contract, by a walk of its code: the first 8 records are read, one is grown, and its size, the fuel left and the script's place are written back. Assumes nothing.
 use Rattle.lent.proofs.Walk.{_≡_, refl, ap, subst, sym, [], _∷_, List, map, ℕ, _≤_, _<_, _^_, _*_, arith, ltb, ltb→lt, length, set, getD, length-set, fullShare, URA, named, w64, tyInt, tyPtr, Val, vint, vptr, WT, hasTy, Lft, Share, ftrue, fat, flft, fobs, fbor, SProp, ent, id⊢, Routine, Heap, Calls, Loops, WpFn, Atoms, Fun, fact, givenOf, tables, FmC, Given, Item, ‵, raw, _⊛_, some, later, ⋆, _$_, _∵_, !, qed, by, move, keep, drop, use1, group, split, join, pick, rewrite, fsplit, fsplit3, fjoin, fjoin3, feqL, feqI, suffices, frame, await, done, look, look-raw, init, forget, stop, hop, fld, from, load, lit, addr, of-opd, bin, and-then, no-more, assigns, land, returns, enter, alloc1, alloc0, params1, pass1, pass0, agg, whole, sub, look-in, Body, owns, Is, shows, mem, uint-makes, uint-vals, uint-tells, u8, u64, usize, RefT, MutRef, ptr-vals, mut-tells, sliceVal, slice-vals, MutSlice, Room, heres, finally, codedHoleys, at-slice, mut-slice-tells, Held, pureI, place-is, elem-out, elem-put, opens-slice, closes-slice, array-lawful, array-makes, plain, only, opens, closes, owned, peeks, heard, nothing, spelt, yes, Contract, Triple, calls-at, ensured, lasts, onEntry, tripleOf, cited, says, needs, Stays, stay-none, stay-ref, stay-slice, gave-slice, walkOf, AllGo, goes-none, goes-ref, goes-slice, goes-gave-slice, Walks, ends-at, walked, Holds, Mem, list-of, record-of, closes-walk, free-all, held, bare}
 use Rattle.lent.proofs.RowReads.{MemoriesKnown, read-memory, know-memories}
+use Rattle.lent.proofs.GrowthLaws.{placed, memory-place, memory-stored}
+use Rattle.lent.proofs.RecordParts.{AR-Y, Y-vals, Ys-vals, F-vals, Lm-vals, left-is, placed-is, memory-is, grown-fits, grown-answer-is, put-left, put-place, put-memory-size, grown-answer, grown-place, grown-size, grown-left, grown-at}
+use Rattle.lent.proofs.{memories.regrow.Symbol.name as #regrow, memories.grow_here.Key.name as #grow-here}
+use Rattle.types.specs.{Fuel.left, declared.fuel.Fuel.Fuel, declared.limiter.Limiter.Limiter}
+use Rattle.machine.specs.Machine.{noMemory}
+use Rattle.lent.specs.{Growth.Lending, Growth.lending, stages.Growth.memoryRegrown, stages.Places.eight, declared.regrown.Regrown.Regrown}
+use Rattle.memory.specs.declared.memory.Memory.{Memory}
 use denote.Struct.Laws as LL
 use denote.Enum.Laws as EL
 use Rattle.types.specs.Done as result
-use Rattle.types.specs.{Fuel.left, declared.fuel.Fuel.Fuel, declared.limiter.Limiter.Limiter}
 use Rattle.memory.specs.Memory as memory
-use Rattle.machine.specs.Machine.{noMemory}
-use Rattle.lent.specs.{Growth.Lending, Growth.lending, stages.Growth.memoryRegrown, stages.Places.eight, declared.regrown.Regrown.Regrown}
-use Rattle.lent.proofs.GrowthLaws.{placed, memory-place, memory-stored}
-use Rattle.lent.proofs.RecordParts.{AR-Y, Y-vals, Ys-vals, F-vals, Lm-vals, left-is, placed-is, memory-is, grown-fits, grown-answer-is, put-left, put-place, put-memory-size, grown-answer, grown-place, grown-size, grown-left, grown-at}
-use Rattle.memory.specs.declared.memory.Memory.{Memory}
 use Rattle.memory.proofs.memory.Memory as Y
 use Rattle.memory.proofs.memory.Memory.Laws as Y′
 use Rattle.types.proofs.fuel.Fuel as F
@@ -23,9 +24,7 @@ use Rattle.types.proofs.answer.Answer as S
 use Rattle.types.proofs.answer.Answer.Laws as S′
 use Rattle.lent.proofs.memories.regrow as step
 use Rattle.lent.proofs.memories.regrow.Symbol as step-def
-use Rattle.lent.proofs.memories.regrow.Symbol.{name as #regrow}
 use Rattle.lent.proofs.memories.regrow.Met as step-thm
-use Rattle.lent.proofs.memories.grow_here.Key.{name as #grow-here}
 use Rattle.lent.proofs.memories.grow_here as f
 use Rattle.lent.proofs.memories.grow_here.Statement as stated
 use Rattle.lent.proofs.memories.grow_here.Code as code

@@ -1,10 +1,7 @@
 -- `lent::operate::judge` meets its contract. Assumes nothing.
-use mathlib.Core.Path.{sym, ap, _∙_}
-use mathlib.Core.Bool.{true}
-use Rattle.types.proofs.Picks.{pick-false, cases}
+use Rattle.types.proofs.Prelude.{sym, ap, _∙_, true, pick-false, cases, needs}
 use Rattle.types.specs.declared.answer.Answer.{Answer}
 use Rattle.lent.specs.{declared.operate.Verdict.Verdict, stages.Places.verdict}
-use borrow.Author.Needs.{needs}
 use Rattle.lent.proofs.operate.judge.Statement.{statement}
 use Rattle.lent.proofs.operate.judge.Tie as tie
 

@@ -1,17 +1,18 @@
 -- `lent::operate::keep_records` meets its contract, by a walk of its code. Assumes nothing.
 use Rattle.lent.proofs.Walk.{_≡_, refl, ap, subst, _∙_, sym, [], _∷_, List, map, ℕ, lit<, length, length-map, fullShare, URA, named, Ty, tyRef, mut, erased, tyArray, Val, vptr, Lft, Share, ftrue, fat, froom, fdies, flft, fres, GName, fsep, flent, SProp, ent, emp, via, fst∗, id⊢, sep, ex, Routine, Heap, Calls, Loops, WpFn, Atoms, sem, Fun, fact, givenOf, tables, FmC, Given, Sq, runs, atRet, ‵, raw, _⊛_, some, later, ⋆, _$_, _∵_, !, qed, by, move, keep, drop, use1, use2, use3, group, split, join, pick, rewrite, fsplit, fjoin, fpack, feqL, feqI, suffices, frame, await, done, look, init, stop, hop, fld, from, load, lit, addr, of-opd, and-then, no-more, assigns, land, returns, enter, alloc1, alloc0, params1, pass1, pass0, agg, whole, sub, look-in, Body, cells, Arr, arr-parts, lft-new, lft-end, RattleType, owns, Is, shows, mem, cellAt, partAt, shares, u8, u64, RefT, MutRef, sliceTy, sliceVal, slice-vals, MutSlice, Room, finally, mut-slice-tells, Held, lends-ref, ref-back, lends-slice, slice-back, shadow, row, whole-in, whole-out, array-tells, array-makes, each, array-apart, array-whole, plain, only, owned, peeks, heard, nothing, array-field, spelt, yes, Contract, Triple, calls-at, ensured, lasts, onEntry, tripleOf, cited, says, Stays, stay-none, gave-slice, walkOf, AllGo, goes-none, goes-gave-slice, Walks, ends-at, walked, Mem, list-of, closes-walk, free-all, held}
+use Rattle.lent.proofs.RecordParts.{AR-Y, Y-vals, Ys-vals, AR-B, B-vals, Bs-vals, AR-G, G-vals, Gs-vals, D-vals, F-vals, P-vals, typed-Y, typed-B, typed-G}
+use Rattle.lent.proofs.{RecordLaws.kept-step, operate.operate_lent.Symbol.name as #operate-lent, operate.keep_records.Key.name as #keep-records}
+use Rattle.lent.proofs.operate.keep_records.Code.Mir.{t-1, t-20, t-21}
 use denote.Memory.{partOf}
-use denote.Struct.Laws as LL
-use denote.Enum.Laws as EL
 use Rattle.types.specs.{Raw.rawBytes, declared.fuel.Fuel.Fuel, declared.answer.Answer.Answer}
 use Rattle.machine.specs.{Machine.Buffers, Machine.buffers, declared.operation.Operation.Operation}
 use Rattle.lent.specs.{Records.Lent, Records.lent, Records.lentStepped, Records.lentStep, declared.operate.Standing.Standing, declared.operate.Kept.Kept}
-use Rattle.lent.proofs.RecordParts.{AR-Y, Y-vals, Ys-vals, AR-B, B-vals, Bs-vals, AR-G, G-vals, Gs-vals, D-vals, F-vals, P-vals, typed-Y, typed-B, typed-G}
-use Rattle.lent.proofs.RecordLaws.{kept-step}
 use Rattle.memory.specs.declared.memory.Memory.{Memory}
+use Rattle.table.specs.{declared.table.Table.Table, declared.element.ElementSegment.ElementSegment}
+use denote.Struct.Laws as LL
+use denote.Enum.Laws as EL
 use Rattle.memory.proofs.memory.Memory as Y
 use Rattle.memory.proofs.memory.Memory.Laws as Y′
-use Rattle.table.specs.{declared.table.Table.Table, declared.element.ElementSegment.ElementSegment}
 use Rattle.table.proofs.table.Table as B
 use Rattle.table.proofs.table.Table.Laws as B′
 use Rattle.table.proofs.element.ElementSegment as G
@@ -28,13 +29,10 @@ use Rattle.lent.proofs.operate.Kept as K
 use Rattle.lent.proofs.operate.Kept.Laws as K′
 use Rattle.lent.proofs.operate.operate_lent as stage
 use Rattle.lent.proofs.operate.operate_lent.Symbol as step-def
-use Rattle.lent.proofs.operate.operate_lent.Symbol.{name as #operate-lent}
 use Rattle.lent.proofs.operate.operate_lent.Met as step-thm
-use Rattle.lent.proofs.operate.keep_records.Key.{name as #keep-records}
 use Rattle.lent.proofs.operate.keep_records as f
 use Rattle.lent.proofs.operate.keep_records.Statement as stated
 use Rattle.lent.proofs.operate.keep_records.Code as code
-use Rattle.lent.proofs.operate.keep_records.Code.Mir.{t-1, t-20, t-21}
 
 Ys-tells : (l : List Memory) (vs : List Val) → Is AR-Y l vs → vs ≡ Ys-vals l
 Ys-tells = array-tells Y.the-row Y-vals (Y′.lowers .val-is) 8

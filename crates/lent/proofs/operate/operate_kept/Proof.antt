@@ -1,7 +1,6 @@
 -- `lent::operate::operate_kept` meets its contract. Assumes nothing.
-use mathlib.Core.Path.{ap, _∙_}
+use Rattle.types.proofs.Prelude.{ap, _∙_, needs}
 use Rattle.machine.specs.{declared.records.Machine.Machine, Step.stepped}
-use borrow.Author.Needs.{needs}
 use Rattle.lent.proofs.operate.operate_kept.Statement.{statement}
 use Rattle.lent.proofs.operate.operate_kept.Tie as tie
 

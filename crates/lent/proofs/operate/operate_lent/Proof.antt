@@ -1,18 +1,21 @@
 -- `lent::operate::operate_lent` meets its contract, by a walk of its code. Assumes nothing.
 use Rattle.lent.proofs.Walk.{_≡_, refl, ap, subst, _∙_, true, [], _∷_, List, ℕ, _≤_, is-true, is-false, length, set, fullShare, URA, named, w64, Ty, tyInt, tyBool, tyRef, mut, erased, Val, vbool, vint, Lft, Share, ftrue, fat, froom, fdies, flft, fres, SProp, ent, emp, via, fst∗, id⊢, Routine, Heap, Calls, Loops, WpFn, Atoms, Fun, fact, givenOf, tables, FmC, Given, Item, Go, nth, Sq, runs, atRet, ‵, raw, _⊛_, some, later, ⋆, _$_, _∵_, !, qed, by, move, keep, drop, use0, use1, group, split, join, pick, rewrite, fsplit, fsplit3, fjoin, feqL, suffices, frame, await, done, Reads, look, init, stop, hop, fld, from, load, addr, of-opd, and-then, no-more, assigns, land, first, branches, skips, exec, returns-within, returns, enter, alloc1, alloc0, params1, pass1, pass0, agg, whole, sub, look-in, name-done, owns, Is, shows, uint-makes, u8, u64, usize, RefT, MutRef, ptr-vals, mut-tells, sliceTy, slice-vals, MutSlice, Room, finally, res-finally, mut-slice-tells, plain, only, owned, peeks, heard, nothing, yes, Contract, Triple, calls-at, ensured, lasts, onEntry, tripleOf, cited, says, Stays, stay-none, gave-ref, gave-slice, walkOf, AllGo, goes-none, goes-gave-ref, goes-gave-slice, Walks, ends-at, walked, Mem, list-of, record-of, closes-walk, free-all, held, bare}
-use denote.Struct.Laws as LL
-use denote.Enum.Laws as EL
+use Rattle.lent.proofs.RecordLaws.{lent-steps, lent-short, found-short, found-long, long-lists}
+use Rattle.lent.proofs.RecordParts.{P-vals, name-of, fields-of, values-of, read-field}
+use Rattle.lent.proofs.{operate.operate_memories.Symbol.name as #operate-memories, operate.judge.Symbol.name as #judge}
+use Rattle.lent.proofs.operate.operate_lent.Key.{name as #operate-lent}
+use Rattle.lent.proofs.operate.operate_lent.Code.Mir.{t-1, t-5, t-7, t-22}
 use Rattle.types.specs.{Raw.rawBytes, declared.fuel.Fuel.Fuel, declared.answer.Answer.Answer}
 use Rattle.machine.specs.{declared.records.Machine.Machine, Machine.Buffers, Machine.buffers, Machine.noMemory, Machine.noTable, Machine.noSegment}
 use Rattle.machine.specs.{declared.operation.Operation.Operation}
 use Rattle.lent.specs.{Records.Lent, Records.lent, Records.placed, Records.lentStepped, Records.lentStep, Records.gathered, stages.Places.verdict}
 use Rattle.lent.specs.{stages.Places.placing, stages.Places.place, stages.Places.eight, declared.operate.Standing.Standing}
 use Rattle.lent.specs.{declared.operate.Placed.Placed, declared.operate.Verdict.Verdict}
-use Rattle.lent.proofs.RecordLaws.{lent-steps, lent-short, found-short, found-long, long-lists}
-use Rattle.lent.proofs.RecordParts.{P-vals, name-of, fields-of, values-of, read-field}
 use Rattle.memory.specs.declared.memory.Memory.{Memory}
-use Rattle.memory.proofs.memory.Memory as Y
 use Rattle.table.specs.{declared.table.Table.Table, declared.element.ElementSegment.ElementSegment}
+use denote.Struct.Laws as LL
+use denote.Enum.Laws as EL
+use Rattle.memory.proofs.memory.Memory as Y
 use Rattle.table.proofs.table.Table as B
 use Rattle.table.proofs.element.ElementSegment as G
 use Rattle.lent.proofs.operate.Standing as D
@@ -27,17 +30,13 @@ use Rattle.lent.proofs.operate.Verdict as J
 use Rattle.lent.proofs.operate.Verdict.Laws as J′
 use Rattle.lent.proofs.operate.operate_memories as step
 use Rattle.lent.proofs.operate.operate_memories.Symbol as step-def
-use Rattle.lent.proofs.operate.operate_memories.Symbol.{name as #operate-memories}
 use Rattle.lent.proofs.operate.operate_memories.Met as step-thm
 use Rattle.lent.proofs.operate.judge as judge
 use Rattle.lent.proofs.operate.judge.Symbol as judge-def
-use Rattle.lent.proofs.operate.judge.Symbol.{name as #judge}
 use Rattle.lent.proofs.operate.judge.Met as judge-thm
-use Rattle.lent.proofs.operate.operate_lent.Key.{name as #operate-lent}
 use Rattle.lent.proofs.operate.operate_lent as f
 use Rattle.lent.proofs.operate.operate_lent.Statement as stated
 use Rattle.lent.proofs.operate.operate_lent.Code as code
-use Rattle.lent.proofs.operate.operate_lent.Code.Mir.{t-1, t-5, t-7, t-22}
 
 abbrev Arg : Type 0
 Arg = (RefT (List Memory) × (RefT (List Table) × (RefT (List ElementSegment) × (RefT Standing × (RefT Fuel × (RefT (List ℕ) × (RefT (List ℕ) × (RefT (List ℕ) × (Operation × Unit {0})))))))))

@@ -1,19 +1,20 @@
 -- `lent::operate::operate_memories` meets its contract, by a walk of its code. Assumes nothing.
 use Rattle.lent.proofs.Walk.{_≡_, refl, ap, subst, sym, [], _∷_, List, map, ℕ, _≤_, _<_, _^_, _*_, arith, ltb, ltb→lt, length, set, getD, length-set, fullShare, URA, named, w64, Ty, tyInt, tyRef, mut, erased, tyPtr, tyArray, Val, vint, vptr, WT, hasTy, Lft, Share, ftrue, fat, froom, fdies, flft, fres, fobs, fauth, fbor, fobor, SProp, ent, id⊢, Routine, Heap, Calls, Loops, WpFn, Atoms, Fun, fact, givenOf, tables, FmC, Given, Item, Go, nth, Sq, runs, atRet, ‵, raw, _⊛_, some, later, ⋆, _$_, _∵_, !, qed, by, move, keep, drop, use1, group, split, join, pick, rewrite, fsplit, fjoin, feqL, suffices, frame, await, done, Reads, look, init, store-raw, stop, hop, fld, from, load, lit, addr, of-opd, bin, and-then, no-more, assigns, land, returns, enter, alloc1, alloc0, params1, pass1, pass0, agg, whole, sub, look-in, owns, Is, shows, u8, u64, RefT, MutRef, ptr-vals, mut-tells, sliceTy, sliceVal, slice-vals, MutSlice, Room, heres, finally, codedHoleys, at-slice, mut-slice-tells, Held, pureI, row, place-is, elem-out, elem-put, opens-slice, closes-slice, array-makes, plain, only, owned, peeks, heard, nothing, yes, Contract, Triple, calls-at, ensured, lasts, onEntry, tripleOf, cited, says, needs, Stays, stay-none, gave-ref, stay-slice, gave-slice, walkOf, AllGo, goes-none, goes-gave-ref, goes-slice, goes-gave-slice, Walks, ends-at, walked, Holds, Mem, list-of, record-of, closes-walk, free-all, held}
-use Rattle.lent.proofs.RowReads.{MemoriesKnown, read-memory, know-memories}
-use denote.Struct.Laws as LL
-use denote.Enum.Laws as EL
+use Rattle.lent.proofs.{RowReads.MemoriesKnown, RowReads.read-memory, RowReads.know-memories, RecordLaws.place-within}
+use Rattle.lent.proofs.RecordParts.{AR-Y, Y-vals, Ys-vals, P-vals, name-of, fields-of, values-of, read-field, typed-Y}
+use Rattle.lent.proofs.{operate.operate_tables.Symbol.name as #operate-tables, operate.operate_memories.Key.name as #operate-memories}
+use Rattle.lent.proofs.operate.operate_memories.Code.Mir.{t-1, t-18, t-31}
 use Rattle.types.specs.{Raw.rawBytes, declared.fuel.Fuel.Fuel}
 use Rattle.machine.specs.{declared.records.Machine.Machine, Machine.Buffers, Machine.buffers, Machine.noMemory, Machine.noTable, Machine.noSegment}
 use Rattle.machine.specs.{declared.operation.Operation.Operation}
 use Rattle.lent.specs.{Records.gathered, stages.Places.Placing, stages.Places.placing, stages.Places.place, stages.Places.eight}
 use Rattle.lent.specs.{declared.operate.Standing.Standing, declared.operate.Placed.Placed}
-use Rattle.lent.proofs.RecordLaws.{place-within}
-use Rattle.lent.proofs.RecordParts.{AR-Y, Y-vals, Ys-vals, P-vals, name-of, fields-of, values-of, read-field, typed-Y}
 use Rattle.memory.specs.declared.memory.Memory.{Memory}
+use Rattle.table.specs.{declared.table.Table.Table, declared.element.ElementSegment.ElementSegment}
+use denote.Struct.Laws as LL
+use denote.Enum.Laws as EL
 use Rattle.memory.proofs.memory.Memory as Y
 use Rattle.memory.proofs.memory.Memory.Laws as Y′
-use Rattle.table.specs.{declared.table.Table.Table, declared.element.ElementSegment.ElementSegment}
 use Rattle.table.proofs.table.Table as B
 use Rattle.table.proofs.element.ElementSegment as G
 use Rattle.lent.proofs.operate.Standing as D
@@ -24,13 +25,10 @@ use Rattle.lent.proofs.operate.Placed as O
 use Rattle.lent.proofs.operate.Placed.Laws as O′
 use Rattle.lent.proofs.operate.operate_tables as step
 use Rattle.lent.proofs.operate.operate_tables.Symbol as step-def
-use Rattle.lent.proofs.operate.operate_tables.Symbol.{name as #operate-tables}
 use Rattle.lent.proofs.operate.operate_tables.Met as step-thm
-use Rattle.lent.proofs.operate.operate_memories.Key.{name as #operate-memories}
 use Rattle.lent.proofs.operate.operate_memories as f
 use Rattle.lent.proofs.operate.operate_memories.Statement as stated
 use Rattle.lent.proofs.operate.operate_memories.Code as code
-use Rattle.lent.proofs.operate.operate_memories.Code.Mir.{t-1, t-18, t-31}
 
 abbrev Arg : Type 0
 Arg = (RefT (List Memory) × (RefT (List Table) × (RefT (List ElementSegment) × (RefT Standing × (RefT Fuel × (RefT (List ℕ) × (RefT (List ℕ) × (RefT (List ℕ) × (Operation × Unit {0})))))))))

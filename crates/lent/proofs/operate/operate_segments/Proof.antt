@@ -1,18 +1,19 @@
 -- `lent::operate::operate_segments` meets its contract, by a walk of its code. Assumes nothing.
 use Rattle.lent.proofs.Walk.{_≡_, refl, ap, subst, sym, [], _∷_, List, map, ℕ, _≤_, _<_, _^_, _*_, arith, ltb, ltb→lt, length, set, getD, length-set, fullShare, URA, named, w64, Ty, tyInt, tyRef, mut, erased, tyPtr, tyArray, Val, vint, vptr, WT, hasTy, Lft, Share, ftrue, fat, froom, fdies, flft, fres, fobs, fauth, fbor, fobor, SProp, ent, id⊢, Routine, Heap, Calls, Loops, WpFn, Atoms, Fun, fact, givenOf, tables, FmC, Given, Item, Go, nth, Sq, runs, atRet, ‵, raw, _⊛_, some, later, ⋆, _$_, _∵_, !, qed, by, move, keep, drop, use1, group, split, join, pick, rewrite, fsplit, fjoin, feqL, suffices, frame, await, done, Reads, look, init, store-raw, stop, hop, fld, from, load, lit, addr, of-opd, bin, and-then, no-more, assigns, land, returns, enter, alloc1, alloc0, params1, pass1, pass0, agg, whole, sub, look-in, owns, Is, shows, u8, u64, RefT, MutRef, ptr-vals, mut-tells, sliceTy, sliceVal, slice-vals, MutSlice, Room, heres, finally, codedHoleys, at-slice, mut-slice-tells, Held, pureI, row, place-is, elem-out, elem-put, opens-slice, closes-slice, array-tells, array-makes, plain, only, owned, peeks, heard, nothing, yes, Contract, Triple, calls-at, ensured, lasts, onEntry, tripleOf, cited, says, needs, Stays, stay-none, gave-ref, stay-slice, gave-slice, walkOf, AllGo, goes-none, goes-gave-ref, goes-slice, goes-gave-slice, Walks, ends-at, walked, Holds, Mem, list-of, record-of, closes-walk, free-all, held}
-use Rattle.lent.proofs.RowReads.{SegmentsKnown, read-segment, know-segments}
-use denote.Struct.Laws as LL
-use denote.Enum.Laws as EL
+use Rattle.lent.proofs.{RowReads.SegmentsKnown, RowReads.read-segment, RowReads.know-segments, RecordLaws.place-within}
+use Rattle.lent.proofs.RecordParts.{AR-Y, Y-vals, Ys-vals, AR-B, B-vals, Bs-vals, AR-G, G-vals, Gs-vals, P-vals, name-of, fields-of, values-of, read-field, typed-Y, typed-B, typed-G}
+use Rattle.lent.proofs.{operate.operate_standing.Symbol.name as #operate-standing, operate.operate_segments.Key.name as #operate-segments}
+use Rattle.lent.proofs.operate.operate_segments.Code.Mir.{t-1, t-18, t-27}
 use Rattle.types.specs.{Raw.rawBytes, declared.fuel.Fuel.Fuel}
 use Rattle.machine.specs.{declared.records.Machine.Machine, Machine.Buffers, Machine.buffers, Machine.noSegment, declared.operation.Operation.Operation}
 use Rattle.lent.specs.{Records.gathered, stages.Places.Placing, stages.Places.placing, stages.Places.place, stages.Places.eight}
 use Rattle.lent.specs.{declared.operate.Standing.Standing, declared.operate.Placed.Placed}
-use Rattle.lent.proofs.RecordLaws.{place-within}
-use Rattle.lent.proofs.RecordParts.{AR-Y, Y-vals, Ys-vals, AR-B, B-vals, Bs-vals, AR-G, G-vals, Gs-vals, P-vals, name-of, fields-of, values-of, read-field, typed-Y, typed-B, typed-G}
 use Rattle.memory.specs.declared.memory.Memory.{Memory}
+use Rattle.table.specs.{declared.table.Table.Table, declared.element.ElementSegment.ElementSegment}
+use denote.Struct.Laws as LL
+use denote.Enum.Laws as EL
 use Rattle.memory.proofs.memory.Memory as Y
 use Rattle.memory.proofs.memory.Memory.Laws as Y′
-use Rattle.table.specs.{declared.table.Table.Table, declared.element.ElementSegment.ElementSegment}
 use Rattle.table.proofs.table.Table as B
 use Rattle.table.proofs.table.Table.Laws as B′
 use Rattle.table.proofs.element.ElementSegment as G
@@ -25,13 +26,10 @@ use Rattle.lent.proofs.operate.Placed as O
 use Rattle.lent.proofs.operate.Placed.Laws as O′
 use Rattle.lent.proofs.operate.operate_standing as step
 use Rattle.lent.proofs.operate.operate_standing.Symbol as step-def
-use Rattle.lent.proofs.operate.operate_standing.Symbol.{name as #operate-standing}
 use Rattle.lent.proofs.operate.operate_standing.Met as step-thm
-use Rattle.lent.proofs.operate.operate_segments.Key.{name as #operate-segments}
 use Rattle.lent.proofs.operate.operate_segments as f
 use Rattle.lent.proofs.operate.operate_segments.Statement as stated
 use Rattle.lent.proofs.operate.operate_segments.Code as code
-use Rattle.lent.proofs.operate.operate_segments.Code.Mir.{t-1, t-18, t-27}
 
 abbrev Arg : Type 0
 Arg = (List Memory × (List Table × (RefT (List ElementSegment) × (RefT Standing × (RefT Fuel × (RefT (List ℕ) × (RefT (List ℕ) × (RefT (List ℕ) × (Operation × Unit {0})))))))))

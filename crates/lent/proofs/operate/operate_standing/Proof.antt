@@ -1,15 +1,17 @@
 -- `lent::operate::operate_standing` meets its contract, by a walk of its code. Assumes nothing.
 use Rattle.lent.proofs.Walk.{_≡_, refl, ap, subst, [], _∷_, List, ℕ, length, fullShare, URA, named, Ty, tyRef, mut, erased, Val, Lft, Share, ftrue, fat, froom, fdies, flft, fobs, fauth, fbor, fobor, SProp, ent, emp, via, fst∗, id⊢, Routine, Heap, Calls, Loops, WpFn, Atoms, Fun, fact, givenOf, tables, FmC, Given, Item, Go, nth, Sq, runs, atRet, ‵, raw, _⊛_, some, later, ⋆, _$_, _∵_, !, qed, by, move, keep, drop, use1, group, split, join, pick, rewrite, fsplit, fsplit3, fjoin, fjoin3, feqL, feqI, suffices, frame, await, done, Reads, look, look-raw, init, store-raw, stop, hop, fld, from, load, addr, of-opd, and-then, no-more, assigns, land, returns, enter, alloc1, alloc0, params1, pass1, pass0, agg, whole, sub, look-in, Body, owns, Is, shows, mem, cellAt, u8, u64, RefT, MutRef, ptr-vals, mut-tells, sliceTy, slice-vals, MutSlice, Room, finally, mut-slice-tells, array-tells, array-makes, plain, only, opens, closes, owned, peeks, heard, nothing, spelt, yes, Contract, Triple, calls-at, ensured, lasts, onEntry, tripleOf, cited, says, Stays, stay-none, stay-ref, gave-slice, walkOf, AllGo, goes-none, goes-ref, goes-gave-slice, Walks, ends-at, walked, Mem, list-of, record-of, closes-walk, free-all, held}
-use denote.Struct.Laws as LL
-use denote.Enum.Laws as EL
+use Rattle.lent.proofs.RecordParts.{AR-Y, Y-vals, Ys-vals, AR-B, B-vals, Bs-vals, AR-G, G-vals, Gs-vals, D-vals, F-vals, P-vals, name-of, fields-of, values-of, read-field, typed-Y, typed-B, typed-G}
+use Rattle.lent.proofs.{operate.operate_records.Symbol.name as #operate-records, operate.operate_standing.Key.name as #operate-standing}
+use Rattle.lent.proofs.operate.operate_standing.Code.Mir.{t-1, t-10}
 use Rattle.types.specs.{Raw.rawBytes, declared.fuel.Fuel.Fuel}
 use Rattle.machine.specs.{declared.records.Machine.Machine, Machine.buffers, declared.operation.Operation.Operation}
 use Rattle.lent.specs.{Records.gathered, stages.Places.placing, stages.Places.place, declared.operate.Standing.Standing, declared.operate.Placed.Placed}
-use Rattle.lent.proofs.RecordParts.{AR-Y, Y-vals, Ys-vals, AR-B, B-vals, Bs-vals, AR-G, G-vals, Gs-vals, D-vals, F-vals, P-vals, name-of, fields-of, values-of, read-field, typed-Y, typed-B, typed-G}
 use Rattle.memory.specs.declared.memory.Memory.{Memory}
+use Rattle.table.specs.{declared.table.Table.Table, declared.element.ElementSegment.ElementSegment}
+use denote.Struct.Laws as LL
+use denote.Enum.Laws as EL
 use Rattle.memory.proofs.memory.Memory as Y
 use Rattle.memory.proofs.memory.Memory.Laws as Y′
-use Rattle.table.specs.{declared.table.Table.Table, declared.element.ElementSegment.ElementSegment}
 use Rattle.table.proofs.table.Table as B
 use Rattle.table.proofs.table.Table.Laws as B′
 use Rattle.table.proofs.element.ElementSegment as G
@@ -24,13 +26,10 @@ use Rattle.lent.proofs.operate.Placed as O
 use Rattle.lent.proofs.operate.Placed.Laws as O′
 use Rattle.lent.proofs.operate.operate_records as step
 use Rattle.lent.proofs.operate.operate_records.Symbol as step-def
-use Rattle.lent.proofs.operate.operate_records.Symbol.{name as #operate-records}
 use Rattle.lent.proofs.operate.operate_records.Met as step-thm
-use Rattle.lent.proofs.operate.operate_standing.Key.{name as #operate-standing}
 use Rattle.lent.proofs.operate.operate_standing as f
 use Rattle.lent.proofs.operate.operate_standing.Statement as stated
 use Rattle.lent.proofs.operate.operate_standing.Code as code
-use Rattle.lent.proofs.operate.operate_standing.Code.Mir.{t-1, t-10}
 
 abbrev Arg : Type 0
 Arg = (List Memory × (List Table × (List ElementSegment × (RefT Standing × (RefT Fuel × (RefT (List ℕ) × (RefT (List ℕ) × (RefT (List ℕ) × (Operation × Unit {0})))))))))

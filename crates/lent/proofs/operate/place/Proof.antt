@@ -1,7 +1,6 @@
 -- `lent::operate::place` meets its contract. Assumes nothing.
-use mathlib.Core.Path.{ap, _∙_}
+use Rattle.types.proofs.Prelude.{ap, _∙_, needs}
 use Rattle.lent.specs.{declared.operate.Placed.Placed, stages.Places.placing, stages.Places.placingOf, stages.Places.place}
-use borrow.Author.Needs.{needs}
 use Rattle.lent.proofs.operate.place.Statement.{statement}
 use Rattle.lent.proofs.operate.place.Tie as tie
 

@@ -1,7 +1,6 @@
 -- `lent::operate::put` meets its contract. Assumes nothing.
-use mathlib.Core.Path.{refl}
+use Rattle.types.proofs.Prelude.{refl, needs}
 use Rattle.lent.specs.stages.Places.{put}
-use borrow.Author.Needs.{needs}
 use Rattle.lent.proofs.operate.put.Statement.{statement}
 use Rattle.lent.proofs.operate.put.Tie as tie
 

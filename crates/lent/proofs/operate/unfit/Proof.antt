@@ -1,7 +1,6 @@
 -- `lent::operate::unfit` meets its contract. Assumes nothing.
-use Rattle.types.proofs.Picks.{cases}
+use Rattle.types.proofs.Prelude.{cases, needs}
 use Rattle.lent.specs.Records.{unfit}
-use borrow.Author.Needs.{needs}
 use Rattle.lent.proofs.operate.unfit.Statement.{statement}
 use Rattle.lent.proofs.operate.unfit.Tie as tie
 

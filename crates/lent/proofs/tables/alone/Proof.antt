@@ -1,8 +1,7 @@
 -- `lent::tables::alone` meets its contract. Assumes nothing.
-use mathlib.Core.Path.{ap}
+use Rattle.types.proofs.Prelude.{ap, needs}
 use Rattle.machine.specs.{Machine.freshMachine, declared.records.Machine.Machine}
 use Rattle.lent.specs.stages.Growth.{tablesAlone}
-use borrow.Author.Needs.{needs}
 use Rattle.lent.proofs.tables.alone.Statement.{statement}
 use Rattle.lent.proofs.tables.alone.Tie as tie
 

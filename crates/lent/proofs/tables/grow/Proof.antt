@@ -1,13 +1,13 @@
 -- `lent::tables::grow` meets its contract, by a walk of its code: a list with too few places is refused. Assumes nothing.
 use Rattle.lent.proofs.Walk.{_≡_, refl, sym, [], _∷_, List, ℕ, _≤_, _<_, _^_, ltb→lt, nltb→le, lit<, length, URA, named, w64, Val, vint, Lft, Share, ftrue, flft, fres, SProp, ent, emp, via, fst∗, id⊢, Routine, Heap, Calls, Loops, WpFn, Atoms, Fun, fact, givenOf, tables, FmC, Given, Item, atRet, ‵, raw, _⊛_, some, later, ⋆, _$_, _∵_, !, qed, by, move, keep, drop, use1, group, split, join, pick, fsplit, fsplit3, fjoin, feqL, suffices, frame, await, done, look, init, stop, hop, fld, from, load, lit, addr, of-opd, bin, and-then, no-more, assigns, land, first, branches, skips, exec, returns-within, returns, enter, alloc1, alloc0, params1, pass1, pass0, agg, whole, sub, look-in, name-done, owns, Is, shows, uint-makes, uint-vals, uint-tells, u64, usize, RefT, MutRef, ptr-vals, mut-tells, slice-vals, MutSlice, Room, finally, res-finally, mut-slice-tells, plain, owned, peeks, heard, nothing, yes, Contract, Triple, calls-at, ensured, lasts, onEntry, tripleOf, cited, says, Stays, stay-none, gave-ref, gave-slice, walkOf, AllGo, goes-none, goes-gave-ref, goes-gave-slice, Walks, ends-at, walked, Mem, list-of, record-of, closes-walk, free-all, held, bare}
-use denote.Struct.Laws as LL
-use denote.Enum.Laws as EL
+use Rattle.lent.proofs.{GrowthAnswers.table-answers, RecordParts.X-vals, tables.grow_here.Symbol.name as #grow-here, tables.grow.Key.name as #grow}
+use Rattle.lent.proofs.tables.grow.Code.Mir.{t-4}
 use Rattle.types.specs.{Answer.refusal, Answer.refuse, Raw.rawBytes, declared.raw.TypedRawRef.TypedRawRef, declared.fuel.Fuel.Fuel}
 use Rattle.types.specs.{declared.limiter.Limiter.Limiter, declared.answer.Answer.Answer}
 use Rattle.lent.specs.{Growth.Lending, Growth.lending, Growth.grew, Tables.growTableAt}
-use Rattle.lent.proofs.GrowthAnswers.{table-answers}
-use Rattle.lent.proofs.RecordParts.{X-vals}
 use Rattle.table.specs.declared.table.Table.{Table}
+use denote.Struct.Laws as LL
+use denote.Enum.Laws as EL
 use Rattle.table.proofs.table.Table as B
 use Rattle.types.proofs.raw.TypedRawRef as X
 use Rattle.types.proofs.raw.TypedRawRef.Laws as X′
@@ -19,13 +19,10 @@ use Rattle.types.proofs.answer.Refusal as R
 use Rattle.types.proofs.answer.Refusal.Laws as R′
 use Rattle.lent.proofs.tables.grow_here as step
 use Rattle.lent.proofs.tables.grow_here.Symbol as step-def
-use Rattle.lent.proofs.tables.grow_here.Symbol.{name as #grow-here}
 use Rattle.lent.proofs.tables.grow_here.Met as step-thm
-use Rattle.lent.proofs.tables.grow.Key.{name as #grow}
 use Rattle.lent.proofs.tables.grow as f
 use Rattle.lent.proofs.tables.grow.Statement as stated
 use Rattle.lent.proofs.tables.grow.Code as code
-use Rattle.lent.proofs.tables.grow.Code.Mir.{t-4}
 
 abbrev Arg : Type 0
 Arg = RefT (List Table) × (ℕ × (ℕ × (RefT (List ℕ) × (ℕ × (TypedRawRef × (RefT Fuel × (RefT Limiter × Unit {0})))))))

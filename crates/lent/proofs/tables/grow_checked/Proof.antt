@@ -1,9 +1,6 @@
 -- `lent::tables::grow_checked` meets its contract. Assumes nothing.
-use mathlib.Core.Path.{refl}
-use borrow.Author.Tests.{lt-ltb, le-ltb, not-true, not-false}
-use Rattle.types.proofs.Dones.{done-as}
+use Rattle.types.proofs.{Prelude.refl, Prelude.lt-ltb, Prelude.le-ltb, Prelude.not-true, Prelude.not-false, Prelude.needs, Dones.done-as}
 use Rattle.lent.proofs.GrowthLaws.{exit-19, exit-16, exit-grown}
-use borrow.Author.Needs.{needs}
 use Rattle.lent.proofs.tables.grow_checked.Statement.{statement}
 use Rattle.lent.proofs.tables.grow_checked.Tie as tie
 

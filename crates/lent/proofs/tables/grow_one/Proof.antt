@@ -1,7 +1,6 @@
 -- `lent::tables::grow_one` meets its contract. Assumes nothing.
-use mathlib.Core.Path.{ap}
+use Rattle.types.proofs.Prelude.{ap, needs}
 use Rattle.lent.specs.stages.Growth.{tableBack}
-use borrow.Author.Needs.{needs}
 use Rattle.lent.proofs.tables.grow_one.Statement.{statement}
 use Rattle.lent.proofs.tables.grow_one.Tie as tie
 

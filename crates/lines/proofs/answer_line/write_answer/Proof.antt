@@ -1,8 +1,6 @@
 -- `lines::answer_line::write_answer` meets its contract. Assumes nothing.
-use native.Mathlib.Omega.{arith}
-use lib.ListN.{length-set}
+use Rattle.types.proofs.Prelude.{arith, length-set, needs}
 use Rattle.lines.proofs.Writing.{answer-put}
-use borrow.Author.Needs.{needs}
 use Rattle.lines.proofs.answer_line.write_answer.Statement.{statement}
 use Rattle.lines.proofs.answer_line.write_answer.Tie as tie
 

@@ -1,8 +1,7 @@
 -- `lines::answer_line::write_answer_line` meets its contract. Assumes nothing.
-use Rattle.types.proofs.Picks.{cases}
+use Rattle.types.proofs.Prelude.{cases, needs}
 use Rattle.lines.proofs.Writing.{room-for}
 use Rattle.lines.specs.AnswerLine.{answeredOf}
-use borrow.Author.Needs.{needs}
 use Rattle.lines.proofs.answer_line.write_answer_line.Statement.{statement}
 use Rattle.lines.proofs.answer_line.write_answer_line.Tie as tie
 

@@ -1,7 +1,6 @@
 -- `lines::code::making_of` meets its contract. Assumes nothing.
-use borrow.Author.Tests.{lt-ltb, le-ltb}
+use Rattle.types.proofs.Prelude.{lt-ltb, le-ltb, needs}
 use Rattle.lines.proofs.CodeLaws.{taken-none, taken-rest}
-use borrow.Author.Needs.{needs}
 use Rattle.lines.proofs.code.making_of.Statement.{statement}
 use Rattle.lines.proofs.code.making_of.Tie as tie
 

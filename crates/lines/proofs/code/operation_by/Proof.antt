@@ -1,9 +1,8 @@
 -- `lines::code::operation_by` meets its contract. Assumes nothing.
-use mathlib.Core.Path.{refl}
+use Rattle.types.proofs.Prelude.{refl, needs}
 use Rattle.types.specs.Pick.{pick}
 use Rattle.lines.specs.Code.{byCode}
 use Rattle.lines.proofs.CodeLaws.{by-code, by-none}
-use borrow.Author.Needs.{needs}
 use Rattle.lines.proofs.code.operation_by.Statement.{statement}
 use Rattle.lines.proofs.code.operation_by.Tie as tie
 

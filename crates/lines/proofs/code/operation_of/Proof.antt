@@ -1,7 +1,6 @@
 -- `lines::code::operation_of` meets its contract. Assumes nothing.
-use Rattle.types.proofs.Picks.{cases}
+use Rattle.types.proofs.Prelude.{cases, needs}
 use Rattle.lines.specs.{Code.operationOf, stages.Codes.meant}
-use borrow.Author.Needs.{needs}
 use Rattle.lines.proofs.code.operation_of.Statement.{statement}
 use Rattle.lines.proofs.code.operation_of.Tie as tie
 

@@ -1,7 +1,6 @@
 -- `lines::code::segment_of` meets its contract. Assumes nothing.
-use borrow.Author.Tests.{le-leb, lt-leb}
+use Rattle.types.proofs.Prelude.{le-leb, lt-leb, needs}
 use Rattle.lines.proofs.CodeLaws.{taken-none, taken-rest}
-use borrow.Author.Needs.{needs}
 use Rattle.lines.proofs.code.segment_of.Statement.{statement}
 use Rattle.lines.proofs.code.segment_of.Tie as tie
 

@@ -1,6 +1,5 @@
 -- `lines::field::char_of` meets its contract. Assumes nothing.
-use borrow.Author.Needs.{needs}
-use Rattle.types.proofs.Picks.{cases}
+use Rattle.types.proofs.Prelude.{needs, cases}
 use Rattle.lines.specs.Hex.{charOf}
 use Rattle.lines.proofs.field.char_of.Statement.{statement}
 use Rattle.lines.proofs.field.char_of.Tie as tie

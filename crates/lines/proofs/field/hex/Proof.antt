@@ -1,9 +1,5 @@
 -- `lines::field::hex` meets its contract. Assumes nothing.
-use mathlib.Core.Path.{_≡_}
-use Prim.Native.Nat.{_≤_, _<_, _+_, _-_, _^_}
-use native.Mathlib.Omega.{arith}
-use borrow.Author.Needs.{needs}
-use lib.ListN.{drop}
+use Rattle.types.proofs.Prelude.{_≡_, _≤_, _<_, _+_, _-_, _^_, arith, needs, drop}
 use Rattle.lines.specs.Hex.{hexFrom}
 use Rattle.lines.proofs.HexLaws.{hex-on, hex-bad, hex-end, hex-start, grows, room}
 use Rattle.lines.proofs.field.hex.Statement.{statement}

@@ -1,9 +1,5 @@
 -- `lines::field::put_hex` meets its contract. Assumes nothing.
-use mathlib.Core.Path.{_≡_}
-use Prim.Native.Nat.{_≤_}
-use native.Mathlib.Omega.{arith}
-use borrow.Author.Needs.{needs}
-use lib.ListN.{length}
+use Rattle.types.proofs.Prelude.{_≡_, _≤_, arith, needs, length}
 use Rattle.lines.specs.Hex.{hexText}
 use Rattle.types.specs.Span.{over}
 use Rattle.lines.proofs.Writing.{put-on, put-end}

@@ -1,7 +1,6 @@
 -- `lines::fields::limit_ranges` meets its contract. Assumes nothing.
-use Rattle.types.proofs.Picks.{cases}
+use Rattle.types.proofs.Prelude.{cases, needs}
 use Rattle.lines.specs.Fields.{limitRanges}
-use borrow.Author.Needs.{needs}
 use Rattle.lines.proofs.fields.limit_ranges.Statement.{statement}
 use Rattle.lines.proofs.fields.limit_ranges.Tie as tie
 

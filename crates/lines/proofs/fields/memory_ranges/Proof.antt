@@ -1,6 +1,5 @@
 -- `lines::fields::memory_ranges` meets its contract. Assumes nothing.
-use Rattle.types.proofs.Picks.{cases}
-use borrow.Author.Needs.{needs}
+use Rattle.types.proofs.Prelude.{cases, needs}
 use Rattle.lines.proofs.fields.memory_ranges.Statement.{statement}
 use Rattle.lines.proofs.fields.memory_ranges.Tie as tie
 

@@ -1,6 +1,5 @@
 -- `lines::input::end_line` meets its contract. Assumes nothing.
-use borrow.Author.Needs.{needs}
-use Rattle.types.proofs.Picks.{cases}
+use Rattle.types.proofs.Prelude.{needs, cases}
 use Rattle.lines.specs.Input.{endedOf}
 use Rattle.lines.proofs.input.end_line.Statement.{statement}
 use Rattle.lines.proofs.input.end_line.Tie as tie

@@ -1,9 +1,5 @@
 -- `lines::input::keep` meets its contract. Assumes nothing.
-use Prim.Native.Nat.{_+_, _-_, _≤_}
-use mathlib.Core.Path.{_≡_, refl, sym}
-use native.Mathlib.Omega.{arith}
-use lib.ListN.{length, take}
-use borrow.Author.Needs.{needs}
+use Rattle.types.proofs.Prelude.{_+_, _-_, _≤_, _≡_, refl, sym, arith, length, take, needs}
 use Rattle.types.specs.Span.{over}
 use Rattle.types.proofs.Spans.{over-nil}
 use Rattle.lines.proofs.Hosts.{leftOf, keep-more, keep-turn, keep-end, keep-short}

@@ -1,9 +1,5 @@
 -- `lines::line::put_fields` meets its contract. Assumes nothing.
-use mathlib.Core.Path.{_≡_, refl}
-use Prim.Native.Nat.{_≤_, _+_, _-_, _*_}
-use native.Mathlib.Omega.{arith}
-use borrow.Author.Needs.{needs}
-use lib.ListN.{length, take, length-set}
+use Rattle.types.proofs.Prelude.{_≡_, refl, _≤_, _+_, _-_, _*_, arith, needs, length, take, length-set}
 use Rattle.types.specs.Span.{over}
 use Rattle.lines.specs.Line.{fieldsText}
 use Rattle.lines.proofs.Writing.{fields-none, fields-put, fields-all}

@@ -1,6 +1,5 @@
 -- `lines::line::read` meets its contract. Assumes nothing.
-use mathlib.Core.Path.{refl}
-use borrow.Author.Needs.{needs}
+use Rattle.types.proofs.Prelude.{refl, needs}
 use Rattle.lines.specs.stages.Digits.{digitTable}
 use Rattle.lines.proofs.line.read.Statement.{statement}
 use Rattle.lines.proofs.line.read.Tie as tie

@@ -1,9 +1,5 @@
 -- `lines::line::read_fields` meets its contract. Assumes nothing.
-use mathlib.Core.Path.{_≡_, refl}
-use Prim.Native.Nat.{_≤_, _-_}
-use native.Mathlib.Omega.{arith}
-use borrow.Author.Needs.{needs}
-use lib.ListN.{length, drop, replicate}
+use Rattle.types.proofs.Prelude.{_≡_, refl, _≤_, _-_, arith, needs, length, drop, replicate}
 use Rattle.lines.specs.{Line.fieldsOf, stages.Back.filled}
 use Rattle.lines.proofs.FieldLaws.{fields-on, fields-bad, fields-char, fields-short, fields-many, fields-end}
 use Rattle.lines.proofs.line.read_fields.Statement.{statement}

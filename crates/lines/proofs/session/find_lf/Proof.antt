@@ -1,8 +1,4 @@
-use mathlib.Core.Path.{_≡_, refl}
-use Prim.Native.Nat.{_≤_, _+_, _-_}
-use native.Mathlib.Omega.{arith}
-use borrow.Author.Needs.{needs}
-use lib.ListN.{length, drop}
+use Rattle.types.proofs.Prelude.{_≡_, refl, _≤_, _+_, _-_, arith, needs, length, drop}
 use Rattle.lines.specs.Pieces.{lfAt}
 use Rattle.lines.proofs.LineEnds.{lf-on, lf-here, lf-none}
 use Rattle.lines.proofs.session.find_lf.Statement.{statement}

@@ -1,18 +1,9 @@
 -- `lines::session::first_line` meets its contract. Assumes nothing.
-use mathlib.Core.Path.{refl, ap, _∙_}
-use native.Mathlib.Omega.{arith}
-use denote.Ref.{now}
+use Rattle.types.proofs.Prelude.{refl, ap, _∙_, arith, now, true, _-_, _/_, length, needs}
 use Rattle.machine.specs.Words.{machineFrom}
-use mathlib.Core.Bool.{true}
-use Prim.Native.Nat.{_-_, _/_}
-use lib.ListN.{length}
 use Rattle.types.specs.Raw.{rawBytes}
-use Rattle.lines.specs.AnswerLine.{answerBytes}
-use Rattle.lines.specs.stages.Runs.{heldOn}
-use Rattle.lines.specs.declared.session.Progress.{Progress}
-use Rattle.lines.proofs.Runs.{turned-line, run-stop, run-full, first-on}
-use Rattle.lines.proofs.Carried.{reached-row, row-line}
-use borrow.Author.Needs.{needs}
+use Rattle.lines.specs.{AnswerLine.answerBytes, stages.Runs.heldOn, declared.session.Progress.Progress}
+use Rattle.lines.proofs.{Runs.turned-line, Runs.run-stop, Runs.run-full, Runs.first-on, Carried.reached-row, Carried.row-line}
 use Rattle.lines.proofs.session.first_line.Statement.{statement}
 use Rattle.lines.proofs.session.first_line.Tie as tie
 

@@ -1,7 +1,6 @@
 -- `lines::session::go_on` meets its contract. Assumes nothing.
-use native.Mathlib.Omega.{arith}
+use Rattle.types.proofs.Prelude.{arith, needs}
 use Rattle.lines.proofs.Runs.{go-closed}
-use borrow.Author.Needs.{needs}
 use Rattle.lines.proofs.session.go_on.Statement.{statement}
 use Rattle.lines.proofs.session.go_on.Tie as tie
 

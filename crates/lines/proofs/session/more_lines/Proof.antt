@@ -1,22 +1,12 @@
 -- `lines::session::more_lines` meets its contract. Assumes nothing.
-use mathlib.Core.Path.{_≡_, refl, ap, _∙_}
-use native.Mathlib.Omega.{arith}
-use denote.Ref.{now}
-use Rattle.machine.specs.Words.{machineFrom}
-use Rattle.machine.specs.Machine.{buffers}
-use mathlib.Core.Bool.{false}
+use Rattle.types.proofs.Prelude.{_≡_, refl, ap, _∙_, arith, now, false, _≤_, _+_, _-_, _*_, _/_, length, drop, needs}
+use Rattle.machine.specs.{Words.machineFrom, Machine.buffers, Words.rowLength}
 use mathlib.Core.Logic.{⊎-elim}
-use Prim.Native.Nat.{_≤_, _+_, _-_, _*_, _/_}
-use lib.ListN.{length, drop}
 use Rattle.types.specs.Raw.{rawBytes}
-use Rattle.machine.specs.Words.{rowLength}
-use Rattle.lines.specs.AnswerLine.{answerBytes}
-use Rattle.lines.specs.Pieces.{wholeLines}
-use Rattle.lines.specs.stages.Runs.{heldOn, Ready, endOf}
+use Rattle.lines.specs.{AnswerLine.answerBytes, Pieces.wholeLines, stages.Runs.heldOn, stages.Runs.Ready, stages.Runs.endOf}
 use Rattle.lines.specs.declared.session.Progress.{Progress}
 use Rattle.lines.proofs.Runs.{turned-line, turn-does, turn-later, turn-on, run-stop, run-full, came}
 use Rattle.lines.proofs.Carried.{proceed-ready, proceed-behind, proceed-step, ready-came, reached-row, row-line}
-use borrow.Author.Needs.{needs}
 use Rattle.lines.proofs.session.more_lines.Statement.{statement}
 use Rattle.lines.proofs.session.more_lines.Tie as tie
 

@@ -1,13 +1,8 @@
 -- `lines::session::piece` meets its contract. Assumes nothing.
-use mathlib.Core.Path.{refl, sym, _∙_}
-use denote.Ref.{now}
+use Rattle.types.proofs.Prelude.{refl, sym, _∙_, now, not-true, not-false, both-1, both-2, needs}
 use Rattle.machine.specs.Machine.{buffers}
-use borrow.Author.Tests.{not-true, not-false}
-use Rattle.types.proofs.Picks.{both-1, both-2}
 use Rattle.lines.specs.stages.Digits.{digitTable}
-use Rattle.lines.proofs.Runs.{piece-stuck, piece-goes}
-use Rattle.lines.proofs.Carried.{form-ready}
-use borrow.Author.Needs.{needs}
+use Rattle.lines.proofs.{Runs.piece-stuck, Runs.piece-goes, Carried.form-ready}
 use Rattle.lines.proofs.session.piece.Statement.{statement}
 use Rattle.lines.proofs.session.piece.Tie as tie
 

@@ -1,21 +1,9 @@
 -- `lines::session::skip_on` meets its contract. Assumes nothing.
-use mathlib.Core.Path.{refl, ap, _∙_}
-use native.Mathlib.Omega.{arith}
-use denote.Ref.{now}
-use Rattle.machine.specs.Words.{machineFrom}
-use Rattle.machine.specs.Machine.{buffers}
-use mathlib.Core.Bool.{true}
-use lib.ListN.{length}
-use Rattle.types.specs.Raw.{rawBytes}
-use Rattle.lines.specs.stages.Runs.{heldOn}
-use mathlib.Core.List.{List}
-use Prim.Native.Nat.{ℕ}
-use Rattle.types.specs.Span.{over}
-use Rattle.types.specs.declared.answer.Answer.{Answer}
-use Rattle.lines.specs.AnswerLine.{answerLine}
-use Rattle.lines.proofs.Runs.{skip-short, skip-none, skip-closed}
-use Rattle.lines.proofs.Carried.{ready-row, row-line}
-use borrow.Author.Needs.{needs}
+use Rattle.types.proofs.Prelude.{refl, ap, _∙_, arith, now, true, length, List, ℕ, needs}
+use Rattle.machine.specs.{Words.machineFrom, Machine.buffers}
+use Rattle.types.specs.{Raw.rawBytes, Span.over, declared.answer.Answer.Answer}
+use Rattle.lines.specs.{stages.Runs.heldOn, AnswerLine.answerLine}
+use Rattle.lines.proofs.{Runs.skip-short, Runs.skip-none, Runs.skip-closed, Carried.ready-row, Carried.row-line}
 use Rattle.lines.proofs.session.skip_on.Statement.{statement}
 use Rattle.lines.proofs.session.skip_on.Tie as tie
 

@@ -1,13 +1,8 @@
 -- `lines::session::turn` meets its contract. Assumes nothing.
-use mathlib.Core.Path.{refl}
-use denote.Ref.{now}
-use native.Mathlib.Omega.{arith}
-use mathlib.Core.Bool.{true}
-use Rattle.machine.specs.Words.{machineFrom}
-use Rattle.machine.specs.Machine.{buffers}
+use Rattle.types.proofs.Prelude.{refl, now, arith, true, needs}
+use Rattle.machine.specs.{Words.machineFrom, Machine.buffers}
 use Rattle.lines.proofs.Runs.{turn-does, turn-makes, turn-none}
 use Rattle.lines.proofs.Carried.{proceed-ready, proceed-behind, proceed-step, fresh-ready, fresh-behind, fresh-says}
-use borrow.Author.Needs.{needs}
 use Rattle.lines.proofs.session.turn.Statement.{statement}
 use Rattle.lines.proofs.session.turn.Tie as tie
 

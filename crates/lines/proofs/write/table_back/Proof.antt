@@ -1,7 +1,6 @@
 -- `lines::write::table_back` meets its contract. Assumes nothing.
 use Rattle.types.specs.Span.{over}
-use Rattle.lines.specs.Writing.{numbersOf}
-use Rattle.lines.specs.stages.Back.{filled, backOf}
+use Rattle.lines.specs.{Writing.numbersOf, stages.Back.filled, stages.Back.backOf}
 use borrow.Author.Needs.{needs}
 use Rattle.lines.proofs.write.table_back.Statement.{statement}
 use Rattle.lines.proofs.write.table_back.Tie as tie

@@ -1,8 +1,7 @@
 -- `lines::write::write_making` meets its contract. Assumes nothing.
-use native.Mathlib.Omega.{arith}
+use Rattle.types.proofs.Prelude.{arith, needs}
 use Rattle.lines.specs.{Writing.writeMaking, stages.Back.makingBack}
 use Rattle.lines.proofs.BackLaws.{line-few, line-wrote}
-use borrow.Author.Needs.{needs}
 use Rattle.lines.proofs.write.write_making.Statement.{statement}
 use Rattle.lines.proofs.write.write_making.Tie as tie
 

@@ -1,12 +1,7 @@
 -- `machine::fields::digits_of` meets its contract. Assumes nothing.
+use Rattle.types.proofs.Prelude.{_≡_, refl, _∙_, _++_, length, drop, length-set, _-_, _%_, _≤_, arith, needs}
 use Rattle.machine.proofs.Digits.{digit-more, digits-end, nothing-after}
 use Rattle.machine.specs.Operation.{digitsOf}
-use mathlib.Core.Path.{_≡_, refl, _∙_}
-use mathlib.Core.List.{_++_}
-use lib.ListN.{length, drop, length-set}
-use Prim.Native.Nat.{_-_, _%_, _≤_}
-use native.Mathlib.Omega.{arith}
-use borrow.Author.Needs.{needs}
 use Rattle.machine.proofs.fields.digits_of.Statement.{statement}
 use Rattle.machine.proofs.fields.digits_of.Tie as tie
 

@@ -1,11 +1,7 @@
 -- `machine::fields::hand_leading` meets its contract. Assumes nothing.
-use Prim.Native.Nat.{ℕ, _-_}
-use lib.ListN.{length, take}
+use Rattle.types.proofs.Prelude.{ℕ, _-_, length, take, arith, _≡_, sym, ap, _∙_, needs}
 use Rattle.machine.proofs.Digits.{take-all}
 use Rattle.types.specs.Limiter.{handOver}
-use native.Mathlib.Omega.{arith}
-use mathlib.Core.Path.{_≡_, sym, ap, _∙_}
-use borrow.Author.Needs.{needs}
 use Rattle.machine.proofs.fields.hand_leading.Statement.{statement}
 use Rattle.machine.proofs.fields.hand_leading.Tie as tie
 

@@ -1,10 +1,6 @@
 -- `machine::fields::hand_script` meets its contract. Assumes nothing.
-use mathlib.Core.Path.{ap, _∙_}
-use lib.ListN.{take}
-use Prim.Native.Nat.{ℕ}
-use mathlib.Core.List.{List}
+use Rattle.types.proofs.Prelude.{ap, _∙_, take, ℕ, List, needs}
 use Rattle.types.specs.Limiter.{handOver}
-use borrow.Author.Needs.{needs}
 use Rattle.machine.proofs.fields.hand_script.Statement.{statement}
 use Rattle.machine.proofs.fields.hand_script.Tie as tie
 

@@ -1,9 +1,6 @@
 -- `machine::fields::item_fields` meets its contract. Assumes nothing.
-use mathlib.Core.Path.{sym, _∙_}
-use Rattle.types.proofs.Picks.{both-left, both-right, both-then, cases}
-use borrow.Author.Tests.{le-leb, not-true, not-false}
+use Rattle.types.proofs.Prelude.{sym, _∙_, both-left, both-right, both-then, cases, le-leb, not-true, not-false, needs}
 use Rattle.machine.specs.Operation.{itemFields}
-use borrow.Author.Needs.{needs}
 use Rattle.machine.proofs.fields.item_fields.Statement.{statement}
 use Rattle.machine.proofs.fields.item_fields.Tie as tie
 

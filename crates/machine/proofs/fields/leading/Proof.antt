@@ -1,13 +1,7 @@
 -- `machine::fields::leading` meets its contract. Assumes nothing.
-use Prim.Native.Nat.{_+_}
-use denote.Ref.{now}
+use Rattle.types.proofs.Prelude.{_+_, now, _≡_, refl, ap, _∙_, length, drop, ℕ, _-_, _≤_, arith, needs}
 use Rattle.machine.proofs.Digits.{leading-bad, leading-more, leading-end}
 use Rattle.machine.specs.Operation.{leading}
-use mathlib.Core.Path.{_≡_, refl, ap, _∙_}
-use lib.ListN.{length, drop}
-use Prim.Native.Nat.{ℕ, _-_, _≤_}
-use native.Mathlib.Omega.{arith}
-use borrow.Author.Needs.{needs}
 use Rattle.machine.proofs.fields.leading.Statement.{statement}
 use Rattle.machine.proofs.fields.leading.Tie as tie
 

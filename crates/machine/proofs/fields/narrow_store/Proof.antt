@@ -1,7 +1,6 @@
 -- `machine::fields::narrow_store` meets its contract. Assumes nothing.
-use mathlib.Core.Path.{refl}
+use Rattle.types.proofs.Prelude.{refl, needs}
 use Rattle.machine.specs.Operation.{narrowStore}
-use borrow.Author.Needs.{needs}
 use Rattle.machine.proofs.fields.narrow_store.Statement.{statement}
 use Rattle.machine.proofs.fields.narrow_store.Tie as tie
 

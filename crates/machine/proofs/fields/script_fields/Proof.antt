@@ -1,9 +1,6 @@
 -- `machine::fields::script_fields` meets its contract. Assumes nothing.
-use mathlib.Core.Path.{sym, ap, _∙_}
-use Rattle.types.proofs.Picks.{both-then, cases}
-use borrow.Author.Tests.{le-leb}
+use Rattle.types.proofs.Prelude.{sym, ap, _∙_, both-then, cases, le-leb, needs}
 use Rattle.machine.specs.Operation.{scriptFields, leading}
-use borrow.Author.Needs.{needs}
 use Rattle.machine.proofs.fields.script_fields.Statement.{statement}
 use Rattle.machine.proofs.fields.script_fields.Tie as tie
 

@@ -1,7 +1,6 @@
 -- `machine::fields::store_fields` meets its contract. Assumes nothing.
-use Rattle.types.proofs.Picks.{cases}
+use Rattle.types.proofs.Prelude.{cases, needs}
 use Rattle.machine.specs.Operation.{storeFields}
-use borrow.Author.Needs.{needs}
 use Rattle.machine.proofs.fields.store_fields.Statement.{statement}
 use Rattle.machine.proofs.fields.store_fields.Tie as tie
 

@@ -1,10 +1,7 @@
 -- `machine::form::in_form` meets its contract. Assumes nothing.
-use mathlib.Core.Path.{sym}
-use borrow.Author.Tests.{le-leb, lt-leb}
+use Rattle.types.proofs.Prelude.{sym, le-leb, lt-leb, both-left, both-then, needs}
 use Rattle.types.specs.Pick.{both}
-use Rattle.types.proofs.Picks.{both-left, both-then}
 use Rattle.machine.specs.Words.{inForm}
-use borrow.Author.Needs.{needs}
 use Rattle.machine.proofs.form.in_form.Statement.{statement}
 use Rattle.machine.proofs.form.in_form.Tie as tie
 

@@ -1,9 +1,6 @@
 -- `machine::form::records_in_form` meets its contract. Assumes nothing.
-use Prim.Native.Nat.{_+_, _*_}
-use mathlib.Core.Path.{_≡_, refl, sym, _∙_}
-use native.Mathlib.Omega.{arith}
+use Rattle.types.proofs.Prelude.{_+_, _*_, _≡_, refl, sym, _∙_, arith, needs}
 use Rattle.machine.specs.Words.{recordLength, allAt, recordInForm}
-use borrow.Author.Needs.{needs}
 use Rattle.types.specs.Pick.{both}
 use Rattle.machine.proofs.Places.{all-next, all-none}
 use Rattle.machine.proofs.form.records_in_form.Statement.{statement}

@@ -1,10 +1,6 @@
 -- `machine::form::script_in_form` meets its contract. Assumes nothing.
-use mathlib.Core.Path.{_≡_, refl, sym, _∙_}
-use denote.Ref.{now}
-use native.Mathlib.Omega.{arith}
-use Prim.Native.Nat.{_+_, _≤_}
+use Rattle.types.proofs.Prelude.{_≡_, refl, sym, _∙_, now, arith, _+_, _≤_, needs}
 use Rattle.machine.specs.Words.{allAt, answerAt, scriptAt, rowLength}
-use borrow.Author.Needs.{needs}
 use Rattle.types.specs.Pick.{both}
 use Rattle.machine.proofs.Places.{all-next, all-none}
 use Rattle.machine.proofs.form.script_in_form.Statement.{statement}

@@ -1,12 +1,8 @@
 -- `machine::fueling::on_fuel` meets its contract. Assumes nothing.
-use mathlib.Core.Path.{ap, _∙_}
-use denote.Ref.{now}
-use Rattle.types.specs.declared.fuel.Fuel.{Fuel}
-use Rattle.types.specs.declared.limiter.Limiter.{Limiter}
-use Rattle.machine.specs.Words.{machineFrom}
+use Rattle.types.proofs.Prelude.{ap, _∙_, now, needs}
+use Rattle.types.specs.{declared.fuel.Fuel.Fuel, declared.limiter.Limiter.Limiter}
+use Rattle.machine.specs.{Words.machineFrom, Fueling.performFuel, Fueling.fueledOut, Fueling.onFuel}
 use Rattle.machine.proofs.Laws.{along}
-use Rattle.machine.specs.Fueling.{performFuel, fueledOut, onFuel}
-use borrow.Author.Needs.{needs}
 use Rattle.machine.proofs.fueling.on_fuel.Statement.{statement}
 use Rattle.machine.proofs.fueling.on_fuel.Tie as tie
 

@@ -1,7 +1,6 @@
 -- `machine::memories::link` meets its contract. Assumes nothing.
-use mathlib.Core.Path.{ap, _∙_}
+use Rattle.types.proofs.Prelude.{ap, _∙_, needs}
 use Rattle.machine.specs.Memories.{linked, linkTo}
-use borrow.Author.Needs.{needs}
 use Rattle.machine.proofs.memories.link.Statement.{statement}
 use Rattle.machine.proofs.memories.link.Tie as tie
 

@@ -1,6 +1,5 @@
 -- `machine::memories::link_number` meets its contract. Assumes nothing.
-use mathlib.Core.Path.{sym, ap}
-use Rattle.types.proofs.Picks.{pick-true, pick-false}
+use Rattle.types.proofs.Prelude.{sym, ap, pick-true, pick-false}
 use Rattle.types.specs.Answer.{accept}
 use Rattle.machine.proofs.memories.link_number.Statement.{statement}
 use Rattle.machine.proofs.memories.link_number.Tie as tie

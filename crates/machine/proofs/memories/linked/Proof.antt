@@ -1,10 +1,7 @@
 -- `machine::memories::linked` meets its contract. Assumes nothing.
-use mathlib.Core.Path.{refl, ap, _∙_}
-use mathlib.Core.Bool.{Bool}
-use Rattle.types.specs.Answer.{accept}
-use Rattle.types.specs.Pick.{pick}
+use Rattle.types.proofs.Prelude.{refl, ap, _∙_, Bool, needs}
+use Rattle.types.specs.{Answer.accept, Pick.pick}
 use Rattle.machine.specs.Memories.{linked}
-use borrow.Author.Needs.{needs}
 use Rattle.machine.proofs.memories.linked.Statement.{statement}
 use Rattle.machine.proofs.memories.linked.Tie as tie
 

@@ -1,11 +1,6 @@
 -- `machine::memories::made_memory` meets its contract. Assumes nothing.
-use mathlib.Core.Path.{_≡_, ap}
-use denote.Ref.{now}
-use Rattle.machine.specs.Words.{machineFrom}
-use Rattle.machine.specs.declared.records.Counts.{Counts}
-use native.Mathlib.Omega.{arith}
-use Rattle.machine.specs.Memories.{madeMemory}
-use borrow.Author.Needs.{needs}
+use Rattle.types.proofs.Prelude.{_≡_, ap, now, arith, needs}
+use Rattle.machine.specs.{Words.machineFrom, declared.records.Counts.Counts, Memories.madeMemory}
 use Rattle.machine.proofs.memories.made_memory.Statement.{statement}
 use Rattle.machine.proofs.memories.made_memory.Tie as tie
 

@@ -1,12 +1,8 @@
 -- `machine::memories::make_memory` meets its contract. Assumes nothing.
-use mathlib.Core.Path.{ap, _∙_}
-use denote.Ref.{now}
-use Rattle.machine.specs.Words.{machineFrom}
+use Rattle.types.proofs.Prelude.{ap, _∙_, now, needs}
+use Rattle.machine.specs.{Words.machineFrom, declared.outcome.Outcome.Outcome, Memories.memoryMade}
 use Rattle.types.specs.Done.{done}
-use Rattle.machine.specs.declared.outcome.Outcome.{Outcome}
 use Rattle.memory.specs.New.{newMemory}
-use Rattle.machine.specs.Memories.{memoryMade}
-use borrow.Author.Needs.{needs}
 use Rattle.machine.proofs.memories.make_memory.Statement.{statement}
 use Rattle.machine.proofs.memories.make_memory.Tie as tie
 

@@ -1,6 +1,5 @@
 -- `machine::memories::memory_out` meets its contract. Assumes nothing.
-use mathlib.Core.Path.{refl}
-use borrow.Author.Needs.{needs}
+use Rattle.types.proofs.Prelude.{refl, needs}
 use Rattle.machine.proofs.memories.memory_out.Statement.{statement}
 use Rattle.machine.proofs.memories.memory_out.Tie as tie
 

@@ -1,15 +1,10 @@
 -- `machine::memories::on_memory` meets its contract. Assumes nothing.
-use mathlib.Core.Path.{_≡_, ap, _∙_}
-use denote.Ref.{now}
-use Rattle.machine.specs.Words.{machineFrom}
-use Rattle.machine.specs.declared.records.Counts.{Counts}
-use native.Mathlib.Omega.{arith}
+use Rattle.types.proofs.Prelude.{_≡_, ap, _∙_, now, arith, needs}
+use Rattle.machine.specs.{Words.machineFrom, declared.records.Counts.Counts, declared.outcome.Outcome.Outcome}
+use Rattle.machine.specs.Memories.{performMemory, memoryDone, onMemory}
 use Rattle.types.specs.Done.{done}
-use Rattle.machine.specs.declared.outcome.Outcome.{Outcome}
 use Rattle.machine.proofs.Laws.{unknown, known}
 use Rattle.memory.specs.declared.memory.Memory.{Memory}
-use Rattle.machine.specs.Memories.{performMemory, memoryDone, onMemory}
-use borrow.Author.Needs.{needs}
 use Rattle.machine.proofs.memories.on_memory.Statement.{statement}
 use Rattle.machine.proofs.memories.on_memory.Tie as tie
 

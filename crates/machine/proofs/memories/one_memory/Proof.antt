@@ -1,14 +1,8 @@
 -- `machine::memories::one_memory` meets its contract. Assumes nothing.
-use mathlib.Core.Path.{ap, _∙_}
-use denote.Ref.{now}
-use Rattle.types.specs.declared.fuel.Fuel.{Fuel}
-use Rattle.types.specs.declared.limiter.Limiter.{Limiter}
-use Rattle.machine.specs.Words.{machineFrom}
+use Rattle.types.proofs.Prelude.{ap, _∙_, now, needs}
+use Rattle.types.specs.{declared.fuel.Fuel.Fuel, declared.limiter.Limiter.Limiter, Done.done}
+use Rattle.machine.specs.{Words.machineFrom, declared.outcome.Outcome.Outcome, Memories.performMemory, Memories.memoryDone}
 use Rattle.machine.proofs.Laws.{along}
-use Rattle.types.specs.Done.{done}
-use Rattle.machine.specs.declared.outcome.Outcome.{Outcome}
-use Rattle.machine.specs.Memories.{performMemory, memoryDone}
-use borrow.Author.Needs.{needs}
 use Rattle.machine.proofs.memories.one_memory.Statement.{statement}
 use Rattle.machine.proofs.memories.one_memory.Tie as tie
 

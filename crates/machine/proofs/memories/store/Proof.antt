@@ -1,9 +1,8 @@
 -- `machine::memories::store` meets its contract. Assumes nothing.
-use mathlib.Core.Path.{ap, _∙_}
+use Rattle.types.proofs.Prelude.{ap, _∙_, needs}
 use Rattle.types.specs.Done.{done}
 use Rattle.machine.specs.Memories.{memoryStored}
 use Rattle.memory.specs.declared.grow.GrownMemory.{GrownMemory}
-use borrow.Author.Needs.{needs}
 use Rattle.machine.proofs.memories.store.Statement.{statement}
 use Rattle.machine.proofs.memories.store.Tie as tie
 

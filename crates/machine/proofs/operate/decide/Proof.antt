@@ -1,14 +1,7 @@
 -- `machine::operate::decide` meets its contract. Assumes nothing.
-use mathlib.Core.Path.{sym, ap, _∙_}
-use denote.Ref.{now}
-use Rattle.machine.specs.Words.{machineFrom}
-use Rattle.machine.specs.declared.outcome.Outcome.{Outcome}
-use borrow.Author.Tests.{not-true, not-false}
-use Rattle.types.proofs.Picks.{pick-true, pick-false}
-use Rattle.machine.specs.Machine.{buffers}
-use Rattle.machine.specs.Step.{onNone, decide}
+use Rattle.types.proofs.Prelude.{sym, ap, _∙_, now, not-true, not-false, pick-true, pick-false, needs}
+use Rattle.machine.specs.{Words.machineFrom, declared.outcome.Outcome.Outcome, Machine.buffers, Step.onNone, Step.decide}
 use Rattle.machine.proofs.Settling.{sound-inside}
-use borrow.Author.Needs.{needs}
 use Rattle.machine.proofs.operate.decide.Statement.{statement}
 use Rattle.machine.proofs.operate.decide.Tie as tie
 

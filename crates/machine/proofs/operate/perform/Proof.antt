@@ -1,11 +1,7 @@
 -- `machine::operate::perform` meets its contract. Assumes nothing.
-use mathlib.Core.Path.{ap}
-use denote.Ref.{now}
+use Rattle.types.proofs.Prelude.{ap, now, needs}
 use Rattle.types.specs.Done.{Done}
-use Rattle.machine.specs.declared.outcome.Outcome.{Outcome}
-use Rattle.machine.specs.Machine.{buffers}
-use Rattle.machine.specs.Step.{onNone, onBytes, onCells, onItems, perform}
-use borrow.Author.Needs.{needs}
+use Rattle.machine.specs.{declared.outcome.Outcome.Outcome, Machine.buffers, Step.onNone, Step.onBytes, Step.onCells, Step.onItems, Step.perform}
 use Rattle.machine.proofs.operate.perform.Statement.{statement}
 use Rattle.machine.proofs.operate.perform.Tie as tie
 

@@ -1,7 +1,6 @@
 -- `machine::operation::fuel_well_formed` meets its contract. Assumes nothing.
-use mathlib.Core.Path.{refl}
+use Rattle.types.proofs.Prelude.{refl, needs}
 use Rattle.machine.specs.Operation.{fuelWellFormed}
-use borrow.Author.Needs.{needs}
 use Rattle.machine.proofs.operation.fuel_well_formed.Statement.{statement}
 use Rattle.machine.proofs.operation.fuel_well_formed.Tie as tie
 

@@ -1,7 +1,6 @@
 -- `machine::operation::fuel_writes` meets its contract. Assumes nothing.
-use mathlib.Core.Path.{refl}
+use Rattle.types.proofs.Prelude.{refl, needs}
 use Rattle.machine.specs.stages.Rows.{fuelWrites}
-use borrow.Author.Needs.{needs}
 use Rattle.machine.proofs.operation.fuel_writes.Statement.{statement}
 use Rattle.machine.proofs.operation.fuel_writes.Tie as tie
 

@@ -1,12 +1,8 @@
 -- `machine::outcome::keeps` meets its contract. Assumes nothing.
-use mathlib.Core.Path.{_∙_}
-use denote.Ref.{now}
-use Rattle.types.specs.declared.fuel.Fuel.{Fuel}
-use Rattle.types.specs.declared.limiter.Limiter.{Limiter}
-use Rattle.machine.specs.Words.{machineFrom}
+use Rattle.types.proofs.Prelude.{_∙_, now, needs}
+use Rattle.types.specs.{declared.fuel.Fuel.Fuel, declared.limiter.Limiter.Limiter}
+use Rattle.machine.specs.{Words.machineFrom, Outcome.leaves}
 use Rattle.machine.proofs.Laws.{along}
-use Rattle.machine.specs.Outcome.{leaves}
-use borrow.Author.Needs.{needs}
 use Rattle.machine.proofs.outcome.keeps.Statement.{statement}
 use Rattle.machine.proofs.outcome.keeps.Tie as tie
 

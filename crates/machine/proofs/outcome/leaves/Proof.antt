@@ -1,6 +1,5 @@
 -- `machine::outcome::leaves` meets its contract. Assumes nothing.
-use mathlib.Core.Path.{refl}
-use borrow.Author.Needs.{needs}
+use Rattle.types.proofs.Prelude.{refl, needs}
 use Rattle.machine.proofs.outcome.leaves.Statement.{statement}
 use Rattle.machine.proofs.outcome.leaves.Tie as tie
 

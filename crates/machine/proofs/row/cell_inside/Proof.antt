@@ -1,15 +1,6 @@
 -- `machine::row::cell_inside` meets its contract. Assumes nothing.
-use mathlib.Core.Path.{_≡_, sym, ap, _∙_}
-use denote.Ref.{now}
-use Rattle.machine.specs.Words.{machineFrom}
-use Rattle.machine.specs.declared.records.Counts.{Counts}
-use native.Mathlib.Omega.{arith}
-use Prim.Native.Nat.{ℕ, _-_}
-use borrow.Author.Tests.{eq-eqb, ne-eqb, le-leb}
-use Rattle.types.proofs.Picks.{pick-true, pick-false}
-use Rattle.machine.specs.Machine.{tableAt, nextCell, tableEnd}
-use lib.Dec.{leb}
-use borrow.Author.Needs.{needs}
+use Rattle.types.proofs.Prelude.{_≡_, sym, ap, _∙_, now, arith, ℕ, _-_, eq-eqb, ne-eqb, le-leb, pick-true, pick-false, leb, needs}
+use Rattle.machine.specs.{Words.machineFrom, declared.records.Counts.Counts, Machine.tableAt, Machine.nextCell, Machine.tableEnd}
 use Rattle.machine.proofs.row.cell_inside.Statement.{statement}
 use Rattle.machine.proofs.row.cell_inside.Tie as tie
 

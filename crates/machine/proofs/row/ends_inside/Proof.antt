@@ -1,9 +1,6 @@
 -- `machine::row::ends_inside` meets its contract. Assumes nothing.
-use mathlib.Core.Path.{sym, _∙_}
-use borrow.Author.Tests.{not-true, not-false}
-use Rattle.types.proofs.Picks.{both-left, both-right, both-then}
+use Rattle.types.proofs.Prelude.{sym, _∙_, not-true, not-false, both-left, both-right, both-then, needs}
 use Rattle.machine.specs.stages.Rows.{endsInside}
-use borrow.Author.Needs.{needs}
 use Rattle.machine.proofs.row.ends_inside.Statement.{statement}
 use Rattle.machine.proofs.row.ends_inside.Tie as tie
 

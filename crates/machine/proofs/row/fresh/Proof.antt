@@ -1,13 +1,7 @@
 -- `machine::row::fresh` meets its contract. Assumes nothing.
-use mathlib.Core.Path.{sym, ap, _∙_}
-use denote.Ref.{now}
-use borrow.Author.Tests.{le-leb, lt-leb}
+use Rattle.types.proofs.Prelude.{sym, ap, _∙_, now, le-leb, lt-leb, pick-true, pick-false, needs}
 use Rattle.types.specs.Span.{over}
-use Rattle.types.proofs.Picks.{pick-true, pick-false}
-use Rattle.machine.specs.Words.{wordsOf}
-use Rattle.machine.specs.Row.{rowed, freshRow}
-use Rattle.machine.specs.declared.records.Machine.{Machine}
-use borrow.Author.Needs.{needs}
+use Rattle.machine.specs.{Words.wordsOf, Row.rowed, Row.freshRow, declared.records.Machine.Machine}
 use Rattle.machine.proofs.row.fresh.Statement.{statement}
 use Rattle.machine.proofs.row.fresh.Tie as tie
 

@@ -1,9 +1,6 @@
 -- `machine::row::fuel_of` meets its contract. Assumes nothing.
-use mathlib.Core.Path.{sym, _∙_}
-use borrow.Author.Tests.{le-leb, lt-leb}
-use Rattle.types.proofs.Picks.{pick-true, pick-false}
+use Rattle.types.proofs.Prelude.{sym, _∙_, le-leb, lt-leb, pick-true, pick-false, needs}
 use Rattle.machine.specs.Row.{fuelOf}
-use borrow.Author.Needs.{needs}
 use Rattle.machine.proofs.row.fuel_of.Statement.{statement}
 use Rattle.machine.proofs.row.fuel_of.Tie as tie
 

@@ -1,13 +1,6 @@
 -- `machine::row::go` meets its contract. Assumes nothing.
-use mathlib.Core.Path.{ap, subst, _∙_}
-use mathlib.Core.List.{List}
-use Prim.Native.Nat.{ℕ}
-use denote.Ref.{now}
-use Rattle.machine.specs.Step.{Performed}
-use Rattle.machine.specs.Row.{inRow}
-use Rattle.machine.specs.stages.Rows.{Fits, settledRow, rowSettled}
-use Rattle.machine.specs.declared.operation.Writes.{Writes}
-use borrow.Author.Needs.{needs}
+use Rattle.types.proofs.Prelude.{ap, subst, _∙_, List, ℕ, now, needs}
+use Rattle.machine.specs.{Step.Performed, Row.inRow, stages.Rows.Fits, stages.Rows.settledRow, stages.Rows.rowSettled, declared.operation.Writes.Writes}
 use Rattle.machine.proofs.row.go.Statement.{statement}
 use Rattle.machine.proofs.row.go.Tie as tie
 

@@ -1,9 +1,6 @@
 -- `machine::row::is_ready` meets its contract. Assumes nothing.
-use mathlib.Core.Path.{sym, _∙_}
-use borrow.Author.Tests.{not-true, not-false}
-use Rattle.types.proofs.Picks.{both-left, both-then}
+use Rattle.types.proofs.Prelude.{sym, _∙_, not-true, not-false, both-left, both-then, needs}
 use Rattle.machine.proofs.Formed.{form-long}
-use borrow.Author.Needs.{needs}
 use Rattle.machine.proofs.row.is_ready.Statement.{statement}
 use Rattle.machine.proofs.row.is_ready.Tie as tie
 

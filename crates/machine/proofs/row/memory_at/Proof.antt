@@ -1,13 +1,7 @@
 -- `machine::row::memory_at` meets its contract. Assumes nothing.
-use mathlib.Core.Path.{_≡_, sym, ap, _∙_}
-use denote.Ref.{now}
-use native.Mathlib.Omega.{arith}
-use Prim.Native.Nat.{_+_, _*_}
-use Rattle.machine.specs.Machine.{noMemory}
-use Rattle.machine.specs.Words.{recordLength, memoryFrom, recordsFrom}
-use Rattle.machine.proofs.Places.{records-at, records-length}
-use Rattle.machine.proofs.Lists.{past}
-use borrow.Author.Needs.{needs}
+use Rattle.types.proofs.Prelude.{_≡_, sym, ap, _∙_, now, arith, _+_, _*_, needs}
+use Rattle.machine.specs.{Machine.noMemory, Words.recordLength, Words.memoryFrom, Words.recordsFrom}
+use Rattle.machine.proofs.{Places.records-at, Places.records-length, Lists.past}
 use Rattle.machine.proofs.row.memory_at.Statement.{statement}
 use Rattle.machine.proofs.row.memory_at.Tie as tie
 

@@ -1,17 +1,9 @@
 -- `machine::row::memory_pages` meets its contract. Assumes nothing.
-use Prim.Native.Nat.{_<_}
-use mathlib.Core.Path.{sym, ap, _∙_}
-use native.Mathlib.Omega.{arith}
-use denote.Ref.{now}
-use borrow.Author.Tests.{le-leb, lt-leb, lt-ltb, le-ltb, not-true, not-false}
+use Rattle.types.proofs.Prelude.{_<_, sym, ap, _∙_, arith, now, le-leb, lt-leb, lt-ltb, le-ltb, not-true, not-false, pick-true, pick-false, needs}
 use Rattle.types.specs.Answer.{accept}
-use Rattle.types.proofs.Picks.{pick-true, pick-false}
 use Rattle.memory.specs.Memory.{pagesOf}
-use Rattle.machine.specs.Words.{machineFrom}
-use Rattle.machine.specs.Row.{rowPages}
-use Rattle.machine.specs.declared.records.Counts.{Counts}
+use Rattle.machine.specs.{Words.machineFrom, Row.ifSound, Row.rowPages, declared.records.Counts.Counts}
 use Rattle.machine.proofs.Sizes.{memory-place}
-use borrow.Author.Needs.{needs}
 use Rattle.machine.proofs.row.memory_pages.Statement.{statement}
 use Rattle.machine.proofs.row.memory_pages.Tie as tie
 
@@ -19,7 +11,7 @@ refused-requires : tie.Need-refused-requires
 refused-requires c κs = search needs
 
 returns : tie.Need-returns
-unfolding rowPages
+unfolding rowPages ifSound
 returns c = c .refused .ensures ∙ sym (pick-false _ _ _ (lt-leb _ _ (c .before .if1 .taken)))
 
 is-sound-requires : tie.Need-is-sound-requires
@@ -29,7 +21,7 @@ refused-requires-2 : tie.Need-refused-requires-2
 refused-requires-2 c κs = search needs
 
 returns-2 : tie.Need-returns-2
-unfolding rowPages
+unfolding rowPages ifSound
 returns-2 c =
     c .refused2 .ensures
     ∙ sym (pick-true _ _ _ (le-leb _ _ (c .before .before .before .if1 .left)) ∙ pick-false _ _ _ (sym (c .before .before .is-sound .ensures) ∙ not-true _ (c .before .if2 .taken)))
@@ -41,7 +33,7 @@ refused-requires-3 : tie.Need-refused-requires-3
 refused-requires-3 c κs = search needs
 
 returns-3 : tie.Need-returns-3
-unfolding rowPages
+unfolding rowPages ifSound
 returns-3 c =
     let a = c .before .before .before .before .before .before .before .args in
     let sound = sym (c .before .before .before .before .is-sound .ensures) ∙ not-false _ (c .before .before .before .if2 .left) in
@@ -70,7 +62,7 @@ refused-requires-4 : tie.Need-refused-requires-4
 refused-requires-4 c κs = search needs
 
 returns-4 : tie.Need-returns-4
-unfolding rowPages
+unfolding rowPages ifSound
 returns-4 c =
     let a = c .before .before .before .before .before .before .before .before .before .args in
     let sound = sym (c .before .before .before .before .before .before .is-sound .ensures) ∙ not-false _ (c .before .before .before .before .before .if2 .left) in
@@ -86,7 +78,7 @@ pages-requires : tie.Need-pages-requires
 pages-requires c κs = search needs
 
 returns-5 : tie.Need-returns-5
-unfolding rowPages
+unfolding rowPages ifSound
 returns-5 c =
     let a = c .before .before .before .before .before .before .before .before .before .before .args in
     let sound = sym (c .before .before .before .before .before .before .before .is-sound .ensures) ∙ not-false _ (c .before .before .before .before .before .before .if2 .left) in

@@ -1,14 +1,6 @@
 -- `machine::row::next_byte` meets its contract. Assumes nothing.
-use mathlib.Core.Path.{_≡_, sym, ap, _∙_}
-use denote.Ref.{now}
-use Rattle.machine.specs.Words.{machineFrom}
-use Rattle.machine.specs.declared.records.Counts.{Counts}
-use native.Mathlib.Omega.{arith}
-use Prim.Native.Nat.{ℕ, _-_}
-use borrow.Author.Tests.{eq-eqb, ne-eqb}
-use Rattle.types.proofs.Picks.{pick-true, pick-false}
-use Rattle.machine.specs.Machine.{memoryAt, nextByte, memoryEnd}
-use borrow.Author.Needs.{needs}
+use Rattle.types.proofs.Prelude.{_≡_, sym, ap, _∙_, now, arith, ℕ, _-_, eq-eqb, ne-eqb, pick-true, pick-false, needs}
+use Rattle.machine.specs.{Words.machineFrom, declared.records.Counts.Counts, Machine.memoryAt, Machine.nextByte, Machine.memoryEnd}
 use Rattle.machine.proofs.row.next_byte.Statement.{statement}
 use Rattle.machine.proofs.row.next_byte.Tie as tie
 

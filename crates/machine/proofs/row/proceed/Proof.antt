@@ -1,13 +1,8 @@
 -- `machine::row::proceed` meets its contract. Assumes nothing.
-use mathlib.Core.Path.{sym, ap, _∙_}
-use denote.Ref.{now}
-use borrow.Author.Tests.{not-true, not-false}
+use Rattle.types.proofs.Prelude.{sym, ap, _∙_, now, not-true, not-false, needs}
 use Rattle.types.specs.declared.answer.Answer.{Answer}
-use Rattle.machine.specs.Machine.{buffers}
-use Rattle.machine.specs.Row.{inRow}
-use Rattle.machine.specs.Words.{machineFrom}
+use Rattle.machine.specs.{Machine.buffers, Row.inRow, Words.machineFrom}
 use Rattle.machine.proofs.Settling.{tested-inside, proceeds-malformed, proceeds-short, proceeds-outside, proceeds-goes}
-use borrow.Author.Needs.{needs}
 use Rattle.machine.proofs.row.proceed.Statement.{statement}
 use Rattle.machine.proofs.row.proceed.Tie as tie
 

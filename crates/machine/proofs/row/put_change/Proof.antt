@@ -1,7 +1,6 @@
 -- `machine::row::put_change` meets its contract. Assumes nothing.
-use mathlib.Core.Path.{refl}
+use Rattle.types.proofs.Prelude.{refl, needs}
 use Rattle.machine.specs.stages.Rows.{changedRow}
-use borrow.Author.Needs.{needs}
 use Rattle.machine.proofs.row.put_change.Statement.{statement}
 use Rattle.machine.proofs.row.put_change.Tie as tie
 

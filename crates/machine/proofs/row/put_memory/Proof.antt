@@ -1,12 +1,7 @@
 -- `machine::row::put_memory` meets its contract. Assumes nothing.
-use mathlib.Core.Path.{sym, ap, _∙_}
-use denote.Ref.{now}
-use Prim.Native.Nat.{_*_}
-use borrow.Author.Tests.{lt-ltb, le-ltb}
+use Rattle.types.proofs.Prelude.{sym, ap, _∙_, now, _*_, lt-ltb, le-ltb, pick-true, pick-false, needs}
 use Rattle.types.specs.Span.{over}
-use Rattle.types.proofs.Picks.{pick-true, pick-false}
 use Rattle.machine.specs.stages.Rows.{changedRow}
-use borrow.Author.Needs.{needs}
 use Rattle.machine.proofs.row.put_memory.Statement.{statement}
 use Rattle.machine.proofs.row.put_memory.Tie as tie
 

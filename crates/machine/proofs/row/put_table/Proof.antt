@@ -1,12 +1,7 @@
 -- `machine::row::put_table` meets its contract. Assumes nothing.
-use mathlib.Core.Path.{sym, ap, _∙_}
-use denote.Ref.{now}
-use Prim.Native.Nat.{_+_, _*_}
-use borrow.Author.Tests.{lt-ltb, le-ltb}
+use Rattle.types.proofs.Prelude.{sym, ap, _∙_, now, _+_, _*_, lt-ltb, le-ltb, pick-true, pick-false, needs}
 use Rattle.types.specs.Span.{over}
-use Rattle.types.proofs.Picks.{pick-true, pick-false}
 use Rattle.machine.specs.stages.Rows.{changedRow}
-use borrow.Author.Needs.{needs}
 use Rattle.machine.proofs.row.put_table.Statement.{statement}
 use Rattle.machine.proofs.row.put_table.Tie as tie
 

@@ -1,10 +1,6 @@
 -- `machine::row::room_inside` meets its contract. Assumes nothing.
-use mathlib.Core.Path.{sym}
-use native.Mathlib.Omega.{arith}
-use Prim.Native.Nat.{_+_, _<_}
-use borrow.Author.Tests.{lt-leb}
+use Rattle.types.proofs.{Prelude.sym, Prelude.arith, Prelude._+_, Prelude._<_, Prelude.lt-leb, Spans.shift-leb}
 use Rattle.types.specs.Span.{inside}
-use Rattle.types.proofs.Spans.{shift-leb}
 use Rattle.machine.proofs.row.room_inside.Statement.{statement}
 use Rattle.machine.proofs.row.room_inside.Tie as tie
 

@@ -1,12 +1,9 @@
 -- `machine::row::settle` meets its contract. Assumes nothing.
-use Prim.Native.Nat.{ℕ}
-use mathlib.Core.Path.{ap, _∙_}
-use mathlib.Core.List.{List}
+use Rattle.types.proofs.Prelude.{ℕ, ap, _∙_, List, needs}
 use mir.Syntax.{w8}
-use borrow.Author.Needs.{needs, length-unmapped, elem-fits-field}
+use borrow.Author.Needs.{length-unmapped, elem-fits-field}
 use Rattle.types.specs.Span.{over}
-use Rattle.machine.specs.Words.{standingWords}
-use Rattle.machine.specs.stages.Rows.{settledRow}
+use Rattle.machine.specs.{Words.standingWords, stages.Rows.settledRow}
 use Rattle.machine.proofs.row.settle.Statement.{statement}
 use Rattle.machine.proofs.row.settle.Tie as tie
 

@@ -1,11 +1,7 @@
 -- `machine::row::table_at` meets its contract. Assumes nothing.
-use mathlib.Core.Path.{sym, _∙_}
-use denote.Ref.{now}
-use Rattle.machine.specs.Machine.{noTable}
-use Rattle.machine.specs.Words.{recordLength, tablesAt, tableFrom, recordsFrom}
-use Rattle.machine.proofs.Places.{records-at, records-length}
-use Rattle.machine.proofs.Lists.{past}
-use borrow.Author.Needs.{needs}
+use Rattle.types.proofs.Prelude.{sym, _∙_, now, needs}
+use Rattle.machine.specs.{Machine.noTable, Words.recordLength, Words.tablesAt, Words.tableFrom, Words.recordsFrom}
+use Rattle.machine.proofs.{Places.records-at, Places.records-length, Lists.past}
 use Rattle.machine.proofs.row.table_at.Statement.{statement}
 use Rattle.machine.proofs.row.table_at.Tie as tie
 

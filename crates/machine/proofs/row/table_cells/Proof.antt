@@ -1,17 +1,9 @@
 -- `machine::row::table_cells` meets its contract. Assumes nothing.
-use Prim.Native.Nat.{_<_}
-use mathlib.Core.Path.{sym, ap, _∙_}
-use native.Mathlib.Omega.{arith}
-use denote.Ref.{now}
-use borrow.Author.Tests.{le-leb, lt-leb, lt-ltb, le-ltb, not-true, not-false}
+use Rattle.types.proofs.Prelude.{_<_, sym, ap, _∙_, arith, now, le-leb, lt-leb, lt-ltb, le-ltb, not-true, not-false, pick-true, pick-false, needs}
 use Rattle.types.specs.Answer.{accept}
-use Rattle.types.proofs.Picks.{pick-true, pick-false}
 use Rattle.table.specs.declared.table.Table.{Table}
-use Rattle.machine.specs.Words.{machineFrom}
-use Rattle.machine.specs.Row.{rowCells}
-use Rattle.machine.specs.declared.records.Counts.{Counts}
+use Rattle.machine.specs.{Words.machineFrom, Row.ifSound, Row.rowCells, declared.records.Counts.Counts}
 use Rattle.machine.proofs.Sizes.{table-place}
-use borrow.Author.Needs.{needs}
 use Rattle.machine.proofs.row.table_cells.Statement.{statement}
 use Rattle.machine.proofs.row.table_cells.Tie as tie
 
@@ -19,7 +11,7 @@ refused-requires : tie.Need-refused-requires
 refused-requires c κs = search needs
 
 returns : tie.Need-returns
-unfolding rowCells
+unfolding rowCells ifSound
 returns c = c .refused .ensures ∙ sym (pick-false _ _ _ (lt-leb _ _ (c .before .if1 .taken)))
 
 is-sound-requires : tie.Need-is-sound-requires
@@ -29,7 +21,7 @@ refused-requires-2 : tie.Need-refused-requires-2
 refused-requires-2 c κs = search needs
 
 returns-2 : tie.Need-returns-2
-unfolding rowCells
+unfolding rowCells ifSound
 returns-2 c =
     c .refused2 .ensures
     ∙ sym (pick-true _ _ _ (le-leb _ _ (c .before .before .before .if1 .left)) ∙ pick-false _ _ _ (sym (c .before .before .is-sound .ensures) ∙ not-true _ (c .before .if2 .taken)))
@@ -41,7 +33,7 @@ refused-requires-3 : tie.Need-refused-requires-3
 refused-requires-3 c κs = search needs
 
 returns-3 : tie.Need-returns-3
-unfolding rowCells
+unfolding rowCells ifSound
 returns-3 c =
     let a = c .before .before .before .before .before .before .before .args in
     let sound = sym (c .before .before .before .before .is-sound .ensures) ∙ not-false _ (c .before .before .before .if2 .left) in
@@ -78,7 +70,7 @@ refused-requires-4 : tie.Need-refused-requires-4
 refused-requires-4 c κs = search needs
 
 returns-4 : tie.Need-returns-4
-unfolding rowCells
+unfolding rowCells ifSound
 returns-4 c =
     let a = c .before .before .before .before .before .before .before .before .before .args in
     let sound = sym (c .before .before .before .before .before .before .is-sound .ensures) ∙ not-false _ (c .before .before .before .before .before .if2 .left) in
@@ -91,7 +83,7 @@ table-at-requires : tie.Need-table-at-requires
 table-at-requires c κs = search needs
 
 returns-5 : tie.Need-returns-5
-unfolding rowCells
+unfolding rowCells ifSound
 returns-5 c =
     let a = c .before .before .before .before .before .before .before .before .before .args in
     let sound = sym (c .before .before .before .before .before .before .is-sound .ensures) ∙ not-false _ (c .before .before .before .before .before .if2 .left) in

@@ -1,13 +1,7 @@
 -- `machine::segments::add_leading` meets its contract. Assumes nothing.
-use mathlib.Core.Path.{_≡_, sym, ap, _∙_}
-use denote.Ref.{now}
-use Rattle.machine.specs.Words.{machineFrom}
-use native.Mathlib.Omega.{arith}
-use Prim.Native.Nat.{ℕ, _-_}
-use lib.ListN.{take}
+use Rattle.types.proofs.Prelude.{_≡_, sym, ap, _∙_, now, arith, ℕ, _-_, take, needs}
+use Rattle.machine.specs.{Words.machineFrom, Segments.newSegmentOn}
 use Rattle.machine.proofs.Digits.{take-all}
-use Rattle.machine.specs.Segments.{newSegmentOn}
-use borrow.Author.Needs.{needs}
 use Rattle.machine.proofs.segments.add_leading.Statement.{statement}
 use Rattle.machine.proofs.segments.add_leading.Tie as tie
 

@@ -1,12 +1,7 @@
 -- `machine::segments::drop_segment` meets its contract. Assumes nothing.
-use mathlib.Core.Path.{_≡_, refl, ap}
-use denote.Ref.{now}
-use Rattle.machine.specs.Words.{machineFrom}
-use Rattle.machine.specs.declared.records.Counts.{Counts}
-use native.Mathlib.Omega.{arith}
+use Rattle.types.proofs.Prelude.{_≡_, refl, ap, now, arith, needs}
+use Rattle.machine.specs.{Words.machineFrom, declared.records.Counts.Counts, Segments.dropOn}
 use Rattle.machine.proofs.Laws.{unknown, known}
-use Rattle.machine.specs.Segments.{dropOn}
-use borrow.Author.Needs.{needs}
 use Rattle.machine.proofs.segments.drop_segment.Statement.{statement}
 use Rattle.machine.proofs.segments.drop_segment.Tie as tie
 

@@ -1,11 +1,7 @@
 -- `machine::segments::make_segment` meets its contract. Assumes nothing.
-use mathlib.Core.Path.{ap, _∙_}
-use denote.Ref.{now}
-use Rattle.machine.specs.Words.{machineFrom}
+use Rattle.types.proofs.Prelude.{ap, _∙_, now, needs}
+use Rattle.machine.specs.{Words.machineFrom, declared.outcome.Outcome.Outcome, Segments.segmentMade}
 use Rattle.types.specs.Done.{done}
-use Rattle.machine.specs.declared.outcome.Outcome.{Outcome}
-use Rattle.machine.specs.Segments.{segmentMade}
-use borrow.Author.Needs.{needs}
 use Rattle.machine.proofs.segments.make_segment.Statement.{statement}
 use Rattle.machine.proofs.segments.make_segment.Tie as tie
 

@@ -1,21 +1,9 @@
 -- `machine::segments::table_init` meets its contract. Assumes nothing.
-use mathlib.Core.Path.{_≡_, sym, ap, _∙_}
-use denote.Ref.{now}
-use Rattle.machine.specs.Words.{machineFrom}
-use Rattle.machine.specs.declared.records.Counts.{Counts}
-use native.Mathlib.Omega.{arith}
-use Rattle.types.specs.Done.{done}
-use Rattle.machine.specs.declared.outcome.Outcome.{Outcome}
-use Rattle.types.proofs.Picks.{pick-true, pick-false, both-left, both-right, both-true}
-use borrow.Author.Tests.{lt-ltb, le-ltb}
-use Rattle.types.specs.Raw.{rawBytes}
-use Rattle.table.specs.Init.{initTable}
-use Rattle.table.specs.declared.table.Table.{Table}
-use Rattle.table.specs.declared.element.ElementSegment.{ElementSegment}
-use Rattle.machine.specs.Machine.{tableAt}
-use Rattle.machine.specs.Tables.{spannedDone}
+use Rattle.types.proofs.Prelude.{_≡_, sym, ap, _∙_, now, arith, pick-true, pick-false, both-left, both-right, both-true, lt-ltb, le-ltb, needs}
+use Rattle.machine.specs.{Words.machineFrom, declared.records.Counts.Counts, declared.outcome.Outcome.Outcome, Machine.tableAt, Tables.spannedDone}
 use Rattle.machine.specs.Segments.{initOn}
-use borrow.Author.Needs.{needs}
+use Rattle.types.specs.{Done.done, Raw.rawBytes}
+use Rattle.table.specs.{Init.initTable, declared.table.Table.Table, declared.element.ElementSegment.ElementSegment}
 use Rattle.machine.proofs.segments.table_init.Statement.{statement}
 use Rattle.machine.proofs.segments.table_init.Tie as tie
 

@@ -1,9 +1,6 @@
 -- `machine::sound::is_sound` meets its contract. Assumes nothing.
-use mathlib.Core.Path.{sym, _∙_}
-use borrow.Author.Tests.{not-true, not-false}
-use Rattle.types.proofs.Picks.{both-left, both-right, both-then}
+use Rattle.types.proofs.Prelude.{sym, _∙_, not-true, not-false, both-left, both-right, both-then, needs}
 use Rattle.machine.specs.Sound.{soundMachine}
-use borrow.Author.Needs.{needs}
 use Rattle.machine.proofs.sound.is_sound.Statement.{statement}
 use Rattle.machine.proofs.sound.is_sound.Tie as tie
 

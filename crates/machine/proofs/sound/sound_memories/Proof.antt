@@ -1,20 +1,10 @@
 -- `machine::sound::sound_memories` meets its contract. Assumes nothing.
-use mathlib.Core.Path.{refl, sym, ap, subst, _∙_}
-use denote.Ref.{now}
-use Rattle.machine.specs.Words.{machineFrom}
-use Rattle.machine.specs.declared.records.Counts.{Counts}
-use native.Mathlib.Omega.{arith}
-use Prim.Native.Nat.{_+_, _-_, _≤_}
-use borrow.Author.Tests.{not-false, not-true}
-use Rattle.memory.specs.Memory.{soundMemory}
-use Rattle.memory.specs.declared.memory.Memory.{Memory}
-use Rattle.memory.proofs.Sounds.{sound-is}
-use Rattle.machine.specs.Machine.{noMemory, memoryEnd}
-use Rattle.machine.specs.Sound.{soundMemories}
+use Rattle.types.proofs.Prelude.{refl, sym, ap, subst, _∙_, now, arith, _+_, _-_, _≤_, not-false, not-true, needs}
+use Rattle.machine.specs.{Words.machineFrom, declared.records.Counts.Counts, Machine.noMemory, Machine.memoryEnd, Sound.soundMemories}
 use Rattle.machine.specs.Words.{recordLength, memoryFrom}
-use Rattle.machine.proofs.Places.{records-length}
-use Rattle.machine.proofs.Lists.{Left, too-many, starts-elsewhere, unsound, goes-on, ends}
-use borrow.Author.Needs.{needs}
+use Rattle.memory.specs.{Memory.soundMemory, declared.memory.Memory.Memory}
+use Rattle.memory.proofs.Sounds.{sound-is}
+use Rattle.machine.proofs.{Places.records-length, Lists.Left, Lists.too-many, Lists.starts-elsewhere, Lists.unsound, Lists.goes-on, Lists.ends}
 use Rattle.machine.proofs.sound.sound_memories.Statement.{statement}
 use Rattle.machine.proofs.sound.sound_memories.Tie as tie
 

@@ -1,20 +1,10 @@
 -- `machine::sound::sound_segments` meets its contract. Assumes nothing.
-use mathlib.Core.Path.{refl, sym, ap, subst, _∙_}
-use denote.Ref.{now}
-use Rattle.machine.specs.Words.{machineFrom}
-use Rattle.machine.specs.declared.records.Counts.{Counts}
-use native.Mathlib.Omega.{arith}
-use Prim.Native.Nat.{_+_, _-_, _≤_}
-use borrow.Author.Tests.{not-false, not-true}
-use Rattle.table.specs.Element.{soundSegment}
-use Rattle.table.specs.declared.element.ElementSegment.{ElementSegment}
-use Rattle.table.proofs.Sounds.{segment-room}
-use Rattle.machine.specs.Machine.{noSegment, segmentEnd}
-use Rattle.machine.specs.Sound.{soundSegments}
+use Rattle.types.proofs.Prelude.{refl, sym, ap, subst, _∙_, now, arith, _+_, _-_, _≤_, not-false, not-true, needs}
+use Rattle.machine.specs.{Words.machineFrom, declared.records.Counts.Counts, Machine.noSegment, Machine.segmentEnd, Sound.soundSegments}
 use Rattle.machine.specs.Words.{segmentLength, segmentsAt, segmentFrom}
-use Rattle.machine.proofs.Places.{records-length}
-use Rattle.machine.proofs.Lists.{Left, too-many, starts-elsewhere, unsound, goes-on, ends}
-use borrow.Author.Needs.{needs}
+use Rattle.table.specs.{Element.soundSegment, declared.element.ElementSegment.ElementSegment}
+use Rattle.table.proofs.Sounds.{segment-room}
+use Rattle.machine.proofs.{Places.records-length, Lists.Left, Lists.too-many, Lists.starts-elsewhere, Lists.unsound, Lists.goes-on, Lists.ends}
 use Rattle.machine.proofs.sound.sound_segments.Statement.{statement}
 use Rattle.machine.proofs.sound.sound_segments.Tie as tie
 

@@ -1,20 +1,10 @@
 -- `machine::sound::sound_tables` meets its contract. Assumes nothing.
-use mathlib.Core.Path.{refl, sym, ap, subst, _∙_}
-use denote.Ref.{now}
-use Rattle.machine.specs.Words.{machineFrom}
-use Rattle.machine.specs.declared.records.Counts.{Counts}
-use native.Mathlib.Omega.{arith}
-use Prim.Native.Nat.{_+_, _-_, _≤_}
-use borrow.Author.Tests.{not-false, not-true}
-use Rattle.table.specs.Table.{soundTable}
-use Rattle.table.specs.declared.table.Table.{Table}
-use Rattle.table.proofs.Sounds.{sound-room}
-use Rattle.machine.specs.Machine.{noTable, tableEnd}
-use Rattle.machine.specs.Sound.{soundTables}
+use Rattle.types.proofs.Prelude.{refl, sym, ap, subst, _∙_, now, arith, _+_, _-_, _≤_, not-false, not-true, needs}
+use Rattle.machine.specs.{Words.machineFrom, declared.records.Counts.Counts, Machine.noTable, Machine.tableEnd, Sound.soundTables}
 use Rattle.machine.specs.Words.{recordLength, tablesAt, tableFrom}
-use Rattle.machine.proofs.Places.{records-length}
-use Rattle.machine.proofs.Lists.{Left, too-many, starts-elsewhere, unsound, goes-on, ends}
-use borrow.Author.Needs.{needs}
+use Rattle.table.specs.{Table.soundTable, declared.table.Table.Table}
+use Rattle.table.proofs.Sounds.{sound-room}
+use Rattle.machine.proofs.{Places.records-length, Lists.Left, Lists.too-many, Lists.starts-elsewhere, Lists.unsound, Lists.goes-on, Lists.ends}
 use Rattle.machine.proofs.sound.sound_tables.Statement.{statement}
 use Rattle.machine.proofs.sound.sound_tables.Tie as tie
 

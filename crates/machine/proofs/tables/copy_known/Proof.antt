@@ -1,15 +1,8 @@
 -- `machine::tables::copy_known` meets its contract. Assumes nothing.
-use mathlib.Core.Path.{sym, ap, _∙_}
-use denote.Ref.{now}
-use Rattle.machine.specs.Words.{machineFrom}
-use Rattle.types.proofs.Picks.{pick-true, pick-false}
-use borrow.Author.Tests.{eq-eqb, ne-eqb}
-use Rattle.table.specs.declared.table.Table.{Table}
+use Rattle.types.proofs.Prelude.{sym, ap, _∙_, now, pick-true, pick-false, eq-eqb, ne-eqb, needs}
+use Rattle.machine.specs.{Words.machineFrom, Machine.tableAt, Tables.spannedDone, Tables.copyKnown}
+use Rattle.table.specs.{declared.table.Table.Table, Copy.copyTable, Copy.copyWithin}
 use Rattle.types.specs.Raw.{rawBytes}
-use Rattle.table.specs.Copy.{copyTable, copyWithin}
-use Rattle.machine.specs.Machine.{tableAt}
-use Rattle.machine.specs.Tables.{spannedDone, copyKnown}
-use borrow.Author.Needs.{needs}
 use Rattle.machine.proofs.tables.copy_known.Statement.{statement}
 use Rattle.machine.proofs.tables.copy_known.Tie as tie
 

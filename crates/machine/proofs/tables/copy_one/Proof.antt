@@ -1,13 +1,8 @@
 -- `machine::tables::copy_one` meets its contract. Assumes nothing.
-use mathlib.Core.Path.{ap, _∙_}
-use denote.Ref.{now}
-use Rattle.machine.specs.Words.{machineFrom}
-use Rattle.types.specs.Done.{done}
-use Rattle.machine.specs.declared.outcome.Outcome.{Outcome}
-use Rattle.types.specs.Raw.{rawBytes}
+use Rattle.types.proofs.Prelude.{ap, _∙_, now, needs}
+use Rattle.machine.specs.{Words.machineFrom, declared.outcome.Outcome.Outcome, Tables.spannedDone}
+use Rattle.types.specs.{Done.done, Raw.rawBytes}
 use Rattle.table.specs.Copy.{copyWithin}
-use Rattle.machine.specs.Tables.{spannedDone}
-use borrow.Author.Needs.{needs}
 use Rattle.machine.proofs.tables.copy_one.Statement.{statement}
 use Rattle.machine.proofs.tables.copy_one.Tie as tie
 

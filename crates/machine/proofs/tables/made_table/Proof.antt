@@ -1,11 +1,6 @@
 -- `machine::tables::made_table` meets its contract. Assumes nothing.
-use mathlib.Core.Path.{_≡_, ap}
-use denote.Ref.{now}
-use Rattle.machine.specs.Words.{machineFrom}
-use Rattle.machine.specs.declared.records.Counts.{Counts}
-use native.Mathlib.Omega.{arith}
-use Rattle.machine.specs.Tables.{madeTable}
-use borrow.Author.Needs.{needs}
+use Rattle.types.proofs.Prelude.{_≡_, ap, now, arith, needs}
+use Rattle.machine.specs.{Words.machineFrom, declared.records.Counts.Counts, Tables.madeTable}
 use Rattle.machine.proofs.tables.made_table.Statement.{statement}
 use Rattle.machine.proofs.tables.made_table.Tie as tie
 

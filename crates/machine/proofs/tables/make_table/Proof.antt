@@ -1,12 +1,8 @@
 -- `machine::tables::make_table` meets its contract. Assumes nothing.
-use mathlib.Core.Path.{ap, _∙_}
-use denote.Ref.{now}
-use Rattle.machine.specs.Words.{machineFrom}
+use Rattle.types.proofs.Prelude.{ap, _∙_, now, needs}
+use Rattle.machine.specs.{Words.machineFrom, declared.outcome.Outcome.Outcome, Tables.tableMade}
 use Rattle.types.specs.Done.{done}
-use Rattle.machine.specs.declared.outcome.Outcome.{Outcome}
 use Rattle.table.specs.New.{newTable}
-use Rattle.machine.specs.Tables.{tableMade}
-use borrow.Author.Needs.{needs}
 use Rattle.machine.proofs.tables.make_table.Statement.{statement}
 use Rattle.machine.proofs.tables.make_table.Tie as tie
 

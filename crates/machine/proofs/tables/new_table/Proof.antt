@@ -1,21 +1,9 @@
 -- `machine::tables::new_table` meets its contract. Assumes nothing.
-use mathlib.Core.Path.{_≡_, sym, ap, _∙_}
-use denote.Ref.{now}
-use Rattle.machine.specs.Words.{machineFrom}
-use Rattle.machine.specs.declared.records.Counts.{Counts}
-use native.Mathlib.Omega.{arith}
-use Rattle.types.specs.Done.{done}
-use Rattle.machine.specs.declared.outcome.Outcome.{Outcome}
+use Rattle.types.proofs.Prelude.{_≡_, sym, ap, _∙_, now, arith, ℕ, _-_, _<_, leb, ltb, length, pick-true, pick-false, both-1, ltb-true, needs}
+use Rattle.machine.specs.{Words.machineFrom, declared.records.Counts.Counts, declared.outcome.Outcome.Outcome, Tables.tableMade, Tables.newTableOn}
+use Rattle.types.specs.{Done.done, Pick.both}
 use Rattle.machine.proofs.Laws.{along}
-use Prim.Native.Nat.{ℕ, _-_, _<_}
-use lib.Dec.{leb, ltb}
-use lib.ListN.{length}
-use Rattle.types.specs.Pick.{both}
-use Rattle.types.proofs.Picks.{pick-true, pick-false, both-1}
-use borrow.Author.Tests.{ltb-true}
 use Rattle.table.specs.New.{newTable}
-use Rattle.machine.specs.Tables.{tableMade, newTableOn}
-use borrow.Author.Needs.{needs}
 use Rattle.machine.proofs.tables.new_table.Statement.{statement}
 use Rattle.machine.proofs.tables.new_table.Tie as tie
 

@@ -1,16 +1,10 @@
 -- `machine::tables::on_table` meets its contract. Assumes nothing.
-use mathlib.Core.Path.{_≡_, ap, _∙_}
-use denote.Ref.{now}
-use Rattle.machine.specs.Words.{machineFrom}
-use Rattle.machine.specs.declared.records.Counts.{Counts}
-use native.Mathlib.Omega.{arith}
-use Rattle.types.specs.Done.{done}
-use Rattle.machine.specs.declared.outcome.Outcome.{Outcome}
-use Rattle.machine.proofs.Laws.{unknown, known}
-use Rattle.types.specs.Raw.{rawBytes}
-use Rattle.table.specs.declared.table.Table.{Table}
+use Rattle.types.proofs.Prelude.{_≡_, ap, _∙_, now, arith, needs}
+use Rattle.machine.specs.{Words.machineFrom, declared.records.Counts.Counts, declared.outcome.Outcome.Outcome}
 use Rattle.machine.specs.Tables.{performTable, tableDone, onTable}
-use borrow.Author.Needs.{needs}
+use Rattle.types.specs.{Done.done, Raw.rawBytes}
+use Rattle.machine.proofs.Laws.{unknown, known}
+use Rattle.table.specs.declared.table.Table.{Table}
 use Rattle.machine.proofs.tables.on_table.Statement.{statement}
 use Rattle.machine.proofs.tables.on_table.Tie as tie
 

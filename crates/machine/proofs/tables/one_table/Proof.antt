@@ -1,15 +1,8 @@
 -- `machine::tables::one_table` meets its contract. Assumes nothing.
-use mathlib.Core.Path.{ap, _∙_}
-use denote.Ref.{now}
-use Rattle.types.specs.declared.fuel.Fuel.{Fuel}
-use Rattle.types.specs.declared.limiter.Limiter.{Limiter}
-use Rattle.machine.specs.Words.{machineFrom}
+use Rattle.types.proofs.Prelude.{ap, _∙_, now, needs}
+use Rattle.types.specs.{declared.fuel.Fuel.Fuel, declared.limiter.Limiter.Limiter, Done.done, Raw.rawBytes}
+use Rattle.machine.specs.{Words.machineFrom, declared.outcome.Outcome.Outcome, Tables.performTable, Tables.tableDone}
 use Rattle.machine.proofs.Laws.{along}
-use Rattle.types.specs.Done.{done}
-use Rattle.machine.specs.declared.outcome.Outcome.{Outcome}
-use Rattle.types.specs.Raw.{rawBytes}
-use Rattle.machine.specs.Tables.{performTable, tableDone}
-use borrow.Author.Needs.{needs}
 use Rattle.machine.proofs.tables.one_table.Statement.{statement}
 use Rattle.machine.proofs.tables.one_table.Tie as tie
 

@@ -1,9 +1,8 @@
 -- `machine::tables::set` meets its contract. Assumes nothing.
-use mathlib.Core.Path.{ap, _∙_}
+use Rattle.types.proofs.Prelude.{ap, _∙_, needs}
 use Rattle.types.specs.Done.{done}
 use Rattle.table.specs.declared.grow.GrownTable.{GrownTable}
 use Rattle.machine.specs.Tables.{tableStored}
-use borrow.Author.Needs.{needs}
 use Rattle.machine.proofs.tables.set.Statement.{statement}
 use Rattle.machine.proofs.tables.set.Tie as tie
 

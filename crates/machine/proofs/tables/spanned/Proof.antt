@@ -1,9 +1,6 @@
 -- `machine::tables::spanned` meets its contract. Assumes nothing.
-use mathlib.Core.Path.{ap, _∙_}
-use denote.Ref.{now}
-use Rattle.machine.specs.Words.{machineFrom}
-use Rattle.machine.specs.Outcome.{leaves}
-use borrow.Author.Needs.{needs}
+use Rattle.types.proofs.Prelude.{ap, _∙_, now, needs}
+use Rattle.machine.specs.{Words.machineFrom, Outcome.leaves}
 use Rattle.machine.proofs.tables.spanned.Statement.{statement}
 use Rattle.machine.proofs.tables.spanned.Tie as tie
 

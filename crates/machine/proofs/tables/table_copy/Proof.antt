@@ -1,15 +1,7 @@
 -- `machine::tables::table_copy` meets its contract. Assumes nothing.
-use mathlib.Core.Path.{_≡_, sym, ap, _∙_}
-use denote.Ref.{now}
-use Rattle.machine.specs.Words.{machineFrom}
-use Rattle.machine.specs.declared.records.Counts.{Counts}
-use native.Mathlib.Omega.{arith}
+use Rattle.types.proofs.Prelude.{_≡_, sym, ap, _∙_, now, arith, pick-true, pick-false, both-left, both-right, both-true, lt-ltb, le-ltb, needs}
+use Rattle.machine.specs.{Words.machineFrom, declared.records.Counts.Counts, declared.outcome.Outcome.Outcome, Tables.copyOn}
 use Rattle.types.specs.Done.{done}
-use Rattle.machine.specs.declared.outcome.Outcome.{Outcome}
-use Rattle.types.proofs.Picks.{pick-true, pick-false, both-left, both-right, both-true}
-use borrow.Author.Tests.{lt-ltb, le-ltb}
-use Rattle.machine.specs.Tables.{copyOn}
-use borrow.Author.Needs.{needs}
 use Rattle.machine.proofs.tables.table_copy.Statement.{statement}
 use Rattle.machine.proofs.tables.table_copy.Tie as tie
 

@@ -1,6 +1,5 @@
 -- `machine::tables::table_out` meets its contract. Assumes nothing.
-use mathlib.Core.Path.{refl}
-use borrow.Author.Needs.{needs}
+use Rattle.types.proofs.Prelude.{refl, needs}
 use Rattle.machine.proofs.tables.table_out.Statement.{statement}
 use Rattle.machine.proofs.tables.table_out.Tie as tie
 

@@ -1,11 +1,7 @@
 -- `machine::words::put_bytes` meets its contract. Assumes nothing.
-use Prim.Native.Nat.{_-_, _≤_}
+use Rattle.types.proofs.Prelude.{_-_, _≤_, needs, length, length-set, take, _≡_, refl, arith}
 use Rattle.machine.proofs.Rows.{put-none, put-turn, put-done}
 use Rattle.types.specs.Span.{over}
-use borrow.Author.Needs.{needs}
-use lib.ListN.{length, length-set, take}
-use mathlib.Core.Path.{_≡_, refl}
-use native.Mathlib.Omega.{arith}
 use Rattle.machine.proofs.words.put_bytes.Statement.{statement}
 use Rattle.machine.proofs.words.put_bytes.Tie as tie
 

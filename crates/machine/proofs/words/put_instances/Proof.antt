@@ -1,10 +1,7 @@
 -- `machine::words::put_instances` meets its contract. Assumes nothing.
-use mathlib.Core.List.{_++_}
+use Rattle.types.proofs.Prelude.{_++_, refl, arith, needs}
 use Rattle.machine.specs.Words.{rowsOf, memoryWords, tableWords, segmentWords}
-use mathlib.Core.Path.{refl}
-use native.Mathlib.Omega.{arith}
 use Rattle.machine.proofs.Rows.{then-both, length-both}
-use borrow.Author.Needs.{needs}
 use Rattle.machine.proofs.words.put_instances.Statement.{statement}
 use Rattle.machine.proofs.words.put_instances.Tie as tie
 

@@ -1,9 +1,7 @@
 -- `machine::words::put_machine` meets its contract. Assumes nothing.
-use mathlib.Core.Path.{refl}
-use native.Mathlib.Omega.{arith}
+use Rattle.types.proofs.Prelude.{refl, arith, needs}
 use Rattle.machine.specs.Words.{instanceWords, stateWords, wordsOf}
 use Rattle.machine.proofs.Rows.{then-over, length-both}
-use borrow.Author.Needs.{needs}
 use Rattle.machine.proofs.words.put_machine.Statement.{statement}
 use Rattle.machine.proofs.words.put_machine.Tie as tie
 

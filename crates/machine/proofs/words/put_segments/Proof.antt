@@ -1,14 +1,8 @@
 -- `machine::words::put_segments` meets its contract. Assumes nothing.
-use Prim.Native.Nat.{_-_, _≤_}
-use Rattle.machine.specs.Machine.{noSegment}
-use Rattle.machine.specs.Words.{segmentWords, rowsOf}
-use Rattle.machine.proofs.Rows.{rows-none, rows-turn, rows-done, rows-length}
-use Rattle.machine.proofs.Lengths.{length-segment}
+use Rattle.types.proofs.Prelude.{_-_, _≤_, needs, length, take, _≡_, refl, _∙_, arith}
+use Rattle.machine.specs.{Machine.noSegment, Words.segmentWords, Words.rowsOf}
+use Rattle.machine.proofs.{Rows.rows-none, Rows.rows-turn, Rows.rows-done, Rows.rows-length, Lengths.length-segment}
 use Rattle.types.specs.Span.{over}
-use borrow.Author.Needs.{needs}
-use lib.ListN.{length, take}
-use mathlib.Core.Path.{_≡_, refl, _∙_}
-use native.Mathlib.Omega.{arith}
 use Rattle.machine.proofs.words.put_segments.Statement.{statement}
 use Rattle.machine.proofs.words.put_segments.Tie as tie
 

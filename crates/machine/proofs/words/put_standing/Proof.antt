@@ -1,10 +1,7 @@
 -- `machine::words::put_standing` meets its contract. Assumes nothing.
-use mathlib.Core.Path.{refl, ap, _∙_}
-use native.Mathlib.Omega.{arith}
+use Rattle.types.proofs.Prelude.{refl, ap, _∙_, arith, needs}
 use Rattle.types.specs.Span.{over}
-use Rattle.machine.proofs.Rows.{then-both}
-use Rattle.machine.proofs.Lengths.{length-count, length-fuel}
-use borrow.Author.Needs.{needs}
+use Rattle.machine.proofs.{Rows.then-both, Lengths.length-count, Lengths.length-fuel}
 use Rattle.machine.proofs.words.put_standing.Statement.{statement}
 use Rattle.machine.proofs.words.put_standing.Tie as tie
 

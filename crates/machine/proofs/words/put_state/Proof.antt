@@ -1,11 +1,8 @@
 -- `machine::words::put_state` meets its contract. Assumes nothing.
-use mathlib.Core.Path.{_≡_, refl, sym, _∙_}
-use native.Mathlib.Omega.{arith}
-use lib.ListN.{length, length-map}
+use Rattle.types.proofs.Prelude.{_≡_, refl, sym, _∙_, arith, length, needs}
+use lib.ListN.{length-map}
 use Rattle.machine.specs.Words.{standingWords}
-use Rattle.machine.proofs.Lengths.{length-standing}
-use Rattle.machine.proofs.Rows.{then-over, length-both}
-use borrow.Author.Needs.{needs}
+use Rattle.machine.proofs.{Lengths.length-standing, Rows.then-over, Rows.length-both}
 use Rattle.machine.proofs.words.put_state.Statement.{statement}
 use Rattle.machine.proofs.words.put_state.Tie as tie
 

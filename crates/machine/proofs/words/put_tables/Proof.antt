@@ -1,14 +1,8 @@
 -- `machine::words::put_tables` meets its contract. Assumes nothing.
-use Prim.Native.Nat.{_-_, _≤_}
-use Rattle.machine.specs.Machine.{noTable}
-use Rattle.machine.specs.Words.{tableWords, rowsOf}
-use Rattle.machine.proofs.Rows.{rows-none, rows-turn, rows-done, rows-length}
-use Rattle.machine.proofs.Lengths.{length-table}
+use Rattle.types.proofs.Prelude.{_-_, _≤_, needs, length, take, _≡_, refl, _∙_, arith}
+use Rattle.machine.specs.{Machine.noTable, Words.tableWords, Words.rowsOf}
+use Rattle.machine.proofs.{Rows.rows-none, Rows.rows-turn, Rows.rows-done, Rows.rows-length, Lengths.length-table}
 use Rattle.types.specs.Span.{over}
-use borrow.Author.Needs.{needs}
-use lib.ListN.{length, take}
-use mathlib.Core.Path.{_≡_, refl, _∙_}
-use native.Mathlib.Omega.{arith}
 use Rattle.machine.proofs.words.put_tables.Statement.{statement}
 use Rattle.machine.proofs.words.put_tables.Tie as tie
 

@@ -1,13 +1,10 @@
 -- `machine::words::row_of` meets its contract. Assumes nothing.
-use Prim.Native.Nat.{ℕ}
-use mathlib.Core.Path.{sym, ap, _∙_}
+use Rattle.types.proofs.Prelude.{ℕ, sym, ap, _∙_, length, length-replicate, needs}
 use mir.Syntax.{w8}
-use lib.ListN.{length, length-map, length-replicate}
+use lib.ListN.{length-map}
 use borrow.Author.Needs.{length-unmapped, elem-fits-field}
 use Rattle.machine.specs.Words.{wordsOf, machineFrom}
-use Rattle.machine.proofs.Rows.{over-all}
-use Rattle.machine.proofs.Back.{words-alone}
-use borrow.Author.Needs.{needs}
+use Rattle.machine.proofs.{Rows.over-all, Back.words-alone}
 use Rattle.machine.proofs.words.row_of.Statement.{statement}
 use Rattle.machine.proofs.words.row_of.Tie as tie
 

@@ -1,12 +1,6 @@
 -- `machine::words::script_from` meets its contract. Assumes nothing.
-use Prim.Native.Nat.{ℕ, _+_, _-_, _*_, _≤_, _<_}
-use borrow.Author.Needs.{needs}
-use lib.ListN.{drop, getD, length, replicate, set, take}
-use lib.Seq.{take-all}
-use mathlib.Core.List.{List, _++_, append-nil}
-use mathlib.Core.Path.{_≡_, refl, sym, ap, _∙_}
-use native.Mathlib.Omega.{arith}
-use Rattle.types.proofs.Scripts.{row-more}
+use Rattle.types.proofs.Prelude.{ℕ, _+_, _-_, _*_, _≤_, _<_, needs, drop, getD, length, replicate, set, take, take-all, List, _++_, append-nil, _≡_, refl, sym}
+use Rattle.types.proofs.{Prelude.ap, Prelude._∙_, Prelude.arith, Scripts.row-more}
 use Rattle.machine.specs.Words.{scriptAt, answerFrom, recordsFrom, limiterFrom}
 use Rattle.machine.proofs.Places.{records-at, records-length}
 use Rattle.machine.proofs.words.script_from.Statement.{statement}

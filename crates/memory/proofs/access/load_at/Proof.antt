@@ -1,8 +1,7 @@
 -- `memory::access::load_at` meets its contract. Assumes nothing.
+use Rattle.types.proofs.Prelude.{needs, _≡_}
 use Rattle.memory.proofs.Accesses.{address-found}
 use Rattle.memory.specs.Access.{addressOf, loadAt, loadWidth, widthBytes}
-use borrow.Author.Needs.{needs}
-use mathlib.Core.Path.{_≡_}
 use Rattle.memory.proofs.access.load_at.Statement.{statement}
 use Rattle.memory.proofs.access.load_at.Tie as tie
 

@@ -1,8 +1,6 @@
 -- `memory::access::load_found` meets its contract. Assumes nothing.
+use Rattle.types.proofs.Prelude.{needs, refl, arith}
 use Rattle.memory.specs.Access.{loadFound}
-use borrow.Author.Needs.{needs}
-use mathlib.Core.Path.{refl}
-use native.Mathlib.Omega.{arith}
 use Rattle.memory.proofs.access.load_found.Statement.{statement}
 use Rattle.memory.proofs.access.load_found.Tie as tie
 

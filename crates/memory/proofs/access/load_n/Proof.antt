@@ -1,11 +1,8 @@
 -- `memory::access::load_n` meets its contract. Assumes nothing.
-use Prim.Native.Nat.{_*_, _+_, _-_, _<_, _^_, _≤_}
+use Rattle.types.proofs.Prelude.{_*_, _+_, _-_, _<_, _^_, _≤_, needs, _≡_, arith}
 use Rattle.memory.proofs.Bytes.{load-all, load-more, load-none, load-room, load-small, load-zero}
 use Rattle.memory.specs.LittleEndian.{leValue}
 use Rattle.types.specs.Span.{cut}
-use borrow.Author.Needs.{needs}
-use mathlib.Core.Path.{_≡_}
-use native.Mathlib.Omega.{arith}
 use Rattle.memory.proofs.access.load_n.Statement.{statement}
 use Rattle.memory.proofs.access.load_n.Tie as tie
 

@@ -1,7 +1,6 @@
 -- `memory::access::locate` meets its contract. Assumes nothing.
+use Rattle.types.proofs.Prelude.{known-test, needs}
 use Rattle.memory.proofs.Accesses.{address-at, address-over, address-past}
-use Rattle.types.proofs.Picks.{known-test}
-use borrow.Author.Needs.{needs}
 use Rattle.memory.proofs.access.locate.Statement.{statement}
 use Rattle.memory.proofs.access.locate.Tie as tie
 

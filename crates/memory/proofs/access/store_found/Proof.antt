@@ -1,9 +1,7 @@
 -- `memory::access::store_found` meets its contract. Assumes nothing.
+use Rattle.types.proofs.Prelude.{needs, refl, arith}
 use Rattle.memory.proofs.Accesses.{stored-at}
 use Rattle.memory.specs.Access.{storeFound}
-use borrow.Author.Needs.{needs}
-use mathlib.Core.Path.{refl}
-use native.Mathlib.Omega.{arith}
 use Rattle.memory.proofs.access.store_found.Statement.{statement}
 use Rattle.memory.proofs.access.store_found.Tie as tie
 

@@ -1,10 +1,8 @@
 -- `memory::access::value` meets its contract. Assumes nothing.
+use Rattle.types.proofs.Prelude.{needs, ap, refl, arith}
 use Rattle.memory.proofs.Values.{narrow-fits, of-kind, plain, plain-fits, signed-32, signed-64, signs}
 use Rattle.memory.specs.Access.{extend}
-use borrow.Author.Needs.{needs}
-use mathlib.Core.Path.{ap, refl}
 use mir.Syntax.{w16, w32, w64, w8}
-use native.Mathlib.Omega.{arith}
 use Rattle.memory.specs.declared.access.LoadKind.the-variants.{F32, I32, I32From8S, I32From8U, I32From16S, I32From16U, I64From8S, I64From8U, I64From16S, I64From16U, I64From32S, I64From32U}
 use Rattle.types.specs.declared.answer.Value.the-variants as value
 use Rattle.memory.proofs.access.value.Statement.{statement}

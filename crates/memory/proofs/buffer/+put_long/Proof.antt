@@ -1,19 +1,12 @@
 -- `memory::buffer::put_long` meets its contract. The measure is the length. Assumes nothing.
-use Prim.Native.Nat.{ℕ, _-_, _/_, _<_}
+use Rattle.types.proofs.Prelude.{ℕ, _-_, _/_, _<_, needs, length, _≡_, _∙_, arith}
 use Rattle.types.proofs.Parts.{high-less, low-less, parts-same, two-parts}
-use borrow.Author.Needs.{needs}
-use borrow.Fn.Kinds.{In}
-use borrow.Rule.Slice.PartMut.{putMid}
-use lib.ListN.{length}
-use mathlib.Core.Path.{_≡_, _∙_}
-use native.Mathlib.Omega.{arith}
-use borrow.Fn.PlainCycle.{Measures, is, falls, and}
+use borrow.{Fn.Kinds.In, Rule.Slice.PartMut.putMid, Fn.PlainCycle.Measures, Fn.PlainCycle.is, Fn.PlainCycle.falls, Fn.PlainCycle.and}
+use Rattle.memory.proofs.{buffer.+put_long.statement, buffer.+put_long.Tie.close}
 use Rattle.memory.proofs.buffer.put_long.Reads as put-long
 use Rattle.memory.proofs.buffer.put_long.Kinds as put-long-kinds
 use Rattle.memory.proofs.buffer.+put_long.Lts-put_long as put-long-lts
 use Rattle.memory.proofs.buffer.put_some.Reads as put-some-reads
-use Rattle.memory.proofs.buffer.+put_long.{statement}
-use Rattle.memory.proofs.buffer.+put_long.Tie.{close}
 
 abbrev μ-put-long : Measures 2 put-long-kinds.ps ℕ
 μ-put-long κs a = length (a .0 .now)

@@ -1,12 +1,7 @@
 -- `memory::buffer::fill` meets its contract. Assumes nothing.
-use Prim.Native.Nat.{_-_, _<_, _≤_, ℕ}
+use Rattle.types.proofs.Prelude.{_-_, _<_, _≤_, ℕ, needs, drop, length, length-set, replicate, set, List, _++_, append-nil, _∙_, _≡_, ap, refl, arith}
 use borrow.Author.Fill.{fill-more}
-use borrow.Author.Needs.{needs}
-use lib.ListN.{drop, length, length-set, replicate, set}
 use lib.Seq.{drop-length}
-use mathlib.Core.List.{List, _++_, append-nil}
-use mathlib.Core.Path.{_∙_, _≡_, ap, refl}
-use native.Mathlib.Omega.{arith}
 use Rattle.memory.proofs.buffer.fill.Statement.{statement}
 use Rattle.memory.proofs.buffer.fill.Tie as tie
 

@@ -1,7 +1,5 @@
 -- `memory::buffer::put_all` meets its contract. Assumes nothing.
-use Rattle.types.proofs.Parts.{part-all}
-use borrow.Author.Needs.{needs}
-use mathlib.Core.Path.{_∙_}
+use Rattle.types.proofs.{Prelude.needs, Prelude._∙_, Parts.part-all}
 use Rattle.memory.proofs.buffer.put_all.Statement.{statement}
 use Rattle.memory.proofs.buffer.put_all.Tie as tie
 

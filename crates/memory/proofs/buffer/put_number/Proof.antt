@@ -1,12 +1,7 @@
 -- `memory::buffer::put_number` meets its contract. Assumes nothing.
-use Prim.Native.Nat.{_-_, _≤_}
+use Rattle.types.proofs.Prelude.{_-_, _≤_, needs, length, length-set, take, _++_, _≡_, refl, arith}
 use Rattle.memory.proofs.Bytes.{store-all, store-more, store-none}
 use Rattle.memory.specs.LittleEndian.{leBytes}
-use borrow.Author.Needs.{needs}
-use lib.ListN.{length, length-set, take}
-use mathlib.Core.List.{_++_}
-use mathlib.Core.Path.{_≡_, refl}
-use native.Mathlib.Omega.{arith}
 use Rattle.memory.proofs.buffer.put_number.Statement.{statement}
 use Rattle.memory.proofs.buffer.put_number.Tie as tie
 

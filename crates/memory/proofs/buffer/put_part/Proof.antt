@@ -1,7 +1,6 @@
 -- `memory::buffer::put_part` meets its contract. Assumes nothing.
+use Rattle.types.proofs.Prelude.{needs, refl}
 use Rattle.memory.proofs.Copies.{put-list}
-use borrow.Author.Needs.{needs}
-use mathlib.Core.Path.{refl}
 use Rattle.memory.proofs.buffer.put_part.Statement.{statement}
 use Rattle.memory.proofs.buffer.put_part.Tie as tie
 

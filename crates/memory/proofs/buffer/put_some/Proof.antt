@@ -1,7 +1,5 @@
 -- `memory::buffer::put_some` meets its contract. Assumes nothing.
-use Rattle.types.proofs.Moves.{long}
-use borrow.Author.Needs.{needs}
-use mathlib.Core.Path.{sym}
+use Rattle.types.proofs.{Prelude.needs, Prelude.sym, Moves.long}
 use Rattle.memory.proofs.buffer.put_some.Statement.{statement}
 use Rattle.memory.proofs.buffer.put_some.Tie as tie
 

@@ -1,8 +1,6 @@
 -- `memory::grow::by_reach` meets its contract. Assumes nothing.
-use mathlib.Core.Path.{refl}
-use Rattle.types.proofs.Dones.{done-as}
+use Rattle.types.proofs.{Prelude.refl, Prelude.needs, Dones.done-as}
 use Rattle.memory.specs.stages.Grow.{byReach}
-use borrow.Author.Needs.{needs}
 use Rattle.memory.proofs.grow.by_reach.Statement.{statement}
 use Rattle.memory.proofs.grow.by_reach.Tie as tie
 

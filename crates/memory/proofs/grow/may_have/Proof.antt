@@ -1,10 +1,6 @@
 -- `memory::grow::may_have` meets its contract. Assumes nothing.
+use Rattle.types.proofs.{Prelude.known-test, Prelude.needs, Prelude.not-false, Prelude.not-true, Prelude.arith, Sizes.page-pos}
 use Rattle.memory.proofs.Growths.{may-by, may-not}
-use Rattle.types.proofs.Picks.{known-test}
-use Rattle.types.proofs.Sizes.{page-pos}
-use borrow.Author.Needs.{needs}
-use borrow.Author.Tests.{not-false, not-true}
-use native.Mathlib.Omega.{arith}
 use Rattle.memory.proofs.grow.may_have.Statement.{statement}
 use Rattle.memory.proofs.grow.may_have.Tie as tie
 

@@ -1,7 +1,6 @@
 -- `memory::grow::reach_pages` meets its contract. Assumes nothing.
+use Rattle.types.proofs.Prelude.{known-test, needs}
 use Rattle.memory.proofs.Growths.{reach-none, reach-some}
-use Rattle.types.proofs.Picks.{known-test}
-use borrow.Author.Needs.{needs}
 use Rattle.memory.proofs.grow.reach_pages.Statement.{statement}
 use Rattle.memory.proofs.grow.reach_pages.Tie as tie
 

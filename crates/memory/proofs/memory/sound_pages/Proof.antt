@@ -1,6 +1,5 @@
 -- `memory::memory::sound_pages` meets its contract. Assumes nothing.
-use Rattle.types.proofs.Picks.{cases}
-use borrow.Author.Needs.{needs}
+use Rattle.types.proofs.Prelude.{cases, needs}
 use Rattle.memory.proofs.memory.sound_pages.Statement.{statement}
 use Rattle.memory.proofs.memory.sound_pages.Tie as tie
 

@@ -1,8 +1,6 @@
 -- `memory::new::by_type` meets its contract. Assumes nothing.
-use mathlib.Core.Path.{refl}
-use Rattle.types.proofs.Dones.{done-as}
+use Rattle.types.proofs.{Prelude.refl, Prelude.needs, Dones.done-as}
 use Rattle.memory.specs.stages.New.{byType}
-use borrow.Author.Needs.{needs}
 use Rattle.memory.proofs.new.by_type.Statement.{statement}
 use Rattle.memory.proofs.new.by_type.Tie as tie
 

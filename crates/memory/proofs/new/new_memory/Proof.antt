@@ -1,10 +1,7 @@
 -- `memory::new::new_memory` meets its contract. Assumes nothing.
-use Rattle.types.proofs.Dones.{done-as}
+use Rattle.types.proofs.{Prelude.known-test, Prelude.needs, Dones.done-as, Spans.within-is}
 use Rattle.memory.proofs.Readings.{new-goes, new-stops}
-use Rattle.types.proofs.Picks.{known-test}
-use Rattle.types.proofs.Spans.{within-is}
 use Rattle.types.specs.Span.{inside}
-use borrow.Author.Needs.{needs}
 use Rattle.memory.proofs.new.new_memory.Statement.{statement}
 use Rattle.memory.proofs.new.new_memory.Tie as tie
 

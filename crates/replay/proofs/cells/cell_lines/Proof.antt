@@ -1,7 +1,5 @@
 -- `replay::cells::cell_lines` meets its contract. Assumes nothing.
-use Prim.Native.Nat.{_-_, _≤_}
-use lib.ListN.{length}
-use borrow.Author.Needs.{needs}
+use Rattle.types.proofs.Prelude.{_-_, _≤_, length, needs}
 use Rattle.replay.proofs.cells.cell_lines.Statement.{statement}
 use Rattle.replay.proofs.cells.cell_lines.Tie as tie
 

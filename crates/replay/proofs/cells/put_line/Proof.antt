@@ -1,8 +1,5 @@
 -- `replay::cells::put_line` meets its contract. Assumes nothing.
-use Prim.Native.Nat.{_-_, _≤_}
-use mathlib.Core.Path.{_≡_}
-use lib.ListN.{length}
-use borrow.Author.Needs.{needs}
+use Rattle.types.proofs.Prelude.{_-_, _≤_, _≡_, length, needs}
 use Rattle.replay.proofs.cells.put_line.Statement.{statement}
 use Rattle.replay.proofs.cells.put_line.Tie as tie
 

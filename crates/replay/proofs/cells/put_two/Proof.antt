@@ -1,7 +1,5 @@
 -- `replay::cells::put_two` meets its contract. Assumes nothing.
-use native.Mathlib.Omega.{arith}
-use lib.ListN.{length-set}
-use borrow.Author.Needs.{needs}
+use Rattle.types.proofs.Prelude.{arith, length-set, needs}
 use Rattle.replay.proofs.cells.put_two.Statement.{statement}
 use Rattle.replay.proofs.cells.put_two.Tie as tie
 

@@ -1,6 +1,5 @@
 -- `replay::cells::tables` meets its contract. Assumes nothing.
-use Prim.Native.Nat.{_-_, _≤_}
-use borrow.Author.Needs.{needs}
+use Rattle.types.proofs.Prelude.{_-_, _≤_, needs}
 use Rattle.replay.proofs.cells.tables.Statement.{statement}
 use Rattle.replay.proofs.cells.tables.Tie as tie
 

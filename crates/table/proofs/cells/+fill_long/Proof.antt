@@ -1,16 +1,11 @@
 -- `table::cells::fill_long` meets its contract. The measure is the number of cells. Assumes nothing.
-use Prim.Native.Nat.{ℕ, _-_, _/_, _<_}
-use Rattle.table.proofs.Puts.{fill-on}
-use borrow.Author.Needs.{needs}
-use borrow.Fn.Kinds.{In}
-use borrow.Fn.PlainCycle.{Measures, is, falls, and}
-use native.Mathlib.Omega.{arith}
+use Rattle.types.proofs.Prelude.{ℕ, _-_, _/_, _<_, needs, arith}
+use Rattle.table.proofs.{Puts.fill-on, cells.+fill_long.statement, cells.+fill_long.Tie.close}
+use borrow.{Fn.Kinds.In, Fn.PlainCycle.Measures, Fn.PlainCycle.is, Fn.PlainCycle.falls, Fn.PlainCycle.and}
 use Rattle.table.proofs.cells.fill_long.Reads as fill-long
 use Rattle.table.proofs.cells.fill_long.Kinds as fill-long-kinds
 use Rattle.table.proofs.cells.+fill_long.Lts-fill_long as fill-long-lts
 use Rattle.table.proofs.cells.fill_row.Reads as fill-row-reads
-use Rattle.table.proofs.cells.+fill_long.{statement}
-use Rattle.table.proofs.cells.+fill_long.Tie.{close}
 
 abbrev μ-fill-long : Measures 1 fill-long-kinds.ps ℕ
 μ-fill-long κs a = a .1 .1 .1 .0

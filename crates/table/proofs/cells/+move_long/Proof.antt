@@ -1,16 +1,11 @@
 -- `table::cells::move_long` meets its contract. The measure is the number of cells. Assumes nothing.
-use Prim.Native.Nat.{ℕ, _-_, _/_, _<_}
-use Rattle.types.proofs.Moves.{back-end, forth-on}
-use borrow.Author.Needs.{needs}
-use borrow.Fn.Kinds.{In}
-use borrow.Fn.PlainCycle.{Measures, is, falls, and}
-use native.Mathlib.Omega.{arith}
+use Rattle.types.proofs.{Prelude.ℕ, Prelude._-_, Prelude._/_, Prelude._<_, Prelude.needs, Prelude.arith, Moves.back-end, Moves.forth-on}
+use borrow.{Fn.Kinds.In, Fn.PlainCycle.Measures, Fn.PlainCycle.is, Fn.PlainCycle.falls, Fn.PlainCycle.and}
+use Rattle.table.proofs.{cells.+move_long.statement, cells.+move_long.Tie.close}
 use Rattle.table.proofs.cells.move_long.Reads as move-long
 use Rattle.table.proofs.cells.move_long.Kinds as move-long-kinds
 use Rattle.table.proofs.cells.+move_long.Lts-move_long as move-long-lts
 use Rattle.table.proofs.cells.move_some.Reads as move-some-reads
-use Rattle.table.proofs.cells.+move_long.{statement}
-use Rattle.table.proofs.cells.+move_long.Tie.{close}
 
 abbrev μ-move-long : Measures 1 move-long-kinds.ps ℕ
 μ-move-long κs a = a .1 .1 .1 .0

@@ -1,11 +1,7 @@
 -- `table::cells::fill_row` meets its contract. Assumes nothing.
-use Prim.Native.Nat.{_-_, _≤_}
+use Rattle.types.proofs.Prelude.{_-_, _≤_, needs, length, replicate, _≡_, refl, arith}
 use Rattle.table.proofs.Puts.{copy-on, fill-again, fill-here}
 use Rattle.types.specs.Span.{over}
-use borrow.Author.Needs.{needs}
-use lib.ListN.{length, replicate}
-use mathlib.Core.Path.{_≡_, refl}
-use native.Mathlib.Omega.{arith}
 use Rattle.table.proofs.cells.fill_row.Statement.{statement}
 use Rattle.table.proofs.cells.fill_row.Tie as tie
 

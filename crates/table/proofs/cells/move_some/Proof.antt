@@ -1,8 +1,5 @@
 -- `table::cells::move_some` meets its contract. Assumes nothing.
-use Rattle.types.proofs.Moves.{long}
-use borrow.Author.Needs.{needs}
-use mathlib.Core.Path.{_∙_, sym}
-use native.Mathlib.Omega.{arith}
+use Rattle.types.proofs.{Prelude.needs, Prelude._∙_, Prelude.sym, Prelude.arith, Moves.long}
 use Rattle.table.proofs.cells.move_some.Statement.{statement}
 use Rattle.table.proofs.cells.move_some.Tie as tie
 

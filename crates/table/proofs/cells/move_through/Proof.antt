@@ -1,8 +1,5 @@
 -- `table::cells::move_through` meets its contract. Assumes nothing.
-use Rattle.types.proofs.Moves.{through}
-use borrow.Author.Needs.{needs}
-use lib.ListN.{length}
-use mathlib.Core.Path.{_∙_}
+use Rattle.types.proofs.{Prelude.needs, Prelude.length, Prelude._∙_, Moves.through}
 use Rattle.table.proofs.cells.move_through.Statement.{statement}
 use Rattle.table.proofs.cells.move_through.Tie as tie
 

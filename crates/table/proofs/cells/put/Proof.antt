@@ -1,11 +1,7 @@
 -- `table::cells::put` meets its contract. Assumes nothing.
-use Prim.Native.Nat.{_-_, _≤_}
+use Rattle.types.proofs.Prelude.{_-_, _≤_, needs, length, length-set, take, _≡_, refl, arith}
 use Rattle.types.proofs.Moves.{put-all, put-none, put-turn}
 use Rattle.types.specs.Span.{over}
-use borrow.Author.Needs.{needs}
-use lib.ListN.{length, length-set, take}
-use mathlib.Core.Path.{_≡_, refl}
-use native.Mathlib.Omega.{arith}
 use Rattle.table.proofs.cells.put.Statement.{statement}
 use Rattle.table.proofs.cells.put.Tie as tie
 

@@ -1,7 +1,5 @@
 -- `table::cells::put_some` meets its contract. Assumes nothing.
-use Rattle.types.proofs.Moves.{long}
-use borrow.Author.Needs.{needs}
-use mathlib.Core.Path.{sym}
+use Rattle.types.proofs.{Prelude.needs, Prelude.sym, Moves.long}
 use Rattle.table.proofs.cells.put_some.Statement.{statement}
 use Rattle.table.proofs.cells.put_some.Tie as tie
 

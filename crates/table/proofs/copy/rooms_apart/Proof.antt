@@ -1,8 +1,7 @@
 -- `table::copy::rooms_apart` meets its contract. Assumes nothing.
+use Rattle.types.proofs.Prelude.{cases, needs}
 use Rattle.table.specs.Copy.{roomsApart}
-use Rattle.types.proofs.Picks.{cases}
 use Rattle.types.specs.Span.{inside}
-use borrow.Author.Needs.{needs}
 use Rattle.table.proofs.copy.rooms_apart.Statement.{statement}
 use Rattle.table.proofs.copy.rooms_apart.Tie as tie
 

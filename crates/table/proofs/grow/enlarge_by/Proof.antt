@@ -1,8 +1,6 @@
 -- `table::grow::enlarge_by` meets its contract. Assumes nothing.
-use Rattle.types.proofs.Dones.{done-as}
+use Rattle.types.proofs.{Prelude.needs, Prelude.refl, Dones.done-as}
 use Rattle.table.specs.stages.Grow.{enlargedBy}
-use borrow.Author.Needs.{needs}
-use mathlib.Core.Path.{refl}
 use Rattle.table.proofs.grow.enlarge_by.Statement.{statement}
 use Rattle.table.proofs.grow.enlarge_by.Tie as tie
 

@@ -1,10 +1,7 @@
 -- `table::grow::grow_some` meets its contract. Assumes nothing.
-use Rattle.table.proofs.Exits.{exits}
-use Rattle.types.proofs.Dones.{done-as}
-use Rattle.table.proofs.Growths.{grows-past}
+use Rattle.types.proofs.{Prelude.needs, Prelude.refl, Dones.done-as}
+use Rattle.table.proofs.{Exits.exits, Growths.grows-past}
 use Rattle.table.specs.stages.Grow.{growSome}
-use borrow.Author.Needs.{needs}
-use mathlib.Core.Path.{refl}
 use Rattle.table.proofs.grow.grow_some.Statement.{statement}
 use Rattle.table.proofs.grow.grow_some.Tie as tie
 

@@ -1,6 +1,5 @@
 -- `table::init::init_bounds` meets its contract. Assumes nothing.
-use Rattle.table.proofs.Exits.{exits}
-use Rattle.table.proofs.Outcomes.{ends-within}
+use Rattle.table.proofs.{Exits.exits, Outcomes.ends-within}
 use Rattle.table.specs.stages.Spans.{initBounds}
 use borrow.Author.Needs.{needs}
 use Rattle.table.proofs.init.init_bounds.Statement.{statement}

@@ -1,8 +1,6 @@
 -- `table::new::by_type` meets its contract. Assumes nothing.
-use Rattle.types.proofs.Dones.{done-as}
+use Rattle.types.proofs.{Prelude.needs, Prelude.refl, Dones.done-as}
 use Rattle.table.specs.stages.New.{byType}
-use borrow.Author.Needs.{needs}
-use mathlib.Core.Path.{refl}
 use Rattle.table.proofs.new.by_type.Statement.{statement}
 use Rattle.table.proofs.new.by_type.Tie as tie
 

@@ -1,7 +1,5 @@
 -- `table::new::new_table` meets its contract. Assumes nothing.
-use Rattle.table.proofs.Exits.{exits}
-use Rattle.table.proofs.Sounds.{tested-buffer}
-use Rattle.table.proofs.Readings.{new-reads}
+use Rattle.table.proofs.{Exits.exits, Sounds.tested-buffer, Readings.new-reads}
 use borrow.Author.Needs.{needs}
 use Rattle.table.proofs.new.new_table.Statement.{statement}
 use Rattle.table.proofs.new.new_table.Tie as tie

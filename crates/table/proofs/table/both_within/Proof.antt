@@ -1,6 +1,5 @@
 -- `table::table::both_within` meets its contract. Assumes nothing.
-use Rattle.types.proofs.Picks.{cases}
-use borrow.Author.Needs.{needs}
+use Rattle.types.proofs.Prelude.{cases, needs}
 use Rattle.table.proofs.table.both_within.Statement.{statement}
 use Rattle.table.proofs.table.both_within.Tie as tie
 

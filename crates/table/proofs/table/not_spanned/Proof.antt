@@ -1,8 +1,6 @@
 -- `table::table::not_spanned` meets its contract. Assumes nothing.
-use mathlib.Core.Path.{ap}
-use borrow.Author.Needs.{needs}
-use Rattle.types.specs.Done.{spanOf}
-use Rattle.types.specs.declared.answer.Answer.{Answer}
+use Rattle.types.proofs.Prelude.{ap, needs}
+use Rattle.types.specs.{Done.spanOf, declared.answer.Answer.Answer}
 use Rattle.table.proofs.table.not_spanned.Statement.{statement}
 use Rattle.table.proofs.table.not_spanned.Tie as tie
 

@@ -1,7 +1,6 @@
 -- `table::table::sound_buffer` meets its contract. Assumes nothing.
+use Rattle.types.proofs.Prelude.{cases, needs}
 use Rattle.table.specs.Table.{soundBuffer}
-use Rattle.types.proofs.Picks.{cases}
-use borrow.Author.Needs.{needs}
 use Rattle.table.proofs.table.sound_buffer.Statement.{statement}
 use Rattle.table.proofs.table.sound_buffer.Tie as tie
 

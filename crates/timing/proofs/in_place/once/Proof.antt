@@ -1,9 +1,7 @@
 -- `timing::in_place::once` meets its contract. Assumes nothing.
-use mathlib.Core.Path.{sym, ap, _∙_}
-use Rattle.types.proofs.Picks.{pick-true, pick-false}
+use Rattle.types.proofs.Prelude.{sym, ap, _∙_, pick-true, pick-false, needs}
 use Rattle.machine.specs.Row.{InRow}
 use Rattle.timing.specs.InPlace.{rest, again}
-use borrow.Author.Needs.{needs}
 use Rattle.timing.proofs.in_place.once.Statement.{statement}
 use Rattle.timing.proofs.in_place.once.Tie as tie
 

@@ -1,10 +1,7 @@
 -- `timing::in_place::repeat` meets its contract. Assumes nothing.
-use mathlib.Core.Path.{_≡_, refl, ap, _∙_}
-use Prim.Native.Nat.{_-_}
-use lib.ListN.{length}
+use Rattle.types.proofs.Prelude.{_≡_, refl, ap, _∙_, _-_, length, needs}
 use Rattle.timing.specs.InPlace.{Rowing, rowing, again}
 use Rattle.timing.proofs.InPlaceLaws.{round, none}
-use borrow.Author.Needs.{needs}
 use Rattle.timing.proofs.in_place.repeat.Statement.{statement}
 use Rattle.timing.proofs.in_place.repeat.Tie as tie
 

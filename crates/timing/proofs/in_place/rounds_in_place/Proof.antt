@@ -1,10 +1,8 @@
 -- `timing::in_place::rounds_in_place` meets its contract. Assumes nothing.
-use mathlib.Core.Path.{sym, ap, _∙_}
-use denote.Ref.{now}
+use Rattle.types.proofs.Prelude.{sym, ap, _∙_, now, needs}
 use Rattle.types.specs.declared.fuel.Fuel.{Fuel}
 use Rattle.machine.specs.Row.{fuelOf}
 use Rattle.timing.specs.InPlace.{Rowing, rowing, timedIn}
-use borrow.Author.Needs.{needs}
 use Rattle.timing.proofs.in_place.rounds_in_place.Statement.{statement}
 use Rattle.timing.proofs.in_place.rounds_in_place.Tie as tie
 

@@ -1,7 +1,6 @@
 -- `timing::in_place::timed_by` meets its contract. Assumes nothing.
-use mathlib.Core.Path.{refl}
+use Rattle.types.proofs.Prelude.{refl, needs}
 use Rattle.timing.specs.InPlace.{timedIn}
-use borrow.Author.Needs.{needs}
 use Rattle.timing.proofs.in_place.timed_by.Statement.{statement}
 use Rattle.timing.proofs.in_place.timed_by.Tie as tie
 

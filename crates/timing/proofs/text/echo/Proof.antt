@@ -1,7 +1,6 @@
 -- `timing::text::echo` meets its contract. Assumes nothing.
-use mathlib.Core.Path.{refl}
+use Rattle.types.proofs.Prelude.{refl, needs}
 use Rattle.timing.specs.Text.{echoOf}
-use borrow.Author.Needs.{needs}
 use Rattle.timing.proofs.text.echo.Statement.{statement}
 use Rattle.timing.proofs.text.echo.Tie as tie
 

@@ -1,10 +1,8 @@
 -- `timing::text::rounds_line` meets its contract. Assumes nothing.
-use mathlib.Core.Path.{ap, _∙_}
-use mathlib.Core.Bool.{true}
+use Rattle.types.proofs.Prelude.{ap, _∙_, true, needs}
 use Rattle.types.specs.Fuel.{newFuel}
 use Rattle.timing.specs.Text.{echoOf}
 use Rattle.timing.proofs.Written.{answered-as}
-use borrow.Author.Needs.{needs}
 use Rattle.timing.proofs.text.rounds_line.Statement.{statement}
 use Rattle.timing.proofs.text.rounds_line.Tie as tie
 

@@ -1,18 +1,9 @@
 -- `timing::text::rounds_session` meets its contract. Assumes nothing.
-use mathlib.Core.Path.{sym, ap, _∙_}
-use denote.Ref.{now}
-use mathlib.Core.Bool.{true}
-use mathlib.Core.List.{List}
-use Prim.Native.Nat.{ℕ}
-use lib.ListN.{replicate}
-use Rattle.types.specs.Fuel.{defaultCosts}
-use Rattle.types.specs.declared.fuel.FuelCosts.{FuelCosts}
-use Rattle.machine.specs.Machine.{buffers}
-use Rattle.machine.specs.Row.{Rowed, freshRow}
-use Rattle.lines.specs.Progress.{Progressed, pieceIn}
-use Rattle.lines.specs.declared.session.Session.{Session}
+use Rattle.types.proofs.Prelude.{sym, ap, _∙_, now, true, List, ℕ, replicate, needs}
+use Rattle.types.specs.{Fuel.defaultCosts, declared.fuel.FuelCosts.FuelCosts}
+use Rattle.machine.specs.{Machine.buffers, Row.Rowed, Row.freshRow}
+use Rattle.lines.specs.{Progress.Progressed, Progress.pieceIn, declared.session.Session.Session}
 use Rattle.timing.specs.Text.{sessionOn}
-use borrow.Author.Needs.{needs}
 use Rattle.timing.proofs.text.rounds_session.Statement.{statement}
 use Rattle.timing.proofs.text.rounds_session.Tie as tie
 

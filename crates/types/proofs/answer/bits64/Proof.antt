@@ -1,8 +1,6 @@
 -- `super::answer::bits64` meets its contract. Assumes nothing.
-use Rattle.types.proofs.Floats.{no-nan, the-nan}
-use borrow.Author.Needs.{needs}
+use Rattle.types.proofs.{Prelude.needs, Prelude.ap, Prelude.sym, Floats.no-nan, Floats.the-nan}
 use lib.Ieee.{binary64, toBits}
-use mathlib.Core.Path.{ap, sym}
 use Rattle.types.proofs.answer.bits64.Statement.{statement}
 use Rattle.types.proofs.answer.bits64.Tie as tie
 

@@ -1,6 +1,5 @@
 -- `super::answer::is_nan32` meets its contract. Assumes nothing.
-use lib.Ieee.{binary32}
-use lib.Ieee.Bits.{nanBits-above}
+use lib.{Ieee.binary32, Ieee.Bits.nanBits-above}
 use mathlib.Core.Path.{sym}
 use Rattle.types.proofs.answer.is_nan32.Statement.{statement}
 use Rattle.types.proofs.answer.is_nan32.Tie as tie

@@ -1,6 +1,5 @@
 -- `super::answer::is_nan64` meets its contract. Assumes nothing.
-use lib.Ieee.{binary64}
-use lib.Ieee.Bits.{nanBits-above}
+use lib.{Ieee.binary64, Ieee.Bits.nanBits-above}
 use mathlib.Core.Path.{sym}
 use Rattle.types.proofs.answer.is_nan64.Statement.{statement}
 use Rattle.types.proofs.answer.is_nan64.Tie as tie

@@ -1,7 +1,6 @@
 -- `super::grant::creation_room` meets its contract. Assumes nothing.
-use Rattle.types.proofs.Picks.{cases}
+use Rattle.types.proofs.Prelude.{cases, needs}
 use Rattle.types.specs.stages.Grant.{creationRoom}
-use borrow.Author.Needs.{needs}
 use Rattle.types.proofs.grant.creation_room.Statement.{statement}
 use Rattle.types.proofs.grant.creation_room.Tie as tie
 

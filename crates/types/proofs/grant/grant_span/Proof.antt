@@ -1,7 +1,6 @@
 -- `super::grant::grant_span` meets its contract. Assumes nothing.
-use Rattle.types.proofs.Picks.{cases}
+use Rattle.types.proofs.Prelude.{cases, needs}
 use Rattle.types.specs.stages.Grant.{grantSpan}
-use borrow.Author.Needs.{needs}
 use Rattle.types.proofs.grant.grant_span.Statement.{statement}
 use Rattle.types.proofs.grant.grant_span.Tie as tie
 

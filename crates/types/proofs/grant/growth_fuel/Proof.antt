@@ -1,7 +1,6 @@
 -- `super::grant::growth_fuel` meets its contract. Assumes nothing.
-use Rattle.types.proofs.Picks.{cases}
+use Rattle.types.proofs.Prelude.{cases, needs}
 use Rattle.types.specs.stages.Grant.{growthFuel}
-use borrow.Author.Needs.{needs}
 use Rattle.types.proofs.grant.growth_fuel.Statement.{statement}
 use Rattle.types.proofs.grant.growth_fuel.Tie as tie
 

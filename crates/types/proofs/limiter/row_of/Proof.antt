@@ -1,11 +1,6 @@
 -- `super::limiter::row_of` meets its contract. Assumes nothing.
-use Prim.Native.Nat.{_-_, _≤_}
+use Rattle.types.proofs.Prelude.{_-_, _≤_, needs, drop, length, replicate, take, _++_, _≡_, refl, arith}
 use Rattle.types.proofs.Scripts.{row-all, row-more}
-use borrow.Author.Needs.{needs}
-use lib.ListN.{drop, length, replicate, take}
-use mathlib.Core.List.{_++_}
-use mathlib.Core.Path.{_≡_, refl}
-use native.Mathlib.Omega.{arith}
 use Rattle.types.proofs.limiter.row_of.Statement.{statement}
 use Rattle.types.proofs.limiter.row_of.Tie as tie
 

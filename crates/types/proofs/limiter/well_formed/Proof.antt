@@ -1,11 +1,7 @@
 -- `super::limiter::well_formed` meets its contract. Assumes nothing.
-use Prim.Native.Nat.{_-_, _≤_}
+use Rattle.types.proofs.Prelude.{_-_, _≤_, needs, drop, length, _≡_, refl, arith}
 use Rattle.types.proofs.Scripts.{answers-all, answers-bad, answers-more, too-long}
 use Rattle.types.specs.Limiter.{allAnswers}
-use borrow.Author.Needs.{needs}
-use lib.ListN.{drop, length}
-use mathlib.Core.Path.{_≡_, refl}
-use native.Mathlib.Omega.{arith}
 use Rattle.types.proofs.limiter.well_formed.Statement.{statement}
 use Rattle.types.proofs.limiter.well_formed.Tie as tie
 

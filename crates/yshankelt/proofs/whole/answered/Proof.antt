@@ -1,10 +1,8 @@
 -- `yshankelt::whole::answered` meets its contract. Assumes nothing.
-use mathlib.Core.Path.{ap}
-use denote.Ref.{now}
+use Rattle.types.proofs.Prelude.{ap, now, needs}
 use Rattle.types.specs.declared.answer.Answer.{Answer}
 use Rattle.machine.specs.Row.{inRow}
 use Rattle.yshankelt.specs.Whole.{answered}
-use borrow.Author.Needs.{needs}
 use Rattle.yshankelt.proofs.whole.answered.Statement.{statement}
 use Rattle.yshankelt.proofs.whole.answered.Tie as tie
 

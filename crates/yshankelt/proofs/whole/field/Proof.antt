@@ -1,8 +1,6 @@
 -- `yshankelt::whole::field` meets its contract. Assumes nothing.
-use denote.Ref.{now}
-use mathlib.Core.Path.{sym}
+use Rattle.types.proofs.Prelude.{now, sym, needs}
 use lib.ListN.{List·getD-eq-default}
-use borrow.Author.Needs.{needs}
 use Rattle.yshankelt.proofs.whole.field.Statement.{statement}
 use Rattle.yshankelt.proofs.whole.field.Tie as tie
 

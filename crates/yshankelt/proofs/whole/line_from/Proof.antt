@@ -1,12 +1,6 @@
 -- `yshankelt::whole::line_from` meets its contract. Assumes nothing.
-use mathlib.Core.Path.{sym, ap, _∙_}
-use Prim.Native.Nat.{ℕ}
-use mathlib.Core.List.{List}
-use lib.ListN.{length}
-use Rattle.types.proofs.Picks.{pick-true, pick-false}
-use borrow.Author.Tests.{lt-leb, le-leb}
+use Rattle.types.proofs.Prelude.{sym, ap, _∙_, ℕ, List, length, pick-true, pick-false, lt-leb, le-leb, needs}
 use Rattle.yshankelt.specs.Whole.{lineFrom, goodLine}
-use borrow.Author.Needs.{needs}
 use Rattle.yshankelt.proofs.whole.line_from.Statement.{statement}
 use Rattle.yshankelt.proofs.whole.line_from.Tie as tie
 

@@ -1,7 +1,6 @@
 -- `yshankelt::whole::padded` meets its contract. Assumes nothing.
-use denote.Ref.{now}
+use Rattle.types.proofs.Prelude.{now, needs}
 use Rattle.yshankelt.proofs.Tells.{eight-fields}
-use borrow.Author.Needs.{needs}
 use Rattle.yshankelt.proofs.whole.padded.Statement.{statement}
 use Rattle.yshankelt.proofs.whole.padded.Tie as tie
 

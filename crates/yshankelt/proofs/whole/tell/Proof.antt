@@ -1,7 +1,6 @@
 -- `yshankelt::whole::tell` meets its contract. Assumes nothing.
-use denote.Ref.{now}
+use Rattle.types.proofs.Prelude.{now, needs}
 use Rattle.yshankelt.proofs.Tells.{told-nothing, told-columns}
-use borrow.Author.Needs.{needs}
 use Rattle.yshankelt.proofs.whole.tell.Statement.{statement}
 use Rattle.yshankelt.proofs.whole.tell.Tie as tie
 

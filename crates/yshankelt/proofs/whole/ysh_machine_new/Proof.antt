@@ -1,8 +1,6 @@
 -- `yshankelt::whole::ysh_machine_new` meets its contract. Assumes nothing.
-use mathlib.Core.Path.{ap, _∙_}
-use denote.Ref.{now}
+use Rattle.types.proofs.Prelude.{ap, _∙_, now, needs}
 use Rattle.machine.specs.Row.{freshRow}
-use borrow.Author.Needs.{needs}
 use Rattle.yshankelt.proofs.whole.ysh_machine_new.Statement.{statement}
 use Rattle.yshankelt.proofs.whole.ysh_machine_new.Tie as tie
 

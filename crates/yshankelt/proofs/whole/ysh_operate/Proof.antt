@@ -1,8 +1,7 @@
 -- `yshankelt::whole::ysh_operate` meets its contract. Assumes nothing.
-use denote.Ref.{now}
+use Rattle.types.proofs.Prelude.{now, needs}
 use Rattle.machine.specs.Machine.{buffers}
 use Rattle.yshankelt.proofs.Tells.{told-from}
-use borrow.Author.Needs.{needs}
 use Rattle.yshankelt.proofs.whole.ysh_operate.Statement.{statement}
 use Rattle.yshankelt.proofs.whole.ysh_operate.Tie as tie
 

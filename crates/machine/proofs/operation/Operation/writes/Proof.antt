@@ -1,7 +1,6 @@
 -- `machine::operation::Operation::writes` meets its contract. Assumes nothing.
-use mathlib.Core.Path.{refl}
+use Rattle.types.proofs.Prelude.{refl, needs}
 use Rattle.machine.specs.stages.Rows.{writesOf}
-use borrow.Author.Needs.{needs}
 use Rattle.machine.proofs.operation.Operation.writes.Statement.{statement}
 use Rattle.machine.proofs.operation.Operation.writes.Tie as tie
 

@@ -1,11 +1,7 @@
 -- `machine::records::Machine::decide` meets its contract. Assumes nothing.
-use mathlib.Core.Path.{ap, _∙_}
-use denote.Ref.{now}
+use Rattle.types.proofs.Prelude.{ap, _∙_, now, needs}
 use Rattle.types.specs.Raw.{rawBytes}
-use Rattle.machine.specs.Machine.{buffers}
-use Rattle.machine.specs.Step.{decide}
-use Rattle.machine.specs.declared.records.Machine.{Machine}
-use borrow.Author.Needs.{needs}
+use Rattle.machine.specs.{Machine.buffers, Step.decide, declared.records.Machine.Machine}
 use Rattle.machine.proofs.records.Machine.decide.Statement.{statement}
 use Rattle.machine.proofs.records.Machine.decide.Tie as tie
 

@@ -1,8 +1,6 @@
 -- `machine::records::Machine::is_sound` meets its contract. Assumes nothing.
-use mathlib.Core.Path.{ap, _∙_}
-use Rattle.machine.specs.Sound.{soundMachine}
-use Rattle.machine.specs.declared.records.Machine.{Machine}
-use borrow.Author.Needs.{needs}
+use Rattle.types.proofs.Prelude.{ap, _∙_, needs}
+use Rattle.machine.specs.{Sound.soundMachine, declared.records.Machine.Machine}
 use Rattle.machine.proofs.records.Machine.is_sound.Statement.{statement}
 use Rattle.machine.proofs.records.Machine.is_sound.Tie as tie
 

@@ -1,9 +1,8 @@
 -- `machine::records::Machine::table_at` meets its contract. Assumes nothing.
+use Rattle.types.proofs.Prelude.{_≡_, sym, _∙_, length, needs}
 use Rattle.machine.proofs.Lists.{past}
-use mathlib.Core.Path.{_≡_, sym, _∙_}
-use lib.ListN.{length, length-map}
+use lib.ListN.{length-map}
 use Rattle.machine.specs.Machine.{noTable}
-use borrow.Author.Needs.{needs}
 use Rattle.machine.proofs.records.Machine.table_at.Statement.{statement}
 use Rattle.machine.proofs.records.Machine.table_at.Tie as tie
 

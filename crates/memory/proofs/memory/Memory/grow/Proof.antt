@@ -1,8 +1,6 @@
 -- `memory::memory::Memory::grow` meets its contract. Assumes nothing.
-use Rattle.types.proofs.Dones.{done-as}
+use Rattle.types.proofs.{Prelude.known-test, Prelude.needs, Dones.done-as}
 use Rattle.memory.proofs.Readings.{grow-goes, grow-stops}
-use Rattle.types.proofs.Picks.{known-test}
-use borrow.Author.Needs.{needs}
 use Rattle.memory.proofs.memory.Memory.grow.Statement.{statement}
 use Rattle.memory.proofs.memory.Memory.grow.Tie as tie
 

@@ -1,9 +1,7 @@
 -- `memory::memory::Memory::is_sound` meets its contract. Assumes nothing.
+use Rattle.types.proofs.Prelude.{cases, known-test, needs, not-true}
 use Rattle.memory.proofs.Sounds.{sound-untyped}
 use Rattle.memory.specs.Memory.{soundMemory}
-use Rattle.types.proofs.Picks.{cases, known-test}
-use borrow.Author.Needs.{needs}
-use borrow.Author.Tests.{not-true}
 use Rattle.memory.proofs.memory.Memory.is_sound.Statement.{statement}
 use Rattle.memory.proofs.memory.Memory.is_sound.Tie as tie
 

@@ -1,8 +1,6 @@
 -- `memory::memory::Memory::pages` meets its contract. Assumes nothing.
+use Rattle.types.proofs.{Prelude.needs, Prelude.arith, Sizes.page-pos}
 use Rattle.memory.specs.Memory.{pagesOf}
-use Rattle.types.proofs.Sizes.{page-pos}
-use borrow.Author.Needs.{needs}
-use native.Mathlib.Omega.{arith}
 use Rattle.memory.proofs.memory.Memory.pages.Statement.{statement}
 use Rattle.memory.proofs.memory.Memory.pages.Tie as tie
 

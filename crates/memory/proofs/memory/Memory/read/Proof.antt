@@ -1,9 +1,7 @@
 -- `memory::memory::Memory::read` meets its contract. Assumes nothing.
-use Rattle.memory.proofs.Sounds.{sound-used}
-use Rattle.memory.proofs.Stages.{stage}
+use Rattle.types.proofs.Prelude.{known-test, needs}
+use Rattle.memory.proofs.{Sounds.sound-used, Stages.stage}
 use Rattle.memory.specs.Host.{readMemory}
-use Rattle.types.proofs.Picks.{known-test}
-use borrow.Author.Needs.{needs}
 use Rattle.memory.proofs.memory.Memory.read.Statement.{statement}
 use Rattle.memory.proofs.memory.Memory.read.Tie as tie
 

@@ -1,10 +1,7 @@
 -- `memory::memory::Memory::read_used` meets its contract. Assumes nothing.
+use Rattle.types.proofs.{Prelude.known-test, Prelude.needs, Prelude.arith, Spans.within-is}
 use Rattle.memory.proofs.Stages.{stage}
 use Rattle.memory.specs.Host.{readUsed}
-use Rattle.types.proofs.Picks.{known-test}
-use Rattle.types.proofs.Spans.{within-is}
-use borrow.Author.Needs.{needs}
-use native.Mathlib.Omega.{arith}
 use Rattle.memory.proofs.memory.Memory.read_used.Statement.{statement}
 use Rattle.memory.proofs.memory.Memory.read_used.Tie as tie
 

@@ -1,9 +1,7 @@
 -- `memory::memory::Memory::write` meets its contract. Assumes nothing.
-use Rattle.memory.proofs.Sounds.{sound-used}
-use Rattle.memory.proofs.Stages.{stage}
+use Rattle.types.proofs.Prelude.{known-test, needs}
+use Rattle.memory.proofs.{Sounds.sound-used, Stages.stage}
 use Rattle.memory.specs.Host.{writeMemory}
-use Rattle.types.proofs.Picks.{known-test}
-use borrow.Author.Needs.{needs}
 use Rattle.memory.proofs.memory.Memory.write.Statement.{statement}
 use Rattle.memory.proofs.memory.Memory.write.Tie as tie
 

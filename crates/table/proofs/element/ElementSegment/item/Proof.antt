@@ -1,6 +1,5 @@
 -- `table::element::ElementSegment::item` meets its contract. Assumes nothing.
-use Rattle.table.proofs.Exits.{exits}
-use Rattle.table.proofs.Sounds.{item-within}
+use Rattle.table.proofs.{Exits.exits, Sounds.item-within}
 use Rattle.table.specs.Element.{itemOf}
 use borrow.Author.Needs.{needs}
 use Rattle.table.proofs.element.ElementSegment.item.Statement.{statement}

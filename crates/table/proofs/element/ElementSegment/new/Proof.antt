@@ -1,14 +1,8 @@
 -- `table::element::ElementSegment::new` meets its contract. Assumes nothing.
-use Rattle.table.proofs.Exits.{exits, left-not}
-use Rattle.types.proofs.Dones.{done-as}
-use Rattle.table.proofs.Puts.{cut-all}
-use Rattle.table.proofs.Sounds.{tested-buffer}
+use Rattle.types.proofs.{Prelude.needs, Prelude.not-false, Prelude.refl, Prelude._∙_, Prelude.ap, Prelude.arith, Dones.done-as}
+use Rattle.table.proofs.{Exits.exits, Exits.left-not, Puts.cut-all, Sounds.tested-buffer}
 use Rattle.table.specs.Element.{newSegment}
 use Rattle.types.specs.Span.{over}
-use borrow.Author.Needs.{needs}
-use borrow.Author.Tests.{not-false}
-use mathlib.Core.Path.{refl, _∙_, ap}
-use native.Mathlib.Omega.{arith}
 use Rattle.table.proofs.element.ElementSegment.new.Statement.{statement}
 use Rattle.table.proofs.element.ElementSegment.new.Tie as tie
 

@@ -1,7 +1,5 @@
 -- `table::table::Table::copy` meets its contract. Assumes nothing.
-use Rattle.table.proofs.Exits.{exits}
-use Rattle.table.proofs.Sounds.{tested-two}
-use Rattle.table.proofs.Readings.{copy-reads}
+use Rattle.table.proofs.{Exits.exits, Sounds.tested-two, Readings.copy-reads}
 use borrow.Author.Needs.{needs}
 use Rattle.table.proofs.table.Table.copy.Statement.{statement}
 use Rattle.table.proofs.table.Table.copy.Tie as tie

@@ -1,7 +1,5 @@
 -- `table::table::Table::copy_within` meets its contract. Assumes nothing.
-use Rattle.table.proofs.Exits.{exits}
-use Rattle.table.proofs.Sounds.{tested-within}
-use Rattle.table.proofs.Readings.{within-reads}
+use Rattle.table.proofs.{Exits.exits, Sounds.tested-within, Readings.within-reads}
 use borrow.Author.Needs.{needs}
 use Rattle.table.proofs.table.Table.copy_within.Statement.{statement}
 use Rattle.table.proofs.table.Table.copy_within.Tie as tie

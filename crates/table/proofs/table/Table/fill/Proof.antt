@@ -1,7 +1,5 @@
 -- `table::table::Table::fill` meets its contract. Assumes nothing.
-use Rattle.table.proofs.Exits.{exits}
-use Rattle.table.proofs.Sounds.{tested-within}
-use Rattle.table.proofs.Readings.{fill-reads}
+use Rattle.table.proofs.{Exits.exits, Sounds.tested-within, Readings.fill-reads}
 use borrow.Author.Needs.{needs}
 use Rattle.table.proofs.table.Table.fill.Statement.{statement}
 use Rattle.table.proofs.table.Table.fill.Tie as tie

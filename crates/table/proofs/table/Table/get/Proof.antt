@@ -1,6 +1,5 @@
 -- `table::table::Table::get` meets its contract. Assumes nothing.
-use Rattle.table.proofs.Exits.{exits}
-use Rattle.table.proofs.Sounds.{cell-within}
+use Rattle.table.proofs.{Exits.exits, Sounds.cell-within}
 use Rattle.table.specs.Table.{getTable}
 use borrow.Author.Needs.{needs}
 use Rattle.table.proofs.table.Table.get.Statement.{statement}

@@ -1,7 +1,5 @@
 -- `table::table::Table::grow` meets its contract. Assumes nothing.
-use Rattle.table.proofs.Exits.{exits}
-use Rattle.table.proofs.Sounds.{tested-room}
-use Rattle.table.proofs.Readings.{grow-reads}
+use Rattle.table.proofs.{Exits.exits, Sounds.tested-room, Readings.grow-reads}
 use borrow.Author.Needs.{needs}
 use Rattle.table.proofs.table.Table.grow.Statement.{statement}
 use Rattle.table.proofs.table.Table.grow.Tie as tie

@@ -1,7 +1,5 @@
 -- `table::table::Table::init` meets its contract. Assumes nothing.
-use Rattle.table.proofs.Exits.{exits}
-use Rattle.table.proofs.Sounds.{tested-pair}
-use Rattle.table.proofs.Readings.{init-reads}
+use Rattle.table.proofs.{Exits.exits, Sounds.tested-pair, Readings.init-reads}
 use borrow.Author.Needs.{needs}
 use Rattle.table.proofs.table.Table.init.Statement.{statement}
 use Rattle.table.proofs.table.Table.init.Tie as tie

@@ -1,6 +1,5 @@
 -- `table::table::Table::set` meets its contract. Assumes nothing.
-use Rattle.table.proofs.Exits.{exits}
-use Rattle.table.proofs.Sounds.{tested-within}
+use Rattle.table.proofs.{Exits.exits, Sounds.tested-within}
 use Rattle.table.specs.Table.{setTable}
 use borrow.Author.Needs.{needs}
 use Rattle.table.proofs.table.Table.set.Statement.{statement}

@@ -1,8 +1,6 @@
 -- `super::answer::Value::from_f64_bits` meets its contract. Assumes nothing.
-use Rattle.types.proofs.Floats.{fails}
-use Rattle.types.proofs.Picks.{cases, known-test}
+use Rattle.types.proofs.{Prelude.cases, Prelude.known-test, Prelude.needs, Floats.fails}
 use Rattle.types.specs.Answer.{float64}
-use borrow.Author.Needs.{needs}
 use Rattle.types.proofs.answer.Value.from_f64_bits.Statement.{statement}
 use Rattle.types.proofs.answer.Value.from_f64_bits.Tie as tie
 

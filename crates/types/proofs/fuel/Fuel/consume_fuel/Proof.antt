@@ -1,7 +1,6 @@
 -- `super::fuel::Fuel::consume_fuel` meets its contract. Assumes nothing.
-use Rattle.types.proofs.Picks.{cases}
+use Rattle.types.proofs.Prelude.{cases, needs}
 use Rattle.types.specs.Fuel.{consume}
-use borrow.Author.Needs.{needs}
 use Rattle.types.proofs.fuel.Fuel.consume_fuel.Statement.{statement}
 use Rattle.types.proofs.fuel.Fuel.consume_fuel.Tie as tie
 

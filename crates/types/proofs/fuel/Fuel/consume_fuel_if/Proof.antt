@@ -1,7 +1,6 @@
 -- `super::fuel::Fuel::consume_fuel_if` meets its contract. Assumes nothing.
-use Rattle.types.proofs.Picks.{cases}
+use Rattle.types.proofs.Prelude.{cases, needs}
 use Rattle.types.specs.Fuel.{consumeIf}
-use borrow.Author.Needs.{needs}
 use Rattle.types.proofs.fuel.Fuel.consume_fuel_if.Statement.{statement}
 use Rattle.types.proofs.fuel.Fuel.consume_fuel_if.Tie as tie
 

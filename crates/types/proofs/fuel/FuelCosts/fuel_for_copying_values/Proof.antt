@@ -1,7 +1,5 @@
 -- `super::fuel::FuelCosts::fuel_for_copying_values` meets its contract. Assumes nothing.
-use Prim.Native.Nat.{_*_}
-use Rattle.types.proofs.Prices.{price-capped}
-use borrow.Author.Needs.{needs}
+use Rattle.types.proofs.{Prelude._*_, Prelude.needs, Prices.price-capped}
 use Rattle.types.proofs.fuel.FuelCosts.fuel_for_copying_values.Statement.{statement}
 use Rattle.types.proofs.fuel.FuelCosts.fuel_for_copying_values.Tie as tie
 

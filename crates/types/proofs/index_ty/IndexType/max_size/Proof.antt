@@ -1,7 +1,6 @@
 -- `types::index_ty::IndexType::max_size` meets its contract. Assumes nothing.
+use Rattle.types.proofs.Prelude.{needs, refl}
 use Rattle.types.specs.Wide.{halves}
-use borrow.Author.Needs.{needs}
-use mathlib.Core.Path.{refl}
 use Rattle.types.proofs.index_ty.IndexType.max_size.Statement.{statement}
 use Rattle.types.proofs.index_ty.IndexType.max_size.Tie as tie
 

@@ -1,8 +1,6 @@
 -- `super::limiter::Limiter::hand_over` meets its contract. Assumes nothing.
-use Rattle.types.proofs.Picks.{cases, known-test}
-use Rattle.types.proofs.Scripts.{well-short}
+use Rattle.types.proofs.{Prelude.cases, Prelude.known-test, Prelude.needs, Scripts.well-short}
 use Rattle.types.specs.Limiter.{handOver}
-use borrow.Author.Needs.{needs}
 use Rattle.types.proofs.limiter.Limiter.hand_over.Statement.{statement}
 use Rattle.types.proofs.limiter.Limiter.hand_over.Tie as tie
 

@@ -1,7 +1,6 @@
 -- `super::limiter::Limiter::moved` meets its contract. Assumes nothing.
-use Rattle.types.proofs.Picks.{cases}
+use Rattle.types.proofs.Prelude.{cases, needs}
 use Rattle.types.specs.Limiter.{moved}
-use borrow.Author.Needs.{needs}
 use Rattle.types.proofs.limiter.Limiter.moved.Statement.{statement}
 use Rattle.types.proofs.limiter.Limiter.moved.Tie as tie
 

@@ -1,7 +1,6 @@
 -- `types::limits::Limits::valid_within` meets its contract. Assumes nothing.
-use Rattle.types.proofs.Picks.{cases}
+use Rattle.types.proofs.Prelude.{cases, needs}
 use Rattle.types.specs.Limits.{validLimits}
-use borrow.Author.Needs.{needs}
 use Rattle.types.proofs.limits.Limits.valid_within.Statement.{statement}
 use Rattle.types.proofs.limits.Limits.valid_within.Tie as tie
 

@@ -1,10 +1,6 @@
 -- `types::memory_ty::MemoryType::absolute_max` meets its contract. Assumes nothing.
-use Rattle.types.proofs.Halves.{whole-halves}
-use Rattle.types.proofs.Sizes.{log2-few}
-use Rattle.types.specs.IndexType.{maxSize}
-use Rattle.types.specs.MemoryType.{pageBound}
-use borrow.Author.Needs.{needs}
-use native.Mathlib.Omega.{arith}
+use Rattle.types.proofs.{Prelude.needs, Prelude.arith, Halves.whole-halves, Sizes.log2-few}
+use Rattle.types.specs.{IndexType.maxSize, MemoryType.pageBound}
 use Rattle.types.proofs.memory_ty.MemoryType.absolute_max.Statement.{statement}
 use Rattle.types.proofs.memory_ty.MemoryType.absolute_max.Tie as tie
 

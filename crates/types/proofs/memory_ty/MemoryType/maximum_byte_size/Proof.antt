@@ -1,8 +1,6 @@
 -- `types::memory_ty::MemoryType::maximum_byte_size` meets its contract. Assumes nothing.
-use Rattle.types.proofs.Picks.{cases}
-use Rattle.types.proofs.Sizes.{unlimited-32, unlimited-64}
+use Rattle.types.proofs.{Prelude.cases, Prelude.needs, Sizes.unlimited-32, Sizes.unlimited-64}
 use Rattle.types.specs.MemoryType.{maximumBytes}
-use borrow.Author.Needs.{needs}
 use Rattle.types.proofs.memory_ty.MemoryType.maximum_byte_size.Statement.{statement}
 use Rattle.types.proofs.memory_ty.MemoryType.maximum_byte_size.Tie as tie
 

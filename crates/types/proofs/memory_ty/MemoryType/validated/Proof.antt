@@ -1,6 +1,5 @@
 -- `types::memory_ty::MemoryType::validated` meets its contract. Assumes nothing.
-use Rattle.types.proofs.Picks.{cases}
-use borrow.Author.Needs.{needs}
+use Rattle.types.proofs.Prelude.{cases, needs}
 use Rattle.types.specs.MemoryType.{validated}
 use Rattle.types.proofs.memory_ty.MemoryType.validated.Statement.{statement}
 use Rattle.types.proofs.memory_ty.MemoryType.validated.Tie as tie

@@ -1,7 +1,5 @@
 -- `types::memory_ty::PageSize::byte_size` meets its contract. Assumes nothing.
-use Rattle.types.proofs.Sizes.{page-pos, pages-are, pages-fit, pages-over}
-use borrow.Author.Needs.{needs}
-use native.Mathlib.Omega.{arith}
+use Rattle.types.proofs.{Prelude.needs, Prelude.arith, Sizes.page-pos, Sizes.pages-are, Sizes.pages-fit, Sizes.pages-over}
 use Rattle.types.proofs.memory_ty.PageSize.byte_size.Statement.{statement}
 use Rattle.types.proofs.memory_ty.PageSize.byte_size.Tie as tie
 

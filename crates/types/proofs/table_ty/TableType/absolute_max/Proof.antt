@@ -1,8 +1,6 @@
 -- `types::table_ty::TableType::absolute_max` meets its contract. Assumes nothing.
-use Rattle.types.specs.TableType.{tableBound}
-use Rattle.types.specs.Wide.{halves}
-use borrow.Author.Needs.{needs}
-use mathlib.Core.Path.{refl}
+use Rattle.types.proofs.Prelude.{needs, refl}
+use Rattle.types.specs.{TableType.tableBound, Wide.halves}
 use Rattle.types.proofs.table_ty.TableType.absolute_max.Statement.{statement}
 use Rattle.types.proofs.table_ty.TableType.absolute_max.Tie as tie
 

@@ -1,7 +1,6 @@
 -- `types::table_ty::TableType::is_subtype_of` meets its contract. Assumes nothing.
-use Rattle.types.proofs.Picks.{cases}
+use Rattle.types.proofs.Prelude.{cases, needs}
 use Rattle.types.specs.TableType.{matchTable}
-use borrow.Author.Needs.{needs}
 use Rattle.types.proofs.table_ty.TableType.is_subtype_of.Statement.{statement}
 use Rattle.types.proofs.table_ty.TableType.is_subtype_of.Tie as tie
 

@@ -1,6 +1,5 @@
 -- `types::table_ty::TableType::validated` meets its contract. Assumes nothing.
-use Rattle.types.proofs.Picks.{cases}
-use borrow.Author.Needs.{needs}
+use Rattle.types.proofs.Prelude.{cases, needs}
 use Rattle.types.specs.TableType.{validated}
 use Rattle.types.proofs.table_ty.TableType.validated.Statement.{statement}
 use Rattle.types.proofs.table_ty.TableType.validated.Tie as tie

@@ -1,9 +1,6 @@
 -- `types::wide::Wide::covers` meets its contract. Assumes nothing.
-use Prim.Native.Nat.{_≤_}
-use Rattle.types.proofs.Halves.{whole-low}
-use Rattle.types.proofs.Picks.{cases}
+use Rattle.types.proofs.{Prelude._≤_, Prelude.cases, Prelude.arith, Halves.whole-low}
 use Rattle.types.specs.Wide.{whole}
-use native.Mathlib.Omega.{arith}
 use Rattle.types.proofs.wide.Wide.covers.Statement.{statement}
 use Rattle.types.proofs.wide.Wide.covers.Tie as tie
 
