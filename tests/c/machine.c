@@ -360,6 +360,7 @@ static void odd_rows(void)
     expect(cells_of(&h, W + 1, 0, &v) == 0 && v == 2, "cells", v, 0, 0);
     /* a number is unknown before its record is looked at */
     h = made;
+    v = MARK;
     h.words[8] = h.words[72] = 2;
     expect(pages_of(&h, W, 1, &v) == 16 && v == MARK, "unknown before its record", v, 0, 0);
     expect(cells_of(&h, W, 1, &v) == 16 && v == MARK, "unknown before its record", v, 0, 0);

@@ -153,8 +153,8 @@ ysh-operate-one κs a x x′ s s′ z p q = (ap (λ (o : Call). o .number) (p �
     lent : Call → ℕ × ℕ × List ℕ × Buffers
     lent o = (o .value, o .fuel, o .words, o .buffers)
 
-pub ysh-memory-pages-one : OneWith 2 ysh-memory-pages-kinds.ps ysh-memory-pages-kinds.r ysh-memory-pages-reads.Pre ysh-memory-pages-reads.Post (ℕ) (λ κs s. now (s .1 .1 .0))
+pub ysh-memory-pages-one : OneWith 2 ysh-memory-pages-kinds.ps ysh-memory-pages-kinds.r ysh-memory-pages-reads.Pre ysh-memory-pages-reads.Post (ℕ) (λ κs s. now (s .1 .1 .1 .1 .1 .0))
 ysh-memory-pages-one κs a x x′ s s′ z p q = (p .number ∙ sym (q .number), p .out ∙ sym (q .out))
 
-pub ysh-table-cells-one : OneWith 2 ysh-table-cells-kinds.ps ysh-table-cells-kinds.r ysh-table-cells-reads.Pre ysh-table-cells-reads.Post (ℕ) (λ κs s. now (s .1 .1 .0))
+pub ysh-table-cells-one : OneWith 2 ysh-table-cells-kinds.ps ysh-table-cells-kinds.r ysh-table-cells-reads.Pre ysh-table-cells-reads.Post (ℕ) (λ κs s. now (s .1 .1 .1 .1 .1 .0))
 ysh-table-cells-one κs a x x′ s s′ z p q = (p .number ∙ sym (q .number), p .out ∙ sym (q .out))
