@@ -47,9 +47,13 @@ took b k x admits a said =
     let p = price b (x .bytes) in
     pick (x .meets) (pick (ltb 0 (x .more)) (growthCharge k a said admits p) (pick (accepted a) p 0)) 0
 
--- the book after that
-abbrev pub takes : ℕ → ℕ → Book → Operation → Bool → Answer → List ℕ → Book
-takes r b k op admits a said = charged k (took b k (meteringOf r (λ i. getD (k .pages) i 0) op) admits a said)
+-- an operation's metering, by the pages that the book has
+abbrev pub metersBy : ℕ → Book → Operation → Metering
+metersBy r k op = meteringOf r (λ i. getD (k .pages) i 0) op
+
+-- the book after what it took
+abbrev pub takes : ℕ → Book → Metering → Bool → Answer → List ℕ → Book
+takes b k x admits a said = charged k (took b k x admits a said)
 
 -- an accepted 01 or 03
 unfoldable pub fuelEntry : Book → FuelOp → Book
@@ -67,15 +71,15 @@ unfoldable pub entry : ℕ → ℕ → Book → Operation → Answer → List �
 entry r b k (Operation.Fuel o) a said = pick (accepted a) (fuelEntry k o) k
 entry r b k (Operation.NewMemory room wanted) a said =
     pick (accepted a) (record { set = k .set; since = k .since; pages = k .pages ++ (2 ^ (wanted .exponent) ∷ []); tables = k .tables }) k
-entry r b k (Operation.Memory number o) a said = takes r b k (Operation.Memory number o) true a said
+entry r b k (Operation.Memory number o) a said = takes b k (metersBy r k (Operation.Memory number o)) true a said
 entry r b k (Operation.NewTable room wanted initial) a said =
     pick (accepted a) (withTables k (k .tables ++ (record { limits = wanted .limits; size = wanted .limits .minimum } ∷ []))) k
 entry r b k (Operation.Table number o) a said =
     let n = tableMetering r o .more in
-    let now = takes r b k (Operation.Table number o) (admitsOf (rowAt k number .limits) (rowAt k number .size + n)) a said in
+    let now = takes b k (metersBy r k (Operation.Table number o)) (admitsOf (rowAt k number .limits) (rowAt k number .size + n)) a said in
     pick (accepted a) (grown k now number n) now
-entry r b k (Operation.TableCopy into source span) a said = takes r b k (Operation.TableCopy into source span) true a said
-entry r b k (Operation.TableInit table segment span) a said = takes r b k (Operation.TableInit table segment span) true a said
+entry r b k (Operation.TableCopy into source span) a said = takes b k (metersBy r k (Operation.TableCopy into source span)) true a said
+entry r b k (Operation.TableInit table segment span) a said = takes b k (metersBy r k (Operation.TableInit table segment span)) true a said
 entry r b k (Operation.DropSegment segment) a said = k
 entry r b k (Operation.NewSegment element items) a said = k
 
