@@ -2,6 +2,7 @@
 use Rattle.types.specs.Prelude.{ℕ, Bool, true, false, List, [], _∷_, eqb, leb}
 use Rattle.types.specs.Names.{pick, both, numberOf, Refusal, Answer}
 
+-- an answer that is a value
 unfoldable pub accepted : Answer → Bool
 accepted (Answer.Value v) = true
 accepted (Answer.Refusal r) = false

@@ -17,9 +17,11 @@ unfoldable pub builtNumber : BuiltMemory → ℕ
 builtNumber (BuiltMemory.Built t) = 0
 builtNumber (BuiltMemory.Refused r) = r .number
 
+-- limits with a minimum alone
 abbrev pub atLeast : ℕ → Limits
 atLeast n = record { minimum = n; bounded = false; maximum = 0 }
 
+-- limits with a maximum alone
 abbrev pub upTo : ℕ → Limits
 upTo n = record { minimum = 0; bounded = true; maximum = n }
 
@@ -33,6 +35,7 @@ unfoldable pub answeredAt : ℕ → ℕ → List Operation → List ℕ
 answeredAt r b ops =
     shown (run r (freshMachine true (costsOf b)) (buffers (replicate 8 0) (replicate 16 0) (replicate 4 0)) ops .answers)
 
+-- two rows are the same, number for number
 unfoldable pub same : List ℕ → List ℕ → Bool
 same [] [] = true
 same [] (y ∷ ys) = false

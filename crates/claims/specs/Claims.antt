@@ -1,10 +1,10 @@
 -- What the project promises, over any machine, any buffers and any operations, down to the bytes of a session. `claims` in proofs/Claims.antt is its one value.
-use Rattle.types.specs.Prelude.{ℕ, suc, _+_, _^_, _≤_, _<_, _≡_, Bool, true, false, List, [], length}
+use Rattle.types.specs.Prelude.{ℕ, suc, _+_, _≤_, _<_, _≡_, Bool, true, false, List, [], length}
 use contract.Lifetimes.{Lfts}
 use borrow.Fn.Kinds.{Dens, resT, endedOf}
 use denote.Triple.Clauses.{AtExit}
 use denote.Ref.{now}
-use Rattle.types.specs.Names.{over, rawBytes, FuelCosts}
+use Rattle.types.specs.Names.{word64, over, rawBytes, FuelCosts}
 use Rattle.machine.specs.Names.{Buffers, buffers, freshMachine, soundReferences, soundOver, stepped, step, run, OthersStay, OnlySizes}
 use Rattle.machine.specs.Names.{Machine, Operation, MemoryOp, TableOp}
 use Rattle.machine.specs.{Words.wordsOf, Words.machineFrom, Words.inForm, Row.inRow, Row.operateRow, Row.rowPages, Row.rowCells}
@@ -42,7 +42,7 @@ pub record Claims : Type 0 where
       → totals r (freshMachine true costs) b ops .bytes
       ≤ mostBytes (costs .copied) (totals r (freshMachine true costs) b ops .units) (totals r (freshMachine true costs) b ops .passed)
   -- No smaller number would do: for each B, F and K a run writes so many bytes, as far as a memory can hold them.
-  pub bound-reached : (r b f k : ℕ) → 1 ≤ b → 1 ≤ k → mostBytes b f k < 2 ^ 64
+  pub bound-reached : (r b f k : ℕ) → 1 ≤ b → 1 ≤ k → mostBytes b f k < word64
       → totals r (freshMachine true (costsOf b)) (zeros (mostBytes b f k)) (fullestRun b f k)
       ≡ record { bytes = mostBytes b f k; units = f; passed = k }
   -- What is counted is what is written: an accepted operation writes one span of one buffer, inside it, and every other cell is as it was;

@@ -20,10 +20,11 @@ pub record Book : Type 0 where
 abbrev pub blank : Book
 blank = record { set = 0; since = 0; pages = []; tables = [] }
 
--- with more charges, or with other tables
+-- with more charges
 abbrev pub charged : Book → ℕ → Book
 charged k n = record { set = k .set; since = k .since + n; pages = k .pages; tables = k .tables }
 
+-- with other tables
 abbrev pub withTables : Book → List Row → Book
 withTables k rows = record { set = k .set; since = k .since; pages = k .pages; tables = rows }
 

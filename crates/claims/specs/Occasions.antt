@@ -1,10 +1,10 @@
 -- Document 01, "First check wins", "Access" and "Types", read from the other side: when each operation is accepted.
-use Rattle.types.specs.Prelude.{ℕ, _+_, _-_, _^_, Bool, true, false, eqb, leb, ltb, length}
-use Rattle.types.specs.Names.{pick, both, inside, saysOf, wellFormed as wellFormedScript, maxSize, admitsOf, validExponent, validMemory}
+use Rattle.types.specs.Prelude.{ℕ, _+_, _-_, Bool, true, false, eqb, leb, ltb, length}
+use Rattle.types.specs.Names.{word64, pick, both, inside, saysOf, wellFormed as wellFormedScript, maxSize, admitsOf, validExponent, validMemory}
 use Rattle.types.specs.Names.{validTable, elementMatches, WantedMemory, CopySpan}
 use Rattle.memory.specs.Names.{widthBytes, loadWidth, storeWidth, pagesOf, wanted as typeOf, leastBytes as leastOf, mayHave, grownSize, Memory}
 use Rattle.table.specs.Names.{wanted as tableTypeOf, Table}
-use Rattle.machine.specs.Names.{Buffers, memoryAt, tableAt, segmentAt, nextByte, nextCell, nextItem, soundOver, scriptOf, itemsOf, wellFormed}
+use Rattle.machine.specs.Names.{capacity, Buffers, memoryAt, tableAt, segmentAt, nextByte, nextCell, nextItem, soundOver, scriptOf, itemsOf, wellFormed}
 use Rattle.machine.specs.Names.{Machine, Operation, FuelOp, MemoryOp, TableOp}
 use Rattle.claims.specs.Metered.{priceOf, affords, grants}
 
@@ -38,7 +38,7 @@ validWanted w = both (validExponent (w .exponent)) (validMemory (typeOf w))
 
 -- n bytes at pointer plus offset lie in a memory
 unfoldable pub reaches : Memory → ℕ → ℕ → ℕ → Bool
-reaches x pointer offset n = both (ltb (pointer + offset) (2 ^ 64)) (inside (pointer + offset) n (x .size))
+reaches x pointer offset n = both (ltb (pointer + offset) word64) (inside (pointer + offset) n (x .size))
 
 -- 01 to 04: metering is on, and a charge is there; a script is well formed
 unfoldable pub fuelOccasion : Machine → FuelOp → Bool
@@ -79,12 +79,12 @@ unfoldable pub checksOf : Machine → Buffers → Bool → Operation → Checks
 checksOf m b pays (Operation.Fuel o) = Unasked (fuelOccasion m o)
 checksOf m b pays (Operation.NewMemory room wanted) =
     Asked
-    (both (both (ltb (m .counts .memories) 8) (leb room (length (b .bytes) - nextByte m))) (both (validWanted wanted) (ltb (leastOf wanted) (2 ^ 64))))
+    (both (both (ltb (m .counts .memories) capacity) (leb room (length (b .bytes) - nextByte m))) (both (validWanted wanted) (ltb (leastOf wanted) word64)))
     (leb (leastOf wanted) room)
 checksOf m b pays (Operation.Memory number o) = given (ltb number (m .counts .memories)) (memoryChecks (memoryAt m number) pays o)
 checksOf m b pays (Operation.NewTable room wanted initial) =
     Asked
-    (both (both (ltb (m .counts .tables) 8) (leb room (length (b .cells) - nextCell m)))
+    (both (both (ltb (m .counts .tables) capacity) (leb room (length (b .cells) - nextCell m)))
     (both (validTable (tableTypeOf wanted)) (elementMatches (tableTypeOf wanted) (initial .ty))))
     (leb (wanted .limits .minimum) room)
 checksOf m b pays (Operation.Table number o) = given (ltb number (m .counts .tables)) (tableChecks (tableAt m number) pays o)
@@ -101,7 +101,7 @@ checksOf m b pays (Operation.TableInit table segment span) =
     (pick (eqb (span .len) 0) true pays))
 checksOf m b pays (Operation.DropSegment segment) = Unasked (ltb segment (m .counts .segments))
 checksOf m b pays (Operation.NewSegment element items) =
-    Unasked (both (ltb (m .counts .segments) 8) (leb (length (itemsOf items)) (length (b .items) - nextItem m)))
+    Unasked (both (ltb (m .counts .segments) capacity) (leb (length (itemsOf items)) (length (b .items) - nextItem m)))
 
 -- where the price is there if what is left pays it
 abbrev pub checks : ℕ → Machine → Buffers → Operation → Checks

@@ -3,7 +3,7 @@ use Rattle.types.specs.Prelude.{ℕ, Bool, List, _≡_, _++_, leb, length, take
 use Rattle.types.specs.Names.{unless, both, refuse, Answer, Fuel}
 use Rattle.memory.specs.Names.{Memory}
 use Rattle.table.specs.Names.{Table, ElementSegment}
-use Rattle.machine.specs.Names.{Buffers, buffers, wellFormed, step, Machine, Operation}
+use Rattle.machine.specs.Names.{capacity, Buffers, buffers, wellFormed, step, Machine, Operation}
 use Rattle.lent.specs.declared.operate.Standing.{Standing}
 
 -- what is lent beside the buffers: three lists of records, the numbers in use with the limiter, and the fuel record
@@ -26,11 +26,11 @@ gathered ms ts gs s f =
 -- the machine of the first 8 places of each list
 abbrev pub machineOf : Lent → Machine
 machineOf l =
-    gathered (take 8 (l .memories)) (take 8 (l .tables)) (take 8 (l .segments)) (l .standing) (l .fuel)
+    gathered (take capacity (l .memories)) (take capacity (l .tables)) (take capacity (l .segments)) (l .standing) (l .fuel)
 
 -- each list has 8 places at least
 unfoldable pub longEnough : ℕ → ℕ → ℕ → Bool
-longEnough memories tables segments = both (leb 8 memories) (both (leb 8 tables) (leb 8 segments))
+longEnough memories tables segments = both (leb capacity memories) (both (leb capacity tables) (leb capacity segments))
 
 -- the lent lists have their places
 abbrev pub placed : Lent → Bool
@@ -38,7 +38,7 @@ placed l = longEnough (length (l .memories)) (length (l .tables)) (length (l .se
 
 -- records in the first 8 places, all further places as before
 abbrev pub inFront : {A : Type 0} → List A → List A → List A
-inFront records list = records ++ drop 8 list
+inFront records list = records ++ drop capacity list
 
 -- what is lent, with the machine's records in the first 8 places
 abbrev pub lentBack : Machine → Lent → Lent

@@ -1,6 +1,7 @@
 // Growth of one memory of a lent list: its record is read, grown, and its new size stored where it stands.
 use super::regrown;
 use super::regrown::Regrown;
+use machine::records::CAPACITY;
 use machine::records::Counts;
 use machine::records::Machine;
 use memory::memory::Memory;
@@ -14,12 +15,13 @@ ghost use lib.Dec.{ltb};
 ghost use lib.ListN.{length};
 ghost use Rattle.types.specs.Done.{done};
 ghost use Rattle.memory.specs.Grow.{growMemory};
+ghost use Rattle.machine.specs.Machine.{capacity};
 ghost use Rattle.lent.specs.Growth.{lending};
 ghost use Rattle.lent.specs.Memories.{GrowsMemory};
 ghost use Rattle.lent.specs.stages.Growth.{memoriesAlone, kept, regrown, memoryBack, memoryRegrown};
 
 // The machine that has these memories alone, whose soundness is the list's.
-fn alone(memories: [Memory; 8], count: usize, fuel: Fuel, limiter: Limiter) -> Machine
+fn alone(memories: [Memory; CAPACITY], count: usize, fuel: Fuel, limiter: Limiter) -> Machine
     ensures { λ r. ⌜ r ≡ memoriesAlone count memories fuel limiter ⌝ }
 {
     let costs = fuel.costs;
@@ -90,7 +92,7 @@ fn grow_checked(
 
 // The growth of a memory among records by value: what is written back.
 fn regrow(
-    memories: [Memory; 8],
+    memories: [Memory; CAPACITY],
     count: usize,
     i: usize,
     bytes: &mut [u8],
@@ -127,7 +129,7 @@ fn grow_here(
     fuel: &mut Fuel,
     limiter: &mut Limiter,
 ) -> Answer
-    requires { ⌜ 8 ≤ length (now memories) ⌝ }
+    requires { ⌜ capacity ≤ length (now memories) ⌝ }
     ensures { λ r. ⌜ GrowsMemory count i pages (lending (now (memories .entry)) (now (bytes .entry)) (now (fuel .entry)) (now (limiter .entry)))
         r (now (memories .exit)) (now (bytes .exit)) (now (fuel .exit)) (now (limiter .exit)) ⌝ }
 {
@@ -161,7 +163,7 @@ pub fn grow(
     ensures { λ r. ⌜ GrowsMemory count i pages (lending (now (memories .entry)) (now (bytes .entry)) (now (fuel .entry)) (now (limiter .entry)))
         r (now (memories .exit)) (now (bytes .exit)) (now (fuel .exit)) (now (limiter .exit)) ⌝ }
 {
-    if memories.len() < 8 {
+    if memories.len() < CAPACITY {
         return Answer::Refusal(Refusal {
             number: 19,
             amount: 0,

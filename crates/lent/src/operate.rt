@@ -2,6 +2,7 @@
 use machine::operation::Operation;
 use machine::outcome::Change;
 use machine::outcome::Outcome;
+use machine::records::CAPACITY;
 use machine::records::Counts;
 use machine::records::Machine;
 use memory::memory::Memory;
@@ -16,7 +17,7 @@ ghost use mathlib.Core.Path.{_≡_};
 ghost use Prim.Native.Nat.{_≤_};
 ghost use lib.ListN.{length, set};
 ghost use Rattle.types.specs.Raw.{rawBytes};
-ghost use Rattle.machine.specs.Machine.{buffers, noMemory, noTable, noSegment};
+ghost use Rattle.machine.specs.Machine.{capacity, buffers, noMemory, noTable, noSegment};
 ghost use Rattle.machine.specs.Step.{stepped, step};
 ghost use Rattle.lent.specs.Records.{lent, gathered, longEnough, unfit, Operates};
 ghost use Rattle.lent.specs.stages.Places.{verdict, firstPlaces, putMemory, putTable, putSegment, put, placedOf, placing, place, eight};
@@ -54,9 +55,9 @@ pub struct Verdict {
 
 // The records after an operation, by value, and its answer.
 pub struct Kept {
-    pub memories: [Memory; 8],
-    pub tables: [Table; 8],
-    pub segments: [ElementSegment; 8],
+    pub memories: [Memory; CAPACITY],
+    pub tables: [Table; CAPACITY],
+    pub segments: [ElementSegment; CAPACITY],
     pub standing: Standing,
     pub fuel: Fuel,
     pub answer: Answer,
@@ -66,13 +67,13 @@ pub struct Kept {
 fn long_enough(memories: usize, tables: usize, segments: usize) -> bool
     ensures { λ r. ⌜ r ≡ longEnough memories tables segments ⌝ }
 {
-    if memories < 8 {
+    if memories < CAPACITY {
         return false;
     }
-    if tables < 8 {
+    if tables < CAPACITY {
         return false;
     }
-    8 <= segments
+    CAPACITY <= segments
 }
 
 // The answer where a list has not.
@@ -135,7 +136,7 @@ fn first_places(machine: Machine, outcome: Outcome) -> Placed
 fn put_memory(placed: Placed, i: usize, memory: Memory) -> Placed
     ensures { λ r. ⌜ r ≡ putMemory i memory placed ⌝ }
 {
-    if i < 8 {
+    if i < CAPACITY {
         let mut next = placed;
         next.memory_at = i;
         next.memory = memory;
@@ -147,7 +148,7 @@ fn put_memory(placed: Placed, i: usize, memory: Memory) -> Placed
 fn put_table(placed: Placed, i: usize, table: Table) -> Placed
     ensures { λ r. ⌜ r ≡ putTable i table placed ⌝ }
 {
-    if i < 8 {
+    if i < CAPACITY {
         let mut next = placed;
         next.table_at = i;
         next.table = table;
@@ -159,7 +160,7 @@ fn put_table(placed: Placed, i: usize, table: Table) -> Placed
 fn put_segment(placed: Placed, i: usize, segment: ElementSegment) -> Placed
     ensures { λ r. ⌜ r ≡ putSegment i segment placed ⌝ }
 {
-    if i < 8 {
+    if i < CAPACITY {
         let mut next = placed;
         next.segment_at = i;
         next.segment = segment;
@@ -205,9 +206,9 @@ fn place(
 
 // One operation on the machine of these records.
 fn operate_records(
-    memories: [Memory; 8],
-    tables: [Table; 8],
-    segments: [ElementSegment; 8],
+    memories: [Memory; CAPACITY],
+    tables: [Table; CAPACITY],
+    segments: [ElementSegment; CAPACITY],
     standing: Standing,
     fuel: Fuel,
     bytes: &mut [u8],
@@ -232,9 +233,9 @@ fn operate_records(
 
 // Counts, limiter and fuel are read and stored where they stand.
 fn operate_standing(
-    memories: [Memory; 8],
-    tables: [Table; 8],
-    segments: [ElementSegment; 8],
+    memories: [Memory; CAPACITY],
+    tables: [Table; CAPACITY],
+    segments: [ElementSegment; CAPACITY],
     standing: &mut Standing,
     fuel: &mut Fuel,
     bytes: &mut [u8],
@@ -264,8 +265,8 @@ fn operate_standing(
 
 // The first 8 segments are read, and one is stored.
 fn operate_segments(
-    memories: [Memory; 8],
-    tables: [Table; 8],
+    memories: [Memory; CAPACITY],
+    tables: [Table; CAPACITY],
     segments: &mut [ElementSegment],
     standing: &mut Standing,
     fuel: &mut Fuel,
@@ -274,7 +275,7 @@ fn operate_segments(
     items: &mut [u64],
     op: Operation,
 ) -> Placed
-    requires { ⌜ 8 ≤ length (now segments) ⌝ }
+    requires { ⌜ capacity ≤ length (now segments) ⌝ }
     ensures { λ r. ⌜ (placing r (now (bytes .exit)) (now (cells .exit)) (now (items .exit)) ≡ place rawBytes (gathered memories tables (eight noSegment (now (segments .entry))) (now (standing .entry)) (now (fuel .entry))) (buffers (now (bytes .entry)) (now (cells .entry)) (now (items .entry))) op)
         × (now (segments .exit) ≡ set (now (segments .entry)) (r .«segment_at») (r .segment))
         × (now (standing .exit) ≡ r .standing)
@@ -308,7 +309,7 @@ fn operate_segments(
 
 // The first 8 tables are read, and one is stored.
 fn operate_tables(
-    memories: [Memory; 8],
+    memories: [Memory; CAPACITY],
     tables: &mut [Table],
     segments: &mut [ElementSegment],
     standing: &mut Standing,
@@ -318,7 +319,7 @@ fn operate_tables(
     items: &mut [u64],
     op: Operation,
 ) -> Placed
-    requires { ⌜ (8 ≤ length (now tables)) × (8 ≤ length (now segments)) ⌝ }
+    requires { ⌜ (capacity ≤ length (now tables)) × (capacity ≤ length (now segments)) ⌝ }
     ensures { λ r. ⌜ (placing r (now (bytes .exit)) (now (cells .exit)) (now (items .exit)) ≡ place rawBytes (gathered memories (eight noTable (now (tables .entry))) (eight noSegment (now (segments .entry))) (now (standing .entry)) (now (fuel .entry))) (buffers (now (bytes .entry)) (now (cells .entry)) (now (items .entry))) op)
         × (now (tables .exit) ≡ set (now (tables .entry)) (r .«table_at») (r .table))
         × (now (segments .exit) ≡ set (now (segments .entry)) (r .«segment_at») (r .segment))
@@ -363,7 +364,7 @@ fn operate_memories(
     items: &mut [u64],
     op: Operation,
 ) -> Placed
-    requires { ⌜ (8 ≤ length (now memories)) × (8 ≤ length (now tables)) × (8 ≤ length (now segments)) ⌝ }
+    requires { ⌜ (capacity ≤ length (now memories)) × (capacity ≤ length (now tables)) × (capacity ≤ length (now segments)) ⌝ }
     ensures { λ r. ⌜ (placing r (now (bytes .exit)) (now (cells .exit)) (now (items .exit)) ≡ place rawBytes (gathered (eight noMemory (now (memories .entry))) (eight noTable (now (tables .entry))) (eight noSegment (now (segments .entry))) (now (standing .entry)) (now (fuel .entry))) (buffers (now (bytes .entry)) (now (cells .entry)) (now (items .entry))) op)
         × (now (memories .exit) ≡ set (now (memories .entry)) (r .«memory_at») (r .memory))
         × (now (tables .exit) ≡ set (now (tables .entry)) (r .«table_at») (r .table))
@@ -432,9 +433,9 @@ pub fn operate_lent(
 
 // From values to what is lent, and back.
 fn keep_records(
-    memories: [Memory; 8],
-    tables: [Table; 8],
-    segments: [ElementSegment; 8],
+    memories: [Memory; CAPACITY],
+    tables: [Table; CAPACITY],
+    segments: [ElementSegment; CAPACITY],
     standing: Standing,
     fuel: Fuel,
     bytes: &mut [u8],

@@ -1,6 +1,7 @@
 // Growth of one table of a lent list: its record is read, grown, and its new size stored where it stands.
 use super::regrown;
 use super::regrown::Regrown;
+use machine::records::CAPACITY;
 use machine::records::Counts;
 use machine::records::Machine;
 use table::table::Table;
@@ -16,12 +17,13 @@ ghost use lib.ListN.{length};
 ghost use Rattle.types.specs.Done.{done};
 ghost use Rattle.types.specs.Raw.{rawBytes};
 ghost use Rattle.table.specs.Grow.{growTable};
+ghost use Rattle.machine.specs.Machine.{capacity};
 ghost use Rattle.lent.specs.Growth.{lending};
 ghost use Rattle.lent.specs.Tables.{GrowsTable};
 ghost use Rattle.lent.specs.stages.Growth.{tablesAlone, kept, regrown, tableBack, tableRegrown};
 
 // The machine that has these tables alone, whose soundness is the list's.
-fn alone(tables: [Table; 8], count: usize, fuel: Fuel, limiter: Limiter) -> Machine
+fn alone(tables: [Table; CAPACITY], count: usize, fuel: Fuel, limiter: Limiter) -> Machine
     ensures { λ r. ⌜ r ≡ tablesAlone count tables fuel limiter ⌝ }
 {
     let costs = fuel.costs;
@@ -94,7 +96,7 @@ fn grow_checked(
 
 // The growth of a table among records by value: what is written back.
 fn regrow(
-    tables: [Table; 8],
+    tables: [Table; CAPACITY],
     count: usize,
     i: usize,
     cells: &mut [u64],
@@ -134,7 +136,7 @@ fn grow_here(
     fuel: &mut Fuel,
     limiter: &mut Limiter,
 ) -> Answer
-    requires { ⌜ 8 ≤ length (now tables) ⌝ }
+    requires { ⌜ capacity ≤ length (now tables) ⌝ }
     ensures { λ r. ⌜ GrowsTable rawBytes count i delta value (lending (now (tables .entry)) (now (cells .entry)) (now (fuel .entry)) (now (limiter .entry)))
         r (now (tables .exit)) (now (cells .exit)) (now (fuel .exit)) (now (limiter .exit)) ⌝ }
 {
@@ -169,7 +171,7 @@ pub fn grow(
     ensures { λ r. ⌜ GrowsTable rawBytes count i delta value (lending (now (tables .entry)) (now (cells .entry)) (now (fuel .entry)) (now (limiter .entry)))
         r (now (tables .exit)) (now (cells .exit)) (now (fuel .exit)) (now (limiter .exit)) ⌝ }
 {
-    if tables.len() < 8 {
+    if tables.len() < CAPACITY {
         return Answer::Refusal(Refusal {
             number: 19,
             amount: 0,

@@ -17,7 +17,7 @@ hex-short (suc n) v [] h = refl
 hex-short (suc n) v (b ∷ l) h = rw (hex-short n (v * 16 + digitOf b) l (omega arith)) (pick-same (ltb (digitOf b) 16) Bad)
 
 -- the fields from a place where a byte stands
-at-byte : (n at : ℕ) (s : List ℕ) → n ≤ 7 → at < length s →
+at-byte : (n at : ℕ) (s : List ℕ) → n < 8 → at < length s →
     fieldsOf (8 - n) (drop at s) ≡ pick (eqb (getD s at 0) space) (thenField (hexFrom 16 0 (drop (at + 1) s)) (fieldsOf (8 - (n + 1)) (drop (at + 17) s))) none
 unfolding fieldsOf
 at-byte n at s h k =
@@ -38,7 +38,7 @@ filled-then c n v list (some l) h =
     rw (a, b) refl
 
 -- the loop over fields: a field more, then the ways out
-pub fields-on : (c n at v : ℕ) (s list : List ℕ) {f : Field} {r : Line} → n ≤ 7 → length list ≡ 8 → at < length s → getD s at 0 ≡ space →
+pub fields-on : (c n at v : ℕ) (s list : List ℕ) {f : Field} {r : Line} → n < 8 → length list ≡ 8 → at < length s → getD s at 0 ≡ space →
     f ≡ hexFrom 16 0 (drop (at + 1) s) → f ≡ Value v →
     filled c n list (fieldsOf (8 - n) (drop at s)) ≡ r → filled c (n + 1) (set list n v) (fieldsOf (8 - (n + 1)) (drop (at + 17) s)) ≡ r
 fields-on c n at v s list h z k e d g q =
@@ -53,7 +53,7 @@ unfolding filled
 no-more c n list g e w q = e ∙ ap (filled c n list) (sym w) ∙ q
 
 -- no number stands there
-pub fields-bad : (c n at : ℕ) (s list : List ℕ) {f : Field} {o r : Line} → o ≡ noLine → n ≤ 7 → at < length s → getD s at 0 ≡ space →
+pub fields-bad : (c n at : ℕ) (s list : List ℕ) {f : Field} {o r : Line} → o ≡ noLine → n < 8 → at < length s → getD s at 0 ≡ space →
     f ≡ hexFrom 16 0 (drop (at + 1) s) → f ≡ Bad → filled c n list (fieldsOf (8 - n) (drop at s)) ≡ r → o ≡ r
 unfolding thenField
 fields-bad c n at s list o h k e d g q =
@@ -61,12 +61,12 @@ fields-bad c n at s list o h k e d g q =
     no-more c n list _ o (at-byte n at s h k ∙ pick-true _ _ _ (eq-eqb _ _ e) ∙ ap (λ (u : Field). thenField u rest) (sym d ∙ g)) q
 
 -- no space stands there
-pub fields-char : (c n at : ℕ) (s list : List ℕ) {o r : Line} → o ≡ noLine → n ≤ 7 → at < length s → (getD s at 0 ≡ space → ⊥) →
+pub fields-char : (c n at : ℕ) (s list : List ℕ) {o r : Line} → o ≡ noLine → n < 8 → at < length s → (getD s at 0 ≡ space → ⊥) →
     filled c n list (fieldsOf (8 - n) (drop at s)) ≡ r → o ≡ r
 fields-char c n at s list o h k e q = no-more c n list _ o (at-byte n at s h k ∙ pick-false _ _ _ (ne-eqb _ _ e)) q
 
 -- too few bytes are left
-pub fields-short : (c n at : ℕ) (s list : List ℕ) {o r : Line} → o ≡ noLine → n ≤ 7 → at < length s → length s - at < 17 →
+pub fields-short : (c n at : ℕ) (s list : List ℕ) {o r : Line} → o ≡ noLine → n < 8 → at < length s → length s - at < 17 →
     filled c n list (fieldsOf (8 - n) (drop at s)) ≡ r → o ≡ r
 unfolding thenField
 fields-short c n at s list o h k e q =
@@ -74,7 +74,7 @@ fields-short c n at s list o h k e q =
     no-more c n list _ o (at-byte n at s h k ∙ rw b (pick-same (eqb (getD s at 0) space) none)) q
 
 -- something stands behind the eighth field
-pub fields-many : (c n at : ℕ) (s list : List ℕ) {o r : Line} → o ≡ noLine → 7 < n → at < length s →
+pub fields-many : (c n at : ℕ) (s list : List ℕ) {o r : Line} → o ≡ noLine → 8 ≤ n → at < length s →
     filled c n list (fieldsOf (8 - n) (drop at s)) ≡ r → o ≡ r
 unfolding fieldsOf
 fields-many c n at s list o h k q =

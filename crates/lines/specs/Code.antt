@@ -1,6 +1,6 @@
 -- Document 01, "Operation lines": what a line says, by its code, its number of fields and their ranges. Codes are hexadecimal, as in the text.
-use Rattle.types.specs.Prelude.{ℕ, _+_, _^_, min, Bool, true, List, leb, ltb, eqb}
-use Rattle.types.specs.Names.{pick, both, WantedMemory, WantedTable, CopySpan}
+use Rattle.types.specs.Prelude.{ℕ, _+_, min, Bool, true, List, leb, ltb, eqb}
+use Rattle.types.specs.Names.{word32, pick, both, WantedMemory, WantedTable, CopySpan}
 use Rattle.machine.specs.Names.{Items, FuelOp, MemoryOp, TableOp, Operation}
 use Rattle.lines.specs.Fields.{binary, yes, kindOf, referenceOf, limitRanges, limitsOf, loadKindOf, storeKindOf}
 use Rattle.lines.specs.{Line.lineOf, Line.at, declared.line.Line.Line, declared.code.Read.Read}
@@ -48,7 +48,7 @@ spanOf to from len = record { to = to; from = from; len = len }
 -- what a line of code k and n fields says; 00 has B below 2^32, 29 at most 4 items
 unfoldable pub byCode : ℕ → ℕ → Line → Read
 byCode k n w =
-    pick (eqb k 0x00) (taken n 2 (both (ltb (at w 1) (2 ^ 32)) (binary (at w 0))) (Read.Making (yes (at w 0)) (at w 1)))
+    pick (eqb k 0x00) (taken n 2 (both (ltb (at w 1) word32) (binary (at w 0))) (Read.Making (yes (at w 0)) (at w 1)))
     (pick (eqb k 0x01) (taken n 1 true (onFuel (FuelOp.SetFuel (at w 0))))
     (pick (eqb k 0x02) (taken n 0 true (onFuel FuelOp.GetFuel))
     (pick (eqb k 0x03) (taken n 1 true (onFuel (FuelOp.Charge (at w 0))))

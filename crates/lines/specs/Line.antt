@@ -3,16 +3,21 @@ use Rattle.types.specs.Prelude.{ℕ, zero, suc, true, false, List, [], _∷_, _
 use Rattle.types.specs.Names.{pick, over, Done, done}
 use Rattle.lines.specs.{Hex.hexFrom, Hex.hexText, declared.field.Field.Field, declared.line.Line.Line}
 
--- a space stands before each field, and LF ends a line
+-- it stands before each field
 abbrev pub space : ℕ
 space = 32
 
+-- it ends a line
 abbrev pub lf : ℕ
 lf = 10
 
 -- over so many characters a line is malformed, whatever it holds
 abbrev pub longest : ℕ
 longest = 160
+
+-- the most fields that a line has
+abbrev pub mostFields : ℕ
+mostFields = 8
 
 -- the fields of a line, where they are fields
 pub data Got : Type 0 where
@@ -32,19 +37,19 @@ fieldsOf zero (b ∷ l) = none
 fieldsOf (suc n) [] = some []
 fieldsOf (suc n) (b ∷ l) = pick (eqb b space) (thenField (hexFrom 16 0 l) (fieldsOf n (drop 16 l))) none
 
--- a line as numbers: whether it is a code and fields, the code, how many fields, and the fields with zeros up to 8; this one is none
+-- a line as numbers: whether it is a code and fields, the code, how many fields, and the fields with zeros behind them; this one is none
 abbrev pub noLine : Line
-noLine = record { good = false; code = 0; count = 0; list = replicate 8 0 }
+noLine = record { good = false; code = 0; count = 0; list = replicate mostFields 0 }
 
 -- a code, and fields behind it
 unfoldable pub coded : Field → Got → Line
 coded Field.Bad g = noLine
 coded (Field.Value code) none = noLine
-coded (Field.Value code) (some l) = record { good = true; code = code; count = length l; list = over (replicate 8 0) 0 l }
+coded (Field.Value code) (some l) = record { good = true; code = code; count = length l; list = over (replicate mostFields 0) 0 l }
 
 -- a text as a line's numbers
 unfoldable pub lineOf : List ℕ → Line
-lineOf l = coded (hexFrom 2 0 l) (fieldsOf 8 (drop 2 l))
+lineOf l = coded (hexFrom 2 0 l) (fieldsOf mostFields (drop 2 l))
 
 -- a field, 0 behind the last
 abbrev pub at : Line → ℕ → ℕ

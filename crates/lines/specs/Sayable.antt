@@ -1,13 +1,13 @@
 -- Document 01, "Operation lines", what a line can say: fields below 2^64, an absent maximum 0, an exponent of at most 255, and of a segment at most 4 items, zeros past them.
-use Rattle.types.specs.Prelude.{ℕ, _^_, _<_, _≤_, _≡_, true, false, List, [], _∷_}
-use Rattle.types.specs.Names.{Limits, WantedMemory}
+use Rattle.types.specs.Prelude.{ℕ, _<_, _≤_, _≡_, true, false, List, [], _∷_}
+use Rattle.types.specs.Names.{word64, Limits, WantedMemory}
 use Rattle.machine.specs.Names.{itemFields, MemoryOp, Operation}
 use Rattle.lines.specs.Writing.{numbersOf}
 
 -- numbers that fields of 16 digits hold
 unfoldable pub Small : List ℕ → Type 0
 Small [] = Unit
-Small (v ∷ l) = (v < 2 ^ 64) × Small l
+Small (v ∷ l) = (v < word64) × Small l
 
 -- limits whose absent maximum is 0
 unfoldable pub LimitsSaid : Limits → Type 0

@@ -9,6 +9,7 @@ use machine::operation::Operation;
 use machine::operation::Script;
 use machine::operation::TableOp;
 use types::span::CopySpan;
+use types::wide::WORD32;
 ghost use mathlib.Core.Path.{_≡_};
 ghost use mathlib.Core.Bool.{true};
 ghost use Prim.Native.Nat.{_+_};
@@ -42,7 +43,7 @@ fn taken(count: usize, n: usize, ok: bool, said: Read) -> Read
 fn making_of(count: usize, metering: u64, copied: u64) -> Read
     ensures { λ r. ⌜ r ≡ taken count 2 (makingRanges metering copied) (Read.Making (yes metering) copied) ⌝ }
 {
-    if 4294967296 <= copied {
+    if WORD32 <= copied {
         return Read::Malformed;
     }
     taken(

@@ -8,12 +8,15 @@ ghost use Rattle.types.specs.Done.{done};
 ghost use Rattle.types.specs.Span.{over};
 ghost use Rattle.lines.specs.stages.Digits.{digitTable};
 ghost use Rattle.lines.specs.stages.Back.{filled};
-ghost use Rattle.lines.specs.Line.{noLine, fieldsOf, lineOf, fieldsText, lineText, wroteOf};
+ghost use Rattle.lines.specs.Line.{mostFields, noLine, fieldsOf, lineOf, fieldsText, lineText, wroteOf};
 
 // A space stands before each field, and LF ends a line.
 pub(crate) const SPACE: u8 = 32;
 
 pub(crate) const LF: u8 = 10;
+
+// The most fields that a line has.
+pub const MOST_FIELDS: usize = 8;
 
 // The digits of all 256 bytes, 16 where a byte is none.
 pub(crate) const DIGITS: [u8; 256] =
@@ -25,7 +28,7 @@ pub struct Line {
     pub code: u64,
     pub count: usize,
     // The fields, and zeros behind them.
-    pub list: [u64; 8],
+    pub list: [u64; MOST_FIELDS],
 }
 
 // What a text that is no line is read as.
@@ -36,20 +39,20 @@ pub fn no_line() -> Line
         good: false,
         code: 0,
         count: 0,
-        list: [0u64; 8],
+        list: [0u64; MOST_FIELDS],
     }
 }
 
 // The fields of a line, up to its end.
 fn read_fields(t: &[u8; 256], s: &[u8], code: u64) -> Line
     requires { ⌜ (2 ≤ length (now s)) × (now t ≡ digitTable) ⌝ }
-    ensures { λ r. ⌜ r ≡ filled code 0 (replicate 8 0) (fieldsOf 8 (drop 2 (now (s .entry)))) ⌝ }
+    ensures { λ r. ⌜ r ≡ filled code 0 (replicate mostFields 0) (fieldsOf mostFields (drop 2 (now (s .entry)))) ⌝ }
 {
-    let mut list = [0u64; 8];
+    let mut list = [0u64; MOST_FIELDS];
     let mut n: usize = 0;
     let mut at: usize = 2;
     while at < s.len() {
-        if 7 < n {
+        if MOST_FIELDS <= n {
             return no_line();
         }
         if s.len() - at < 17 {
@@ -96,7 +99,7 @@ pub(crate) fn read(s: &[u8]) -> Line
 
 // The fields of a line, each behind a space.
 fn put_fields(out: &mut [u8], line: Line)
-    requires { ⌜ (line .count ≤ 8) × (2 + 17 * line .count ≤ length (now out)) ⌝ }
+    requires { ⌜ (line .count ≤ mostFields) × (2 + 17 * line .count ≤ length (now out)) ⌝ }
     ensures { λ r. ⌜ now (out .exit) ≡ over (now (out .entry)) 2 (fieldsText (take (line .count) (line .list))) ⌝ }
 {
     let count = line.count;
@@ -113,7 +116,7 @@ fn put_fields(out: &mut [u8], line: Line)
 
 // A line's text and its length; 0 where the buffer has less room.
 pub(crate) fn put_line(out: &mut [u8], line: Line) -> usize
-    requires { ⌜ line .count ≤ 8 ⌝ }
+    requires { ⌜ line .count ≤ mostFields ⌝ }
     ensures { λ r. ⌜ done r (now (out .exit)) ≡ wroteOf (now (out .entry)) (lineText (line .code) (take (line .count) (line .list))) ⌝ }
 {
     let size = 2 + 17 * line.count;

@@ -13,6 +13,7 @@ ghost use Prim.Native.Nat.{_+_, _/_, _≤_, _<_};
 ghost use mathlib.Core.Path.{_≡_};
 ghost use mathlib.Core.Bool.{true, false};
 ghost use lib.ListN.{length, drop};
+ghost use Rattle.types.specs.Numbers.{word32};
 ghost use Rattle.types.specs.Answer.{refuse};
 ghost use Rattle.types.specs.Raw.{rawBytes};
 ghost use Rattle.machine.specs.Machine.{buffers};
@@ -66,7 +67,7 @@ fn refused() -> Answer
 
 // The machine that 00 makes, in place.
 fn make(words: &mut [u64], metering: bool, copied: u32) -> u8
-    ensures { λ r. ⌜ (rowed r (now (words .exit)) ≡ freshRow (now (words .entry)) metering (costsOf copied)) × (copied < 4294967296) ⌝ }
+    ensures { λ r. ⌜ (rowed r (now (words .exit)) ≡ freshRow (now (words .entry)) metering (costsOf copied)) × (copied < word32) ⌝ }
 {
     row::fresh(
         words,

@@ -2,6 +2,7 @@
 use super::fields;
 use super::line;
 use super::line::Line;
+use super::line::MOST_FIELDS;
 use machine::operation::FuelOp;
 use machine::operation::Items;
 use machine::operation::MemoryOp;
@@ -18,7 +19,7 @@ ghost use Rattle.lines.specs.Writing.{writeLine, writeMaking};
 ghost use Rattle.lines.specs.stages.Back.{fieldedOf, backOf, wantedBack, makingBack};
 
 // A line of so many fields; those past them are given as 0.
-fn fielded(code: u64, count: usize, list: [u64; 8]) -> Line
+fn fielded(code: u64, count: usize, list: [u64; MOST_FIELDS]) -> Line
     ensures { λ r. ⌜ r ≡ fieldedOf code count list ⌝ }
 {
     Line {

@@ -1,7 +1,7 @@
 -- On a row in form the two sizes are what the operations 12 and 22 answer, refusals too. Assumes nothing.
-use Rattle.types.proofs.Prelude.{ℕ, zero, suc, _+_, _*_, _<_, _≡_, refl, sym, ap, _∙_, Bool, true, List, arith, leb, ltb, length, ltb-true, leb-true, le-leb}
+use Rattle.types.proofs.Prelude.{ℕ, zero, suc, _+_, _*_, _<_, _≡_, refl, sym, ap, _∙_, Bool, true, List, arith, ltb, length, ltb-true, leb-true, le-leb}
 use Rattle.types.proofs.Prelude.{pick-true, pick-false, both-1, both-2, either}
-use Rattle.types.specs.{Pick.unless, Answer.refuse, Done.Done, declared.answer.Answer.Answer}
+use Rattle.types.specs.{Done.Done, declared.answer.Answer.Answer}
 use Rattle.machine.specs.{Machine.Buffers, Sound.soundList, Sound.soundMemories, Sound.soundTables, Sound.soundMachine, Sound.soundOver}
 use Rattle.machine.specs.{Operation.wellFormed, Operation.memoryWellFormed, Memories.performMemory, Memories.onMemory}
 use Rattle.machine.specs.{Tables.performTable, Tables.onTable, Step.Stepped, Step.perform, Step.step}

@@ -14,6 +14,7 @@ pub data Target : Type 0 where
   InSegment : ℕ → Target
   NewItems : Target
 
+-- an operation by number the one it names, a creation the next one, a copy its destination
 unfoldable pub targetOf : Machine → Operation → Target
 targetOf m (Operation.Fuel o) = None
 targetOf m (Operation.NewMemory room wanted) = InMemory (m .counts .memories)

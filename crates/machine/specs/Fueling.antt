@@ -32,5 +32,6 @@ performFuel f l (FuelOp.SetLimiter script) = handedBy (handOver l (scriptOf scri
 abbrev pub fueledOut : Machine → Fueled → Outcome
 fueledOut m x = leaves m (x .answer) (x .fuel) (x .limiter)
 
+-- 01 to 04 on a machine
 unfoldable pub onFuel : Machine → FuelOp → Outcome
 onFuel m o = fueledOut m (performFuel (m .fuel) (m .limiter) o)

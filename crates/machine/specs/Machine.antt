@@ -5,48 +5,61 @@ use Rattle.memory.specs.Names.{Memory}
 use Rattle.table.specs.Names.{Table, ElementSegment}
 use Rattle.machine.specs.declared.records.Machine.{Machine}
 
--- what stands where no instance does
+-- a machine has places for so many memories, tables and segments
+abbrev pub capacity : ℕ
+capacity = 8
+
+-- what stands where no instance does: a type without limits
 abbrev pub noLimits : Limits
 noLimits = record { minimum = 0; bounded = false; maximum = 0 }
 
+-- no memory
 abbrev pub noMemory : Memory
 noMemory =
     record { ty = record { index = IndexType.I32; page = PageSize.One; limits = noLimits }; start = 0; room = 0; size = 0 }
 
+-- no table
 abbrev pub noTable : Table
 noTable =
     record { ty = record { element = RefType.Func; index = IndexType.I32; limits = noLimits }; start = 0; room = 0; size = 0 }
 
+-- no segment
 abbrev pub noSegment : ElementSegment
 noSegment = record { ty = RefType.Func; start = 0; places = 0; size = 0 }
 
--- instances are numbered from 0 in order of creation
+-- a memory by its number: instances are numbered from 0 in order of creation
 abbrev pub memoryAt : Machine → ℕ → Memory
 memoryAt m i = getD (m .memories) i noMemory
 
+-- a table by its number
 abbrev pub tableAt : Machine → ℕ → Table
 tableAt m i = getD (m .tables) i noTable
 
+-- a segment by its number
 abbrev pub segmentAt : Machine → ℕ → ElementSegment
 segmentAt m i = getD (m .segments) i noSegment
 
--- where a room ends, and where a segment's places do
+-- where a memory's room ends
 abbrev pub memoryEnd : Memory → ℕ
 memoryEnd r = r .start + r .room
 
+-- where a table's room ends
 abbrev pub tableEnd : Table → ℕ
 tableEnd r = r .start + r .room
 
+-- where a segment's places end
 abbrev pub segmentEnd : ElementSegment → ℕ
 segmentEnd r = r .start + r .places
 
--- a room starts directly after the previous one
+-- where the next memory's room starts: directly after the previous one
 unfoldable pub nextByte : Machine → ℕ
 nextByte m = pick (eqb (m .counts .memories) 0) 0 (memoryEnd (memoryAt m (m .counts .memories - 1)))
 
+-- the next table's room
 unfoldable pub nextCell : Machine → ℕ
 nextCell m = pick (eqb (m .counts .tables) 0) 0 (tableEnd (tableAt m (m .counts .tables - 1)))
 
+-- the next segment's places
 unfoldable pub nextItem : Machine → ℕ
 nextItem m = pick (eqb (m .counts .segments) 0) 0 (segmentEnd (segmentAt m (m .counts .segments - 1)))
 
@@ -56,6 +69,7 @@ pub record Buffers : Type 0 where
   pub cells : List ℕ
   pub items : List ℕ
 
+-- the three of them
 abbrev pub buffers : List ℕ → List ℕ → List ℕ → Buffers
 buffers bytes cells items = record { bytes = bytes; cells = cells; items = items }
 
@@ -63,9 +77,9 @@ buffers bytes cells items = record { bytes = bytes; cells = cells; items = items
 unfoldable pub freshMachine : Bool → FuelCosts → Machine
 freshMachine metering costs =
     record {
-      memories = replicate 8 noMemory;
-      tables = replicate 8 noTable;
-      segments = replicate 8 noSegment;
+      memories = replicate capacity noMemory;
+      tables = replicate capacity noTable;
+      segments = replicate capacity noSegment;
       counts = record { memories = 0; tables = 0; segments = 0 };
       fuel = newFuel metering costs;
       limiter = noLimiter;

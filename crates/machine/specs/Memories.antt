@@ -3,18 +3,19 @@ use Rattle.types.specs.Prelude.{ℕ, _-_, List, leb, ltb, length}
 use Rattle.types.specs.Names.{pick, unless, both, Done, done, accept, buildMemory, matchMemory}
 use Rattle.types.specs.Names.{Answer, Fuel, Limiter, BuiltMemory, MemoryType, WantedMemory}
 use Rattle.memory.specs.Names.{pagesOf, loadMemory, storeMemory, newMemory, growMemory, Memory, GrownMemory, MadeMemory, CreatedMemory}
-use Rattle.machine.specs.{Machine.memoryAt, Machine.nextByte, Outcome.leaves, Outcome.creates, Outcome.refused, Outcome.oneMemoryMore}
+use Rattle.machine.specs.{Machine.capacity, Machine.memoryAt, Machine.nextByte, Outcome.leaves, Outcome.creates, Outcome.refused, Outcome.oneMemoryMore}
 use Rattle.machine.specs.declared.{records.Machine.Machine, outcome.Outcome.Outcome, outcome.Change.Change, operation.MemoryOp.MemoryOp}
 
 -- an answer that leaves a memory's record, fuel and limiter
 abbrev pub memoryKept : Memory → Fuel → Limiter → Answer → GrownMemory
 memoryKept m f l a = record { answer = a; memory = m; fuel = f; limiter = l }
 
--- 30: the wanted type is built (1), then 1 exactly when the declared type is its subtype, else 0
+-- 30: the wanted type is built (1), then 1 exactly when the given type is its subtype, else 0
 unfoldable pub linked : MemoryType → BuiltMemory → Answer
 linked t (BuiltMemory.Refused r) = Answer.Refusal r
 linked t (BuiltMemory.Built wanted) = accept (pick (matchMemory t wanted) 1 0)
 
+-- 30, against a memory's declared type
 unfoldable pub linkTo : Memory → WantedMemory → Answer
 linkTo m w = linked (m .ty) (buildMemory (w .wide) (w .limits) (w .exponent))
 
@@ -34,6 +35,7 @@ performMemory m bs f l (MemoryOp.LinkCheck wanted) = done (memoryKept m f l (lin
 abbrev pub memoryOut : Machine → ℕ → GrownMemory → Outcome
 memoryOut m i g = record { answer = g .answer; change = Change.Memory i (g .memory); counts = m .counts; fuel = g .fuel; limiter = g .limiter }
 
+-- the same, with the bytes after it
 abbrev pub memoryDone : Machine → ℕ → Done GrownMemory → Done Outcome
 memoryDone m i d = done (memoryOut m i (d .out)) (d .cells)
 
@@ -49,11 +51,12 @@ madeMemory m (MadeMemory.Refused r) l = leaves m (Answer.Refusal r) (m .fuel) l
 madeMemory m (MadeMemory.Made r) l =
     creates m (m .counts .memories) (Change.Memory (m .counts .memories) r) (oneMemoryMore (m .counts)) l
 
+-- the same, with the bytes after it
 abbrev pub memoryMade : Machine → Done CreatedMemory → Done Outcome
 memoryMade m c = done (madeMemory m (c .out .made) (c .out .limiter)) (c .cells)
 
 -- 17, then a new memory in the next room
 unfoldable pub newMemoryOn : Machine → List ℕ → ℕ → WantedMemory → Done Outcome
 newMemoryOn m bs room w =
-    unless (both (ltb (m .counts .memories) 8) (leb room (length bs - nextByte m))) (refused m 17 bs)
+    unless (both (ltb (m .counts .memories) capacity) (leb room (length bs - nextByte m))) (refused m 17 bs)
     (memoryMade m (newMemory w (nextByte m) room bs (m .limiter)))

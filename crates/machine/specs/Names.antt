@@ -1,6 +1,6 @@
 -- What the crates above name of this one, passed on by file; nothing is defined here.
 use Rattle.machine.specs.declared
-pub use Rattle.machine.specs.Machine.{noLimits, noMemory, noTable, memoryAt, tableAt, segmentAt, memoryEnd, tableEnd, nextByte, nextCell}
+pub use Rattle.machine.specs.Machine.{capacity, noLimits, noMemory, noTable, memoryAt, tableAt, segmentAt, memoryEnd, tableEnd, nextByte, nextCell}
 pub use Rattle.machine.specs.Machine.{nextItem, Buffers, buffers, freshMachine}
 pub use Rattle.machine.specs.Sound.{soundList, soundReferences, soundOver}
 pub use Rattle.machine.specs.Operation.{scriptOf, itemFields, itemsOf, wellFormed}

@@ -1,6 +1,6 @@
 -- Document 01, "Operation lines": what an operation can still say wrongly where every field has its type (18).
-use Rattle.types.specs.Prelude.{ℕ, zero, suc, _-_, _/_, _%_, _^_, Bool, true, false, List, [], _∷_, _++_, eqb, leb, ltb, take}
-use Rattle.types.specs.Names.{pick, both, CopySpan}
+use Rattle.types.specs.Prelude.{ℕ, zero, suc, _-_, _/_, _%_, Bool, true, false, List, [], _∷_, _++_, eqb, leb, ltb, take}
+use Rattle.types.specs.Names.{word32, pick, both, longestScript, CopySpan}
 use Rattle.memory.specs.Names.{StoreKind}
 use Rattle.machine.specs.declared.operation.{Script.Script, Items.Items, FuelOp.FuelOp, MemoryOp.MemoryOp, Operation.Operation}
 
@@ -20,7 +20,7 @@ leading n (d ∷ ds) = both (leb d (mostOf n)) (leading (n - 1) ds)
 
 -- a script has at most 16 answers as leading digits, the rest 0
 unfoldable pub scriptFields : Script → Bool
-scriptFields s = both (leb (s .count) 16) (leading (s .count) (digitsOf 16 (s .digits)))
+scriptFields s = both (leb (s .count) longestScript) (leading (s .count) (digitsOf 16 (s .digits)))
 
 -- the answers of a script: the leftmost digit is the first
 abbrev pub scriptOf : Script → List ℕ
@@ -56,11 +56,11 @@ narrowStore StoreKind.I64To32 = false
 
 -- a 32-bit store's value stays below 2^32
 unfoldable pub storeFields : StoreKind → ℕ → Bool
-storeFields kind bits = pick (narrowStore kind) (ltb bits (2 ^ 32)) true
+storeFields kind bits = pick (narrowStore kind) (ltb bits word32) true
 
 -- an init's from and length stay below 2^32
 unfoldable pub initFields : CopySpan → Bool
-initFields s = both (ltb (s .from) (2 ^ 32)) (ltb (s .len) (2 ^ 32))
+initFields s = both (ltb (s .from) word32) (ltb (s .len) word32)
 
 -- of fuel and limiter
 unfoldable pub fuelWellFormed : FuelOp → Bool

@@ -12,6 +12,7 @@ pub record Rowed : Type 0 where
   pub number : ℕ
   pub words : List ℕ
 
+-- both of them
 abbrev pub rowed : ℕ → List ℕ → Rowed
 rowed n l = record { number = n; words = l }
 
@@ -26,6 +27,7 @@ pub record InRow : Type 0 where
   pub words : List ℕ
   pub buffers : Buffers
 
+-- all of them
 abbrev pub inRow : Answer → List ℕ → List ℕ → List ℕ → List ℕ → InRow
 inRow a l bytes cells items = record { answer = a; words = l; buffers = buffers bytes cells items }
 
@@ -53,13 +55,14 @@ unfoldable pub ifSound : List ℕ → ℕ → ℕ → ℕ → Answer → Answer
 ifSound l bytes cells items a =
     unless (leb rowLength (length l)) (refuse 19 0) (unless (soundMachine (machineFrom l) bytes cells items) (refuse 19 0) a)
 
--- sizes: then 16 for a number that no instance has, 19 where that record's flags are out of form; the form of the rest is not tested
+-- 12 on a row: then 16 for a number that no instance has, 19 where that record's flags are out of form; the form of the rest is not tested
 unfoldable pub rowPages : List ℕ → ℕ → ℕ → ℕ → ℕ → Answer
 rowPages l bytes cells items i =
     ifSound l bytes cells items
     (unless (ltb i (machineFrom l .counts .memories)) (refuse 16 0)
     (unless (recordInForm l (recordLength * i)) (refuse 19 0) (accept (pagesOf (memoryAt (machineFrom l) i)))))
 
+-- 22 on a row, as 12
 unfoldable pub rowCells : List ℕ → ℕ → ℕ → ℕ → ℕ → Answer
 rowCells l bytes cells items i =
     ifSound l bytes cells items

@@ -2,7 +2,7 @@
 use Rattle.types.specs.Prelude.{ℕ, _-_, List, leb, ltb, length}
 use Rattle.types.specs.Names.{unless, both, Done, done, refuse, accept, Answer, RefType, CopySpan}
 use Rattle.table.specs.Names.{initTable, dropped, newSegment, MadeSegment}
-use Rattle.machine.specs.Machine.{tableAt, segmentAt, nextItem}
+use Rattle.machine.specs.Machine.{capacity, tableAt, segmentAt, nextItem}
 use Rattle.machine.specs.{Outcome.keeps, Outcome.creates, Outcome.refused, Outcome.oneSegmentMore, Tables.spannedDone}
 use Rattle.machine.specs.declared.{records.Machine.Machine, outcome.Outcome.Outcome, outcome.Change.Change}
 
@@ -24,11 +24,12 @@ madeSegment m (MadeSegment.Refused r) = keeps m (Answer.Refusal r)
 madeSegment m (MadeSegment.Made r) =
     creates m (m .counts .segments) (Change.Segment (m .counts .segments) r) (oneSegmentMore (m .counts)) (m .limiter)
 
+-- the same, with the items after it
 abbrev pub segmentMade : Machine → Done MadeSegment → Done Outcome
 segmentMade m s = done (madeSegment m (s .out)) (s .cells)
 
 -- 17, then the one operation that writes items
 unfoldable pub newSegmentOn : Machine → List ℕ → RefType → List ℕ → Done Outcome
 newSegmentOn m items element given =
-    unless (both (ltb (m .counts .segments) 8) (leb (length given) (length items - nextItem m))) (refused m 17 items)
+    unless (both (ltb (m .counts .segments) capacity) (leb (length given) (length items - nextItem m))) (refused m 17 items)
     (segmentMade m (newSegment element (nextItem m) items given))

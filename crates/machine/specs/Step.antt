@@ -12,19 +12,23 @@ pub record Performed : Type 0 where
   pub out : Outcome
   pub buffers : Buffers
 
+-- an outcome with each buffer
 abbrev pub performed : Outcome → List ℕ → List ℕ → List ℕ → Performed
 performed o bytes cells items = record { out = o; buffers = buffers bytes cells items }
 
--- no buffer changes, or the bytes alone, the cells alone, the items alone
+-- no buffer changes
 abbrev pub onNone : Outcome → Buffers → Performed
 onNone o b = record { out = o; buffers = b }
 
+-- the bytes change alone
 abbrev pub onBytes : Done Outcome → Buffers → Performed
 onBytes d b = performed (d .out) (d .cells) (b .cells) (b .items)
 
+-- the cells change alone
 abbrev pub onCells : Done Outcome → Buffers → Performed
 onCells d b = performed (d .out) (b .bytes) (d .cells) (b .items)
 
+-- the items change alone
 abbrev pub onItems : Done Outcome → Buffers → Performed
 onItems d b = performed (d .out) (b .bytes) (b .cells) (d .cells)
 
@@ -53,9 +57,11 @@ pub record Stepped : Type 0 where
   pub machine : Machine
   pub buffers : Buffers
 
+-- an answer, a machine and each buffer
 abbrev pub stepped : Answer → Machine → List ℕ → List ℕ → List ℕ → Stepped
 stepped a m bytes cells items = record { answer = a; machine = m; buffers = buffers bytes cells items }
 
+-- the machine after an outcome is the settled one
 abbrev pub after : Machine → Performed → Stepped
 after m p = record { answer = p .out .answer; machine = settled m (p .out); buffers = p .buffers }
 
@@ -69,6 +75,7 @@ pub record Ran : Type 0 where
   pub machine : Machine
   pub buffers : Buffers
 
+-- from the first operation to the last
 unfoldable pub run : ℕ → Machine → Buffers → List Operation → Ran
 run r m b [] = record { answers = []; machine = m; buffers = b }
 run r m b (op ∷ ops) =

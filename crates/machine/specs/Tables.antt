@@ -3,7 +3,7 @@
 use Rattle.types.specs.Prelude.{ℕ, _-_, List, eqb, leb, ltb, length}
 use Rattle.types.specs.Names.{pick, unless, both, Done, done, accept, Answer, Fuel, Limiter, Spanned, TypedRawRef, CopySpan, WantedTable}
 use Rattle.table.specs.Names.{getTable, setTable, newTable, growTable, fillTable, copyTable, copyWithin, Table, GrownTable, MadeTable, CreatedTable}
-use Rattle.machine.specs.{Machine.tableAt, Machine.nextCell, Outcome.leaves, Outcome.creates, Outcome.refused, Outcome.oneTableMore}
+use Rattle.machine.specs.{Machine.capacity, Machine.tableAt, Machine.nextCell, Outcome.leaves, Outcome.creates, Outcome.refused, Outcome.oneTableMore}
 use Rattle.machine.specs.declared.{records.Machine.Machine, outcome.Outcome.Outcome, outcome.Change.Change, operation.TableOp.TableOp}
 
 -- an answer that leaves a table's record, with fuel and limiter after it
@@ -30,6 +30,7 @@ performTable r t cs f l (TableOp.Fill start value len) = tableSpanned t l (fillT
 abbrev pub tableOut : Machine → ℕ → GrownTable → Outcome
 tableOut m i g = record { answer = g .answer; change = Change.Table i (g .table); counts = m .counts; fuel = g .fuel; limiter = g .limiter }
 
+-- the same, with the cells after it
 abbrev pub tableDone : Machine → ℕ → Done GrownTable → Done Outcome
 tableDone m i d = done (tableOut m i (d .out)) (d .cells)
 
@@ -43,6 +44,7 @@ onTable r m cs i o =
 abbrev pub spannedOut : Machine → Spanned → Outcome
 spannedOut m s = leaves m (s .answer) (s .fuel) (m .limiter)
 
+-- the same, with the cells after it
 abbrev pub spannedDone : Machine → Done Spanned → Done Outcome
 spannedDone m s = done (spannedOut m (s .out)) (s .cells)
 
@@ -65,11 +67,12 @@ madeTable m (MadeTable.Refused r) l = leaves m (Answer.Refusal r) (m .fuel) l
 madeTable m (MadeTable.Made r) l =
     creates m (m .counts .tables) (Change.Table (m .counts .tables) r) (oneTableMore (m .counts)) l
 
+-- the same, with the cells after it
 abbrev pub tableMade : Machine → Done CreatedTable → Done Outcome
 tableMade m c = done (madeTable m (c .out .made) (c .out .limiter)) (c .cells)
 
 -- 17, then a new table in the next room
 unfoldable pub newTableOn : Machine → List ℕ → ℕ → WantedTable → TypedRawRef → Done Outcome
 newTableOn m cs room w v =
-    unless (both (ltb (m .counts .tables) 8) (leb room (length cs - nextCell m))) (refused m 17 cs)
+    unless (both (ltb (m .counts .tables) capacity) (leb room (length cs - nextCell m))) (refused m 17 cs)
     (tableMade m (newTable w v (nextCell m) room cs (m .limiter)))

@@ -1,84 +1,101 @@
 -- Document 01, "The machine", in place: its records, fuel and limiter as a row of 64-bit words that whoever runs it lends, and when a row is in form.
-use Rattle.types.specs.Prelude.{ℕ, zero, suc, _+_, _*_, _%_, _^_, Bool, true, false, List, [], _∷_, _++_, eqb, leb, ltb, length, getD}
-use Rattle.types.specs.Names.{both, is64, indexOf, Fuel, Limiter, Limits, PageSize, RefType}
+use Rattle.types.specs.Prelude.{ℕ, zero, suc, _+_, _*_, _%_, Bool, true, false, List, [], _∷_, _++_, eqb, leb, ltb, length, getD}
+use Rattle.types.specs.Names.{word8, word32, both, is64, indexOf, longestScript, Fuel, Limiter, Limits, PageSize, RefType}
 use Rattle.memory.specs.Names.{Memory}
 use Rattle.table.specs.Names.{Table, ElementSegment}
+use Rattle.machine.specs.{Machine.capacity}
 use Rattle.machine.specs.declared.{records.Machine.Machine, records.Counts.Counts}
 
--- the words of one record: of a memory or table, of a segment
+-- the words of a record of a memory or table
 abbrev pub recordLength : ℕ
 recordLength = 8
 
+-- of a segment
 abbrev pub segmentLength : ℕ
 segmentLength = 4
 
--- where each part starts: 8 memories, 8 tables, 8 segments, 3 counts, 5 words of fuel, the limiter's count and place, its script of 16
+-- a row starts with the memories; tables come after them
 abbrev pub tablesAt : ℕ
-tablesAt = 8 * recordLength
+tablesAt = capacity * recordLength
 
+-- segments come after the tables
 abbrev pub segmentsAt : ℕ
-segmentsAt = tablesAt + 8 * recordLength
+segmentsAt = tablesAt + capacity * recordLength
 
+-- the numbers in use come after the segments
 abbrev pub countsAt : ℕ
-countsAt = segmentsAt + 8 * segmentLength
+countsAt = segmentsAt + capacity * segmentLength
 
+-- then fuel
 abbrev pub fuelAt : ℕ
 fuelAt = countsAt + 3
 
+-- then the limiter's count and place
 abbrev pub limiterAt : ℕ
 limiterAt = fuelAt + 5
 
+-- then its script's answers
 abbrev pub scriptAt : ℕ
 scriptAt = limiterAt + 2
 
+-- how many words a row has
 abbrev pub rowLength : ℕ
-rowLength = scriptAt + 16
+rowLength = scriptAt + longestScript
 
--- a yes is 1, a no 0; read back, any other word than 1 is a no
+-- a yes is 1, a no 0
 abbrev pub yesWord : Bool → ℕ
 yesWord true = 1
 yesWord false = 0
 
+-- read back, any other word than 1 is a no
 abbrev pub saysYes : ℕ → Bool
 saysYes n = eqb n 1
 
--- pages of 64 KiB are a yes, and so are 64-bit indexes and external references
+-- pages of 64 KiB are a yes, and so are 64-bit indexes
 abbrev pub isWasm : PageSize → Bool
 isWasm PageSize.One = false
 isWasm PageSize.Wasm = true
 
+-- the page size that a flag says
 abbrev pub pageOf : Bool → PageSize
 pageOf false = PageSize.One
 pageOf true = PageSize.Wasm
 
+-- external references are a yes
 abbrev pub isExtern : RefType → Bool
 isExtern RefType.Func = false
 isExtern RefType.Extern = true
 
+-- the kind of reference that a flag says
 abbrev pub elementOf : Bool → RefType
 elementOf false = RefType.Func
 elementOf true = RefType.Extern
 
--- each record's words, in this order
+-- a memory's words, in this order
 unfoldable pub memoryWords : Memory → List ℕ
 memoryWords r =
     yesWord (is64 (r .ty .index)) ∷ yesWord (isWasm (r .ty .page)) ∷ r .ty .limits .minimum
     ∷ yesWord (r .ty .limits .bounded) ∷ r .ty .limits .maximum ∷ r .start ∷ r .room ∷ r .size ∷ []
 
+-- a table's words
 unfoldable pub tableWords : Table → List ℕ
 tableWords r =
     yesWord (isExtern (r .ty .element)) ∷ yesWord (is64 (r .ty .index)) ∷ r .ty .limits .minimum
     ∷ yesWord (r .ty .limits .bounded) ∷ r .ty .limits .maximum ∷ r .start ∷ r .room ∷ r .size ∷ []
 
+-- a segment's words
 unfoldable pub segmentWords : ElementSegment → List ℕ
 segmentWords r = yesWord (isExtern (r .ty)) ∷ r .start ∷ r .places ∷ r .size ∷ []
 
+-- how many of each kind are in use
 unfoldable pub countWords : Counts → List ℕ
 countWords k = k .memories ∷ k .tables ∷ k .segments ∷ []
 
+-- fuel's words
 unfoldable pub fuelWords : Fuel → List ℕ
 fuelWords f = f .remaining ∷ yesWord (f .enabled) ∷ f .costs .copied ∷ f .costs .translated ∷ f .costs .validated ∷ []
 
+-- the limiter's count and place
 unfoldable pub placeWords : Limiter → List ℕ
 placeWords k = k .count ∷ k .at ∷ []
 
@@ -87,23 +104,27 @@ unfoldable pub rowsOf : {A : Type 0} → (A → List ℕ) → List A → List �
 rowsOf f [] = []
 rowsOf f (x ∷ xs) = f x ++ rowsOf f xs
 
--- a machine's words: its records by number, used or not, then counts, fuel and limiter, whose script comes last
+-- a machine's records by number, used or not
 abbrev pub instanceWords : Machine → List ℕ
 instanceWords m = (rowsOf memoryWords (m .memories) ++ rowsOf tableWords (m .tables)) ++ rowsOf segmentWords (m .segments)
 
+-- counts, fuel, and the place in the script
 abbrev pub standingWords : Counts → Fuel → Limiter → List ℕ
 standingWords k f p = (countWords k ++ fuelWords f) ++ placeWords p
 
+-- and the script's answers
 abbrev pub stateWords : Counts → Fuel → Limiter → List ℕ
 stateWords k f p = standingWords k f p ++ p .script
 
+-- a machine's words: its records, then counts, fuel and limiter, whose script comes last
 unfoldable pub wordsOf : Machine → List ℕ
 wordsOf m = instanceWords m ++ stateWords (m .counts) (m .fuel) (m .limiter)
 
--- the record that stands at a place of a row
+-- the limits at a place of a row
 unfoldable pub limitsFrom : List ℕ → ℕ → Limits
 limitsFrom l a = record { minimum = getD l a 0; bounded = saysYes (getD l (a + 1) 0); maximum = getD l (a + 2) 0 }
 
+-- the memory at a place
 unfoldable pub memoryFrom : List ℕ → ℕ → Memory
 memoryFrom l a =
     record {
@@ -113,6 +134,7 @@ memoryFrom l a =
       size = getD l (a + 7) 0;
     }
 
+-- the table at a place
 unfoldable pub tableFrom : List ℕ → ℕ → Table
 tableFrom l a =
     record {
@@ -122,6 +144,7 @@ tableFrom l a =
       size = getD l (a + 7) 0;
     }
 
+-- the segment at a place
 unfoldable pub segmentFrom : List ℕ → ℕ → ElementSegment
 segmentFrom l a =
     record { ty = elementOf (saysYes (getD l a 0)); start = getD l (a + 1) 0; places = getD l (a + 2) 0; size = getD l (a + 3) 0 }
@@ -131,16 +154,19 @@ unfoldable pub recordsFrom : {A : Type 0} → (List ℕ → ℕ → A) → ℕ �
 recordsFrom f w l a zero = []
 recordsFrom f w l a (suc n) = f l a ∷ recordsFrom f w l (a + w) n
 
--- a cost has 32 bits, an answer of the script 8: of a larger word the low ones are read
+-- a cost has 32 bits: of a larger word the low ones are read
 abbrev pub costFrom : ℕ → ℕ
-costFrom n = n % 4294967296
+costFrom n = n % word32
 
+-- an answer of the script has 8
 abbrev pub answerFrom : ℕ → ℕ
-answerFrom n = n % 256
+answerFrom n = n % word8
 
+-- the numbers in use
 unfoldable pub countsFrom : List ℕ → Counts
 countsFrom l = record { memories = getD l countsAt 0; tables = getD l (countsAt + 1) 0; segments = getD l (countsAt + 2) 0 }
 
+-- the fuel of a row
 unfoldable pub fuelFrom : List ℕ → Fuel
 fuelFrom l =
     record {
@@ -149,10 +175,11 @@ fuelFrom l =
       costs = record { copied = costFrom (getD l (fuelAt + 2) 0); translated = costFrom (getD l (fuelAt + 3) 0); validated = costFrom (getD l (fuelAt + 4) 0) };
     }
 
+-- the limiter of a row
 unfoldable pub limiterFrom : List ℕ → Limiter
 limiterFrom l =
     record {
-      script = recordsFrom (λ (k : List ℕ) a. answerFrom (getD k a 0)) 1 l scriptAt 16;
+      script = recordsFrom (λ (k : List ℕ) a. answerFrom (getD k a 0)) 1 l scriptAt longestScript;
       count = getD l limiterAt 0;
       at = getD l (limiterAt + 1) 0;
     }
@@ -161,9 +188,9 @@ limiterFrom l =
 abbrev pub machineFrom : List ℕ → Machine
 machineFrom l =
     record {
-      memories = recordsFrom memoryFrom recordLength l 0 8;
-      tables = recordsFrom tableFrom recordLength l tablesAt 8;
-      segments = recordsFrom segmentFrom segmentLength l segmentsAt 8;
+      memories = recordsFrom memoryFrom recordLength l 0 capacity;
+      tables = recordsFrom tableFrom recordLength l tablesAt capacity;
+      segments = recordsFrom segmentFrom segmentLength l segmentsAt capacity;
       counts = countsFrom l;
       fuel = fuelFrom l;
       limiter = limiterFrom l;
@@ -174,13 +201,15 @@ unfoldable pub allAt : (List ℕ → ℕ → Bool) → ℕ → List ℕ → ℕ 
 allAt t w l a zero = true
 allAt t w l a (suc n) = both (t l a) (allAt t w l (a + w) n)
 
--- a word that says yes or no, a cost, an answer of the script
+-- a word that says yes or no
 abbrev pub flagAt : List ℕ → ℕ → Bool
 flagAt l a = leb (getD l a 0) 1
 
+-- a cost has 32 bits
 abbrev pub costAt : List ℕ → ℕ → Bool
-costAt l a = ltb (getD l a 0) (2 ^ 32)
+costAt l a = ltb (getD l a 0) word32
 
+-- the script answers 0, 1 or 2
 abbrev pub answerAt : List ℕ → ℕ → Bool
 answerAt l a = leb (getD l a 0) 2
 
@@ -188,6 +217,7 @@ answerAt l a = leb (getD l a 0) 2
 unfoldable pub recordInForm : List ℕ → ℕ → Bool
 recordInForm l a = both (flagAt l a) (both (flagAt l (a + 1)) (flagAt l (a + 3)))
 
+-- fuel's flag and its three costs
 unfoldable pub fuelInForm : List ℕ → Bool
 fuelInForm l = both (flagAt l (fuelAt + 1)) (both (costAt l (fuelAt + 2)) (both (costAt l (fuelAt + 3)) (costAt l (fuelAt + 4))))
 
@@ -195,6 +225,6 @@ fuelInForm l = both (flagAt l (fuelAt + 1)) (both (costAt l (fuelAt + 2)) (both 
 unfoldable pub inForm : List ℕ → Bool
 inForm l =
     both (leb rowLength (length l))
-    (both (allAt recordInForm recordLength l 0 8)
-    (both (allAt recordInForm recordLength l tablesAt 8)
-    (both (allAt flagAt segmentLength l segmentsAt 8) (both (fuelInForm l) (allAt answerAt 1 l scriptAt 16)))))
+    (both (allAt recordInForm recordLength l 0 capacity)
+    (both (allAt recordInForm recordLength l tablesAt capacity)
+    (both (allAt flagAt segmentLength l segmentsAt capacity) (both (fuelInForm l) (allAt answerAt 1 l scriptAt longestScript)))))

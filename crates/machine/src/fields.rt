@@ -3,8 +3,10 @@ use super::operation::Items;
 use super::operation::Script;
 use memory::access::StoreKind;
 use types::limiter::HandedOver;
+use types::limiter::LONGEST_SCRIPT;
 use types::limiter::Limiter;
 use types::span::CopySpan;
+use types::wide::WORD32;
 ghost use mathlib.Core.Path.{_≡_};
 ghost use Prim.Native.Nat.{_-_};
 ghost use lib.ListN.{take};
@@ -32,7 +34,7 @@ pub(crate) fn store_fields(kind: StoreKind, bits: u64) -> bool
     ensures { λ r. ⌜ r ≡ storeFields kind bits ⌝ }
 {
     if narrow_store(kind) {
-        return bits < 4294967296;
+        return bits < WORD32;
     }
     true
 }
@@ -53,7 +55,7 @@ fn digits_of(field: u64) -> [u8; 16]
 }
 
 // The first `count` of a row are handed over, or all of them.
-fn hand_leading(limiter: Limiter, row: [u8; 16], count: u64) -> HandedOver
+fn hand_leading(limiter: Limiter, row: [u8; LONGEST_SCRIPT], count: u64) -> HandedOver
     ensures { λ r. ⌜ r ≡ handOver limiter (take count row) ⌝ }
 {
     let n = count as usize;
@@ -147,8 +149,8 @@ pub(crate) fn item_fields(items: Items) -> bool
 pub(crate) fn init_fields(span: CopySpan) -> bool
     ensures { λ r. ⌜ r ≡ initFields span ⌝ }
 {
-    if 4294967296 <= span.from {
+    if WORD32 <= span.from {
         return false;
     }
-    span.len < 4294967296
+    span.len < WORD32
 }

@@ -25,7 +25,7 @@ ghost use Rattle.types.specs.Done.{done};
 ghost use Rattle.types.specs.Answer.{accept};
 ghost use Rattle.memory.specs.Memory.{pagesOf, storeMemory};
 ghost use Rattle.memory.specs.New.{newMemory};
-ghost use Rattle.machine.specs.Machine.{nextByte};
+ghost use Rattle.machine.specs.Machine.{capacity, nextByte};
 ghost use Rattle.machine.specs.Words.{rowLength, machineFrom};
 ghost use Rattle.machine.specs.Memories.{memoryKept, linked, linkTo, memoryStored, performMemory, memoryOut, memoryDone, onMemory, madeMemory, memoryMade, newMemoryOn};
 
@@ -169,7 +169,7 @@ pub(crate) fn on_memory(words: &[u64], bytes: &mut [u8], number: u64, op: Memory
 
 // A creation's outcome: the new number, or a refusal that takes neither number nor room.
 fn made_memory(words: &[u64], made: MadeMemory, limiter: Limiter) -> Outcome
-    requires { ⌜ (rowLength ≤ length (now words)) × ((machineFrom (now words)) .counts .memories < 8) ⌝ }
+    requires { ⌜ (rowLength ≤ length (now words)) × ((machineFrom (now words)) .counts .memories < capacity) ⌝ }
     ensures { λ r. ⌜ r ≡ madeMemory (machineFrom (now (words .entry))) made limiter ⌝ }
 {
     let counts = words::counts_from(words);
@@ -202,7 +202,7 @@ fn make_memory(
     room: u64,
     wanted: WantedMemory,
 ) -> Outcome
-    requires { ⌜ (rowLength ≤ length (now words)) × ((machineFrom (now words)) .counts .memories < 8) ⌝ }
+    requires { ⌜ (rowLength ≤ length (now words)) × ((machineFrom (now words)) .counts .memories < capacity) ⌝ }
     ensures { λ r. ⌜ done r (now (bytes .exit)) ≡ memoryMade (machineFrom (now (words .entry))) (newMemory wanted start room (now (bytes .entry)) ((machineFrom (now (words .entry))) .limiter)) ⌝ }
 {
     let limiter = words::limiter_from(words);

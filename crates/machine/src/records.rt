@@ -14,7 +14,10 @@ use types::table_ty::TableType;
 ghost use mathlib.Core.Path.{_≡_};
 ghost use lib.Dec.{leb, ltb};
 ghost use Rattle.types.specs.Pick.{both};
-ghost use Rattle.machine.specs.Machine.{noLimits, noMemory, noTable, noSegment, memoryAt, tableAt, segmentAt, freshMachine};
+ghost use Rattle.machine.specs.Machine.{capacity, noLimits, noMemory, noTable, noSegment, memoryAt, tableAt, segmentAt, freshMachine};
+
+// The places for memories, for tables and for segments.
+pub const CAPACITY: usize = 8;
 
 // How many instances there are.
 pub struct Counts {
@@ -24,9 +27,9 @@ pub struct Counts {
 }
 
 pub struct Machine {
-    pub memories: [Memory; 8],
-    pub tables: [Table; 8],
-    pub segments: [ElementSegment; 8],
+    pub memories: [Memory; CAPACITY],
+    pub tables: [Table; CAPACITY],
+    pub segments: [ElementSegment; CAPACITY],
     pub counts: Counts,
     pub fuel: Fuel,
     pub limiter: Limiter,
@@ -87,9 +90,9 @@ pub(crate) fn no_segment() -> ElementSegment
 
 // Whether one more instance finds a number and its room; else 17.
 pub(crate) fn finds_room(count: usize, room: u64, left: usize) -> bool
-    ensures { λ r. ⌜ r ≡ both (ltb count 8) (leb room left) ⌝ }
+    ensures { λ r. ⌜ r ≡ both (ltb count capacity) (leb room left) ⌝ }
 {
-    if count < 8 {
+    if count < CAPACITY {
         return room <= (left as u64);
     }
     false
@@ -106,9 +109,9 @@ impl Machine {
         let table = no_table();
         let segment = no_segment();
         Machine {
-            memories: [memory; 8],
-            tables: [table; 8],
-            segments: [segment; 8],
+            memories: [memory; CAPACITY],
+            tables: [table; CAPACITY],
+            segments: [segment; CAPACITY],
             counts: Counts {
                 memories: 0,
                 tables: 0,
@@ -123,7 +126,7 @@ impl Machine {
     pub fn memory_at(self, i: usize) -> Memory
         ensures { λ r. ⌜ r ≡ memoryAt self i ⌝ }
     {
-        if i < 8 {
+        if i < CAPACITY {
             return self.memories[i];
         }
         no_memory()
@@ -133,7 +136,7 @@ impl Machine {
     pub fn table_at(self, i: usize) -> Table
         ensures { λ r. ⌜ r ≡ tableAt self i ⌝ }
     {
-        if i < 8 {
+        if i < CAPACITY {
             return self.tables[i];
         }
         no_table()
@@ -143,7 +146,7 @@ impl Machine {
     pub fn segment_at(self, i: usize) -> ElementSegment
         ensures { λ r. ⌜ r ≡ segmentAt self i ⌝ }
     {
-        if i < 8 {
+        if i < CAPACITY {
             return self.segments[i];
         }
         no_segment()

@@ -6,6 +6,7 @@ use super::operation::Writes;
 use super::outcome::Change;
 use super::outcome::Outcome;
 use super::records;
+use super::records::CAPACITY;
 use super::records::Machine;
 use super::sound;
 use super::words;
@@ -41,7 +42,7 @@ pub(crate) fn memory_at(words: &[u64], i: usize) -> Memory
     requires { ⌜ rowLength ≤ length (now words) ⌝ }
     ensures { λ r. ⌜ r ≡ memoryAt (machineFrom (now (words .entry))) i ⌝ }
 {
-    if i < 8 {
+    if i < CAPACITY {
         return words::memory_from(words, RECORD * i);
     }
     records::no_memory()
@@ -52,7 +53,7 @@ pub(crate) fn table_at(words: &[u64], i: usize) -> Table
     requires { ⌜ rowLength ≤ length (now words) ⌝ }
     ensures { λ r. ⌜ r ≡ tableAt (machineFrom (now (words .entry))) i ⌝ }
 {
-    if i < 8 {
+    if i < CAPACITY {
         return words::table_from(words, TABLES + RECORD * i);
     }
     records::no_table()
@@ -63,7 +64,7 @@ pub(crate) fn segment_at(words: &[u64], i: usize) -> ElementSegment
     requires { ⌜ rowLength ≤ length (now words) ⌝ }
     ensures { λ r. ⌜ r ≡ segmentAt (machineFrom (now (words .entry))) i ⌝ }
 {
-    if i < 8 {
+    if i < CAPACITY {
         return words::segment_from(words, SEGMENTS + SEGMENT * i);
     }
     records::no_segment()
@@ -178,7 +179,7 @@ fn put_memory(words: &mut [u64], i: usize, memory: Memory)
     requires { ⌜ rowLength ≤ length (now words) ⌝ }
     ensures { λ _. ⌜ now (words .exit) ≡ changedRow (now (words .entry)) (change.Memory i memory) ⌝ }
 {
-    if i < 8 {
+    if i < CAPACITY {
         let row = words::memory_words(memory);
         words::put(words, RECORD * i, &row);
     }
@@ -188,7 +189,7 @@ fn put_table(words: &mut [u64], i: usize, table: Table)
     requires { ⌜ rowLength ≤ length (now words) ⌝ }
     ensures { λ _. ⌜ now (words .exit) ≡ changedRow (now (words .entry)) (change.Table i table) ⌝ }
 {
-    if i < 8 {
+    if i < CAPACITY {
         let row = words::table_words(table);
         words::put(words, TABLES + RECORD * i, &row);
     }
@@ -198,7 +199,7 @@ fn put_segment(words: &mut [u64], i: usize, segment: ElementSegment)
     requires { ⌜ rowLength ≤ length (now words) ⌝ }
     ensures { λ _. ⌜ now (words .exit) ≡ changedRow (now (words .entry)) (change.Segment i segment) ⌝ }
 {
-    if i < 8 {
+    if i < CAPACITY {
         let row = words::segment_words(segment);
         words::put(words, SEGMENTS + SEGMENT * i, &row);
     }

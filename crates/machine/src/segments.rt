@@ -21,7 +21,7 @@ ghost use Rattle.types.specs.Done.{done};
 ghost use Rattle.types.specs.Raw.{rawBytes};
 ghost use Rattle.table.specs.Init.{initTable};
 ghost use Rattle.table.specs.Element.{newSegment};
-ghost use Rattle.machine.specs.Machine.{nextItem};
+ghost use Rattle.machine.specs.Machine.{capacity, nextItem};
 ghost use Rattle.machine.specs.Words.{rowLength, machineFrom};
 ghost use Rattle.machine.specs.Operation.{itemsOf};
 ghost use Rattle.machine.specs.Tables.{spannedDone};
@@ -93,7 +93,7 @@ pub(crate) fn drop_segment(words: &[u64], number: u64) -> Outcome
 }
 
 fn made_segment(words: &[u64], made: MadeSegment) -> Outcome
-    requires { ⌜ (rowLength ≤ length (now words)) × ((machineFrom (now words)) .counts .segments < 8) ⌝ }
+    requires { ⌜ (rowLength ≤ length (now words)) × ((machineFrom (now words)) .counts .segments < capacity) ⌝ }
     ensures { λ r. ⌜ r ≡ madeSegment (machineFrom (now (words .entry))) made ⌝ }
 {
     let counts = words::counts_from(words);
@@ -122,7 +122,7 @@ fn make_segment(
     element: RefType,
     given: &[u64],
 ) -> Outcome
-    requires { ⌜ (rowLength ≤ length (now words)) × ((machineFrom (now words)) .counts .segments < 8) ⌝ }
+    requires { ⌜ (rowLength ≤ length (now words)) × ((machineFrom (now words)) .counts .segments < capacity) ⌝ }
     ensures { λ r. ⌜ done r (now (items .exit)) ≡ segmentMade (machineFrom (now (words .entry))) (newSegment element start (now (items .entry)) (now (given .entry))) ⌝ }
 {
     let made = ElementSegment::new(element, start, items, given);

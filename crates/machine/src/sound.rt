@@ -1,7 +1,9 @@
 // When a machine's records and buffers are sound: one test, at the entry.
+use super::records::CAPACITY;
 use super::records::Machine;
 use super::row;
 use super::words;
+use types::wide::WORD32;
 ghost use mathlib.Core.Path.{_≡_};
 ghost use Prim.Native.Nat.{_≤_};
 ghost use lib.ListN.{length};
@@ -11,10 +13,10 @@ ghost use Rattle.machine.specs.Sound.{soundMemories, soundTables, soundS
 fn sound_references(cells: usize, items: usize) -> bool
     ensures { λ r. ⌜ r ≡ soundReferences cells items ⌝ }
 {
-    if 4294967296 < cells {
+    if WORD32 < (cells as u64) {
         return false;
     }
-    items <= 4294967296
+    (items as u64) <= WORD32
 }
 
 // Whether each memory in use is sound and starts where the one before it ends.
@@ -24,7 +26,7 @@ fn sound_memories(words: &[u64], len: usize) -> bool
 {
     let counts = words::counts_from(words);
     let count = counts.memories;
-    if 8 < count {
+    if CAPACITY < count {
         return false;
     }
     let mut from = 0;
@@ -50,7 +52,7 @@ fn sound_tables(words: &[u64], len: usize) -> bool
 {
     let counts = words::counts_from(words);
     let count = counts.tables;
-    if 8 < count {
+    if CAPACITY < count {
         return false;
     }
     let mut from = 0;
@@ -76,7 +78,7 @@ fn sound_segments(words: &[u64], len: usize) -> bool
 {
     let counts = words::counts_from(words);
     let count = counts.segments;
-    if 8 < count {
+    if CAPACITY < count {
         return false;
     }
     let mut from = 0;

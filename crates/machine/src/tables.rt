@@ -28,7 +28,7 @@ ghost use Rattle.table.specs.Table.{setTable};
 ghost use Rattle.table.specs.New.{newTable};
 ghost use Rattle.table.specs.Fill.{fillTable};
 ghost use Rattle.table.specs.Copy.{copyTable, copyWithin};
-ghost use Rattle.machine.specs.Machine.{nextCell};
+ghost use Rattle.machine.specs.Machine.{capacity, nextCell};
 ghost use Rattle.machine.specs.Words.{rowLength, machineFrom};
 ghost use Rattle.machine.specs.Tables.{tableKept, tableStored, tableSpanned, performTable, tableOut, tableDone, onTable, spannedOut, spannedDone, copyKnown, copyOn, madeTable, tableMade, newTableOn};
 
@@ -212,7 +212,7 @@ pub(crate) fn table_copy(
 
 // A creation's outcome: the new number, or a refusal that takes neither number nor room.
 fn made_table(words: &[u64], made: MadeTable, limiter: Limiter) -> Outcome
-    requires { ⌜ (rowLength ≤ length (now words)) × ((machineFrom (now words)) .counts .tables < 8) ⌝ }
+    requires { ⌜ (rowLength ≤ length (now words)) × ((machineFrom (now words)) .counts .tables < capacity) ⌝ }
     ensures { λ r. ⌜ r ≡ madeTable (machineFrom (now (words .entry))) made limiter ⌝ }
 {
     let counts = words::counts_from(words);
@@ -246,7 +246,7 @@ fn make_table(
     wanted: WantedTable,
     initial: TypedRawRef,
 ) -> Outcome
-    requires { ⌜ (rowLength ≤ length (now words)) × ((machineFrom (now words)) .counts .tables < 8) ⌝ }
+    requires { ⌜ (rowLength ≤ length (now words)) × ((machineFrom (now words)) .counts .tables < capacity) ⌝ }
     ensures { λ r. ⌜ done r (now (cells .exit)) ≡ tableMade (machineFrom (now (words .entry))) (newTable wanted initial start room (now (cells .entry)) ((machineFrom (now (words .entry))) .limiter)) ⌝ }
 {
     let limiter = words::limiter_from(words);

@@ -1,4 +1,5 @@
 // A machine in place: the words of its records, the record that stands at a place of a row, and the row of a machine that goes by value.
+use super::records::CAPACITY;
 use super::records::Counts;
 use super::records::Machine;
 use memory::memory::Memory;
@@ -7,17 +8,20 @@ use table::table::Table;
 use types::fuel::Fuel;
 use types::fuel::FuelCosts;
 use types::index_ty::IndexType;
+use types::limiter::LONGEST_SCRIPT;
 use types::limiter::Limiter;
 use types::limits::Limits;
 use types::memory_ty::MemoryType;
 use types::memory_ty::PageSize;
 use types::raw::RefType;
 use types::table_ty::TableType;
+use types::wide::WORD32;
 ghost use mathlib.Core.Path.{_≡_};
-ghost use Prim.Native.Nat.{_+_, _≤_};
+ghost use Prim.Native.Nat.{_+_, _-_, _*_, _≤_};
 ghost use lib.ListN.{length, replicate};
 ghost use Rattle.types.specs.Span.{over};
-ghost use Rattle.machine.specs.Words.{rowLength, yesWord, isWasm, pageOf, isExtern, elementOf, memoryWords, tableWords, segmentWords};
+ghost use Rattle.machine.specs.Machine.{capacity};
+ghost use Rattle.machine.specs.Words.{recordLength, segmentLength, countsAt, rowLength, yesWord, isWasm, pageOf, isExtern, elementOf, memoryWords, tableWords, segmentWords};
 ghost use Rattle.machine.specs.Words.{countWords, fuelWords, placeWords, rowsOf, instanceWords, standingWords, stateWords, wordsOf};
 ghost use Rattle.machine.specs.Words.{limitsFrom, memoryFrom, tableFrom, segmentFrom, countsFrom, costFrom, answerFrom, fuelFrom, limiterFrom, machineFrom};
 
@@ -27,11 +31,11 @@ pub(crate) const RECORD: usize = 8;
 pub(crate) const SEGMENT: usize = 4;
 
 // Where each part of a row starts, and how many words it has.
-pub(crate) const TABLES: usize = 8 * RECORD;
+pub(crate) const TABLES: usize = CAPACITY * RECORD;
 
-pub(crate) const SEGMENTS: usize = TABLES + 8 * RECORD;
+pub(crate) const SEGMENTS: usize = TABLES + CAPACITY * RECORD;
 
-pub(crate) const COUNTS: usize = SEGMENTS + 8 * SEGMENT;
+pub(crate) const COUNTS: usize = SEGMENTS + CAPACITY * SEGMENT;
 
 pub(crate) const FUEL: usize = COUNTS + 3;
 
@@ -39,7 +43,7 @@ pub(crate) const LIMITER: usize = FUEL + 5;
 
 pub(crate) const SCRIPT: usize = LIMITER + 2;
 
-pub const ROW: usize = SCRIPT + 16;
+pub const ROW: usize = SCRIPT + LONGEST_SCRIPT;
 
 // A yes is 1, a no 0.
 fn yes_word(yes: bool) -> u64
@@ -85,7 +89,7 @@ fn element_of(external: bool) -> RefType
 }
 
 // The words of each record.
-pub(crate) fn memory_words(r: Memory) -> [u64; 8]
+pub(crate) fn memory_words(r: Memory) -> [u64; RECORD]
     ensures { λ w. ⌜ w ≡ memoryWords r ⌝ }
 {
     let ty = r.ty;
@@ -107,7 +111,7 @@ pub(crate) fn memory_words(r: Memory) -> [u64; 8]
     ]
 }
 
-pub(crate) fn table_words(r: Table) -> [u64; 8]
+pub(crate) fn table_words(r: Table) -> [u64; RECORD]
     ensures { λ w. ⌜ w ≡ tableWords r ⌝ }
 {
     let ty = r.ty;
@@ -129,7 +133,7 @@ pub(crate) fn table_words(r: Table) -> [u64; 8]
     ]
 }
 
-pub(crate) fn segment_words(r: ElementSegment) -> [u64; 4]
+pub(crate) fn segment_words(r: ElementSegment) -> [u64; SEGMENT]
     ensures { λ w. ⌜ w ≡ segmentWords r ⌝ }
 {
     let ty = r.ty;
@@ -197,36 +201,36 @@ fn put_bytes(words: &mut [u64], at: usize, row: &[u8])
     }
 }
 
-fn put_memories(words: &mut [u64], at: usize, memories: [Memory; 8])
-    requires { ⌜ at + 64 ≤ length (now words) ⌝ }
-    ensures { λ _. ⌜ (now (words .exit) ≡ over (now (words .entry)) at (rowsOf memoryWords memories)) × (length (rowsOf memoryWords memories) ≡ 64) ⌝ }
+fn put_memories(words: &mut [u64], at: usize, memories: [Memory; CAPACITY])
+    requires { ⌜ at + capacity * recordLength ≤ length (now words) ⌝ }
+    ensures { λ _. ⌜ (now (words .exit) ≡ over (now (words .entry)) at (rowsOf memoryWords memories)) × (length (rowsOf memoryWords memories) ≡ capacity * recordLength) ⌝ }
 {
     let mut i: usize = 0;
-    while i < 8 {
+    while i < CAPACITY {
         let row = memory_words(memories[i]);
         put(words, at + RECORD * i, &row);
         i += 1;
     }
 }
 
-fn put_tables(words: &mut [u64], at: usize, tables: [Table; 8])
-    requires { ⌜ at + 64 ≤ length (now words) ⌝ }
-    ensures { λ _. ⌜ (now (words .exit) ≡ over (now (words .entry)) at (rowsOf tableWords tables)) × (length (rowsOf tableWords tables) ≡ 64) ⌝ }
+fn put_tables(words: &mut [u64], at: usize, tables: [Table; CAPACITY])
+    requires { ⌜ at + capacity * recordLength ≤ length (now words) ⌝ }
+    ensures { λ _. ⌜ (now (words .exit) ≡ over (now (words .entry)) at (rowsOf tableWords tables)) × (length (rowsOf tableWords tables) ≡ capacity * recordLength) ⌝ }
 {
     let mut i: usize = 0;
-    while i < 8 {
+    while i < CAPACITY {
         let row = table_words(tables[i]);
         put(words, at + RECORD * i, &row);
         i += 1;
     }
 }
 
-fn put_segments(words: &mut [u64], at: usize, segments: [ElementSegment; 8])
-    requires { ⌜ at + 32 ≤ length (now words) ⌝ }
-    ensures { λ _. ⌜ (now (words .exit) ≡ over (now (words .entry)) at (rowsOf segmentWords segments)) × (length (rowsOf segmentWords segments) ≡ 32) ⌝ }
+fn put_segments(words: &mut [u64], at: usize, segments: [ElementSegment; CAPACITY])
+    requires { ⌜ at + capacity * segmentLength ≤ length (now words) ⌝ }
+    ensures { λ _. ⌜ (now (words .exit) ≡ over (now (words .entry)) at (rowsOf segmentWords segments)) × (length (rowsOf segmentWords segments) ≡ capacity * segmentLength) ⌝ }
 {
     let mut i: usize = 0;
-    while i < 8 {
+    while i < CAPACITY {
         let row = segment_words(segments[i]);
         put(words, at + SEGMENT * i, &row);
         i += 1;
@@ -235,7 +239,7 @@ fn put_segments(words: &mut [u64], at: usize, segments: [ElementSegment; 8])
 
 fn put_instances(words: &mut [u64], machine: Machine)
     requires { ⌜ rowLength ≤ length (now words) ⌝ }
-    ensures { λ _. ⌜ (now (words .exit) ≡ over (now (words .entry)) 0 (instanceWords machine)) × (length (instanceWords machine) ≡ 160) ⌝ }
+    ensures { λ _. ⌜ (now (words .exit) ≡ over (now (words .entry)) 0 (instanceWords machine)) × (length (instanceWords machine) ≡ countsAt) ⌝ }
 {
     let memories = machine.memories;
     let tables = machine.tables;
@@ -248,7 +252,7 @@ fn put_instances(words: &mut [u64], machine: Machine)
 // The numbers in use, fuel and the script's place.
 pub(crate) fn put_standing(words: &mut [u64], counts: Counts, fuel: Fuel, limiter: Limiter)
     requires { ⌜ rowLength ≤ length (now words) ⌝ }
-    ensures { λ _. ⌜ now (words .exit) ≡ over (now (words .entry)) 160 (standingWords counts fuel limiter) ⌝ }
+    ensures { λ _. ⌜ now (words .exit) ≡ over (now (words .entry)) countsAt (standingWords counts fuel limiter) ⌝ }
 {
     let first = count_words(counts);
     let next = fuel_words(fuel);
@@ -261,7 +265,7 @@ pub(crate) fn put_standing(words: &mut [u64], counts: Counts, fuel: Fuel, limite
 // The same with the script's answers.
 pub(crate) fn put_state(words: &mut [u64], counts: Counts, fuel: Fuel, limiter: Limiter)
     requires { ⌜ rowLength ≤ length (now words) ⌝ }
-    ensures { λ _. ⌜ (now (words .exit) ≡ over (now (words .entry)) 160 (stateWords counts fuel limiter)) × (length (stateWords counts fuel limiter) ≡ 26) ⌝ }
+    ensures { λ _. ⌜ (now (words .exit) ≡ over (now (words .entry)) countsAt (stateWords counts fuel limiter)) × (length (stateWords counts fuel limiter) ≡ rowLength - countsAt) ⌝ }
 {
     let script = limiter.script;
     put_standing(words, counts, fuel, limiter);
@@ -293,7 +297,7 @@ fn limits_from(words: &[u64], at: usize) -> Limits
 }
 
 pub(crate) fn memory_from(words: &[u64], at: usize) -> Memory
-    requires { ⌜ at + 8 ≤ length (now words) ⌝ }
+    requires { ⌜ at + recordLength ≤ length (now words) ⌝ }
     ensures { λ r. ⌜ r ≡ memoryFrom (now (words .entry)) at ⌝ }
 {
     let index = IndexType::of(words[at] == 1);
@@ -312,7 +316,7 @@ pub(crate) fn memory_from(words: &[u64], at: usize) -> Memory
 }
 
 pub(crate) fn table_from(words: &[u64], at: usize) -> Table
-    requires { ⌜ at + 8 ≤ length (now words) ⌝ }
+    requires { ⌜ at + recordLength ≤ length (now words) ⌝ }
     ensures { λ r. ⌜ r ≡ tableFrom (now (words .entry)) at ⌝ }
 {
     let element = element_of(words[at] == 1);
@@ -331,7 +335,7 @@ pub(crate) fn table_from(words: &[u64], at: usize) -> Table
 }
 
 pub(crate) fn segment_from(words: &[u64], at: usize) -> ElementSegment
-    requires { ⌜ at + 4 ≤ length (now words) ⌝ }
+    requires { ⌜ at + segmentLength ≤ length (now words) ⌝ }
     ensures { λ r. ⌜ r ≡ segmentFrom (now (words .entry)) at ⌝ }
 {
     let ty = element_of(words[at] == 1);
@@ -357,7 +361,7 @@ pub(crate) fn counts_from(words: &[u64]) -> Counts
 fn cost_from(word: u64) -> u32
     ensures { λ r. ⌜ r ≡ costFrom word ⌝ }
 {
-    (word % 4294967296) as u32
+    (word % WORD32) as u32
 }
 
 pub(crate) fn fuel_from(words: &[u64]) -> Fuel
@@ -384,13 +388,13 @@ fn answer_from(word: u64) -> u8
     (word % 256) as u8
 }
 
-fn script_from(words: &[u64]) -> [u8; 16]
+fn script_from(words: &[u64]) -> [u8; LONGEST_SCRIPT]
     requires { ⌜ rowLength ≤ length (now words) ⌝ }
     ensures { λ r. ⌜ r ≡ limiterFrom (now (words .entry)) .script ⌝ }
 {
-    let mut script = [0u8; 16];
+    let mut script = [0u8; LONGEST_SCRIPT];
     let mut i: usize = 0;
-    while i < 16 {
+    while i < LONGEST_SCRIPT {
         script[i] = answer_from(words[SCRIPT + i]);
         i += 1;
     }

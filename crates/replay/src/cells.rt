@@ -1,4 +1,5 @@
 // The cells of a machine's memories and tables, in hexadecimal.
+use machine::records::CAPACITY;
 use machine::records::Machine;
 use memory::memory::Memory;
 use table::table::Table;
@@ -144,7 +145,7 @@ fn table(number: usize, table: Table, cells: &[u64]) -> bool {
 fn memories(machine: Machine, bytes: &[u8], out: &mut [u8]) -> bool {
     let count = machine.counts.memories;
     let mut i = 0;
-    while i < 8 {
+    while i < CAPACITY {
         if count <= i {
             return true;
         }
@@ -159,7 +160,7 @@ fn memories(machine: Machine, bytes: &[u8], out: &mut [u8]) -> bool {
 fn tables(machine: Machine, cells: &[u64]) -> bool {
     let count = machine.counts.tables;
     let mut i = 0;
-    while i < 8 {
+    while i < CAPACITY {
         if count <= i {
             return true;
         }

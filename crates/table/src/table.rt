@@ -7,6 +7,7 @@ use types::fuel::Fuel;
 use types::grant::Spanned;
 use types::raw::TypedRawRef;
 use types::table_ty::TableType;
+use types::wide::WORD32;
 ghost use mathlib.Core.Path.{_≡_};
 ghost use lib.Dec.{leb};
 ghost use lib.ListN.{length};
@@ -46,7 +47,7 @@ pub(crate) fn not_spanned(number: u8, fuel: Fuel) -> Spanned
 pub(crate) fn sound_buffer(start: usize, places: u64, len: usize) -> bool
     ensures { λ r. ⌜ r ≡ soundBuffer start places len ⌝ }
 {
-    if 4294967296 < len {
+    if WORD32 < (len as u64) {
         return false;
     }
     types::span::within(start as u64, places, len as u64)

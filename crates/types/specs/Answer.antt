@@ -9,6 +9,7 @@ use Rattle.types.specs.{Pick.pick, declared.answer.Value.Value, declared
 unfoldable pub float32 : ℕ → Value
 float32 n = pick (nanBits binary32 n) (Value.Nan32 n) (Value.F32 (ofBits binary32 n))
 
+-- the same of 64 bits
 unfoldable pub float64 : ℕ → Value
 float64 n = pick (nanBits binary64 n) (Value.Nan64 n) (Value.F64 (ofBits binary64 n))
 

@@ -6,7 +6,7 @@ pub use Rattle.types.specs.Done.{Done, done, spanDone}
 pub use Rattle.types.specs.Answer.{float32, float64, bitsOf, refusal, refuse, accept, numberOf, shownOf}
 pub use Rattle.types.specs.Price.{price}
 pub use Rattle.types.specs.Fuel.{defaultCosts, newFuel, left, short, paid, setFuel, getFuel, consumeUnchecked, consume, consumeIf}
-pub use Rattle.types.specs.Limiter.{limiterOf, noLimiter, saysOf, moved, heardOf, noticed, wellFormed, handOver}
+pub use Rattle.types.specs.Limiter.{longestScript, limiterOf, noLimiter, saysOf, moved, heardOf, noticed, wellFormed, handOver}
 pub use Rattle.types.specs.Span.{inside, cut, over}
 pub use Rattle.types.specs.IndexType.{maxSize, is64, indexOf}
 pub use Rattle.types.specs.Limits.{admitsOf}

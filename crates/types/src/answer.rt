@@ -1,4 +1,5 @@
 // Answers: a value with its kind, or a refusal with its number and amount.
+use super::wide::WORD32;
 ghost use mathlib.Core.Path.{_≡_};
 ghost use lib.Ieee.{binary32, binary64, nanBits, toBits};
 ghost use mir.Syntax.{w64};
@@ -93,7 +94,7 @@ impl Value {
         ensures { λ r. ⌜ r ≡ bitsOf self ⌝ }
     {
         match self {
-            Value::I32(z) => unsigned(z as i64) % 4294967296,
+            Value::I32(z) => unsigned(z as i64) % WORD32,
             Value::I64(z) => unsigned(z),
             Value::F32(x) => bits32(x) as u64,
             Value::F64(x) => bits64(x),

@@ -1,4 +1,5 @@
 // The index type of memories and tables.
+use super::wide::WORD32;
 use super::wide::Wide;
 ghost use mathlib.Core.Path.{_≡_};
 ghost use Rattle.types.specs.IndexType.{is64, indexOf, sameIndex, smaller, maxSize};
@@ -61,7 +62,7 @@ impl IndexType {
         match self {
             IndexType::I32 => Wide {
                 high: 0,
-                low: 4294967296,
+                low: WORD32,
             },
             IndexType::I64 => Wide { high: 1, low: 0 },
         }

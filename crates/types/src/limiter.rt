@@ -5,10 +5,13 @@ use super::answer::Value;
 ghost use mathlib.Core.Path.{_≡_};
 ghost use Prim.Native.Nat.{_≤_};
 ghost use lib.ListN.{length};
-ghost use Rattle.types.specs.Limiter.{noLimiter, saysOf, moved, ask, notify, permitOf, heardOf, wellFormed, padded, takenOf, handOver};
+ghost use Rattle.types.specs.Limiter.{longestScript, noLimiter, saysOf, moved, ask, notify, permitOf, heardOf, wellFormed, padded, takenOf, handOver};
+
+// The most answers that a script has.
+pub const LONGEST_SCRIPT: usize = 16;
 
 pub struct Limiter {
-    pub script: [u8; 16],
+    pub script: [u8; LONGEST_SCRIPT],
     pub count: usize,
     pub at: usize,
 }
@@ -39,7 +42,7 @@ impl Limiter {
         ensures { λ r. ⌜ r ≡ noLimiter ⌝ }
     {
         Limiter {
-            script: [0u8; 16],
+            script: [0u8; LONGEST_SCRIPT],
             count: 0,
             at: 0,
         }
@@ -53,7 +56,7 @@ impl Limiter {
         if self.count <= at {
             return 0;
         }
-        if 16 <= at {
+        if LONGEST_SCRIPT <= at {
             return 0;
         }
         self.script[at]
@@ -142,7 +145,7 @@ fn heard(said: u8, refusal: Refusal) -> Refusal
 fn well_formed(script: &[u8]) -> bool
     ensures { λ r. ⌜ r ≡ wellFormed (now (script .entry)) ⌝ }
 {
-    if 16 < script.len() {
+    if LONGEST_SCRIPT < script.len() {
         return false;
     }
     let mut i = 0;
@@ -156,11 +159,11 @@ fn well_formed(script: &[u8]) -> bool
 }
 
 // The script in its row, with zeros behind it.
-fn row_of(script: &[u8]) -> [u8; 16]
-    requires { ⌜ length (now script) ≤ 16 ⌝ }
+fn row_of(script: &[u8]) -> [u8; LONGEST_SCRIPT]
+    requires { ⌜ length (now script) ≤ longestScript ⌝ }
     ensures { λ r. ⌜ r ≡ padded (now (script .entry)) ⌝ }
 {
-    let mut row = [0u8; 16];
+    let mut row = [0u8; LONGEST_SCRIPT];
     let mut i = 0;
     while i < script.len() {
         row[i] = script[i];
@@ -171,7 +174,7 @@ fn row_of(script: &[u8]) -> [u8; 16]
 
 // The limiter of a script, at its start.
 fn taken(script: &[u8]) -> HandedOver
-    requires { ⌜ length (now script) ≤ 16 ⌝ }
+    requires { ⌜ length (now script) ≤ longestScript ⌝ }
     ensures { λ r. ⌜ r ≡ takenOf (now (script .entry)) ⌝ }
 {
     let script_row = row_of(script);

@@ -2,6 +2,7 @@
 use super::answer::Refusal;
 use super::index_ty::IndexType;
 use super::limits::Limits;
+use super::wide::WORD32;
 use super::wide::Wide;
 ghost use mathlib.Core.Path.{_≡_};
 ghost use Prim.Native.Nat.{_*_};
@@ -160,7 +161,7 @@ impl MemoryType {
         }
         let index = self.index;
         match index {
-            IndexType::I32 => ByteSize::Bytes(4294967296),
+            IndexType::I32 => ByteSize::Bytes(WORD32),
             IndexType::I64 => ByteSize::Overflow,
         }
     }

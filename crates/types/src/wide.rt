@@ -4,6 +4,9 @@ ghost use Prim.Native.Nat.{_/_, _^_, _<_};
 ghost use lib.Dec.{leb, ltb};
 ghost use Rattle.types.specs.Wide.{halves, whole};
 
+// How many numbers of 32 bits there are.
+pub const WORD32: u64 = 4294967296;
+
 pub struct Wide {
     pub high: u64,
     pub low: u64,

@@ -2,14 +2,15 @@
 use Rattle.types.specs.Prelude.{ℕ, true, List, eqb, leb, length, replicate}
 use Rattle.types.specs.Names.{pick, over, numberOf, shownOf, rawBytes}
 use Rattle.machine.specs.{Machine.Buffers, Row.InRow, Row.rowKeeps, Row.operateRow, Row.fuelOf}
-use Rattle.lines.specs.{Line.noLine, Code.operationOf, AnswerLine.fuelShown, declared.line.Line.Line, declared.code.Read.Read}
+use Rattle.lines.specs.{Line.mostFields, Line.noLine, Code.operationOf, AnswerLine.fuelShown, declared.line.Line.Line, declared.code.Read.Read}
 
--- a code and at most 8 fields as a line's numbers
+-- a code and its fields as a line's numbers
 abbrev pub goodLine : ℕ → ℕ → List ℕ → Line
 goodLine code count list = record { good = true; code = code; count = count; list = list }
 
+-- with too many fields it is none
 unfoldable pub lineFrom : ℕ → List ℕ → Line
-lineFrom code fields = pick (leb (length fields) 8) (goodLine code (length fields) (over (replicate 8 0) 0 fields)) noLine
+lineFrom code fields = pick (leb (length fields) mostFields) (goodLine code (length fields) (over (replicate mostFields 0) 0 fields)) noLine
 
 -- the answer: an operation's own; what is no operation, the making of a machine too, is 18, and nothing changes
 unfoldable pub answered : Read → List ℕ → Buffers → InRow
@@ -25,6 +26,7 @@ pub record Call : Type 0 where
   pub words : List ℕ
   pub buffers : Buffers
 
+-- all five
 abbrev pub call : ℕ → ℕ → ℕ → List ℕ → Buffers → Call
 call number value fuel words b = record { number = number; value = value; fuel = fuel; words = words; buffers = b }
 

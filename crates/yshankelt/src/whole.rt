@@ -4,6 +4,7 @@ use lines::code;
 use lines::code::Read;
 use lines::line;
 use lines::line::Line;
+use lines::line::MOST_FIELDS;
 use machine::row;
 use machine::words::ROW;
 use types::answer::Answer;
@@ -18,6 +19,7 @@ ghost use Rattle.types.specs.Span.{over};
 ghost use Rattle.machine.specs.Machine.{Buffers, buffers};
 ghost use Rattle.machine.specs.Words.{rowLength};
 ghost use Rattle.machine.specs.Row.{rowed, freshRow, inRow, rowPages, rowCells};
+ghost use Rattle.lines.specs.Line.{mostFields};
 ghost use Rattle.lines.specs.Session.{costsOf};
 ghost use Rattle.lines.specs.AnswerLine.{fuelShown};
 ghost use Rattle.yshankelt.specs.Face.{Given};
@@ -61,10 +63,10 @@ fn field(fields: &[u64], i: usize) -> u64
     0
 }
 
-// The fields, and zeros up to 8 behind them.
-fn padded(fields: &[u64]) -> [u64; 8]
-    requires { ⌜ length (now fields) ≤ 8 ⌝ }
-    ensures { λ r. ⌜ r ≡ over (replicate 8 0) 0 (now (fields .entry)) ⌝ }
+// The fields, and zeros behind them.
+fn padded(fields: &[u64]) -> [u64; MOST_FIELDS]
+    requires { ⌜ length (now fields) ≤ mostFields ⌝ }
+    ensures { λ r. ⌜ r ≡ over (replicate mostFields 0) 0 (now (fields .entry)) ⌝ }
 {
     [
         field(fields, 0),
@@ -82,7 +84,7 @@ fn line_from(code: u8, fields: &[u64]) -> Line
     ensures { λ r. ⌜ r ≡ lineFrom code (now (fields .entry)) ⌝ }
 {
     let count = fields.len();
-    if 8 < count {
+    if MOST_FIELDS < count {
         return line::no_line();
     }
     let list = padded(fields);

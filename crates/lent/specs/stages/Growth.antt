@@ -16,7 +16,7 @@ use Rattle.memory.specs.declared.grow.GrownMemory.{GrownMemory}
 use Rattle.table.specs.Grow.{growTable}
 use Rattle.table.specs.declared.table.Table.{Table}
 use Rattle.table.specs.declared.grow.GrownTable.{GrownTable}
-use Rattle.machine.specs.Machine.{noMemory, noTable, noSegment}
+use Rattle.machine.specs.Machine.{capacity, noMemory, noTable, noSegment}
 use Rattle.machine.specs.declared.records.Machine.{Machine}
 use Rattle.lent.specs.Growth.{Lending}
 use Rattle.lent.specs.Memories as memories
@@ -28,8 +28,8 @@ unfoldable pub memoriesAlone : ℕ → List Memory → Fuel → Limiter → Mach
 memoriesAlone n ms f l =
     record {
       memories = ms;
-      tables = replicate 8 noTable;
-      segments = replicate 8 noSegment;
+      tables = replicate capacity noTable;
+      segments = replicate capacity noSegment;
       counts = record { memories = n; tables = 0; segments = 0 };
       fuel = f;
       limiter = l;
@@ -39,9 +39,9 @@ memoriesAlone n ms f l =
 unfoldable pub tablesAlone : ℕ → List Table → Fuel → Limiter → Machine
 tablesAlone n ts f l =
     record {
-      memories = replicate 8 noMemory;
+      memories = replicate capacity noMemory;
       tables = ts;
-      segments = replicate 8 noSegment;
+      segments = replicate capacity noSegment;
       counts = record { memories = 0; tables = n; segments = 0 };
       fuel = f;
       limiter = l;

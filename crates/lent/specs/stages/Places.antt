@@ -9,7 +9,7 @@ use Rattle.types.specs.Answer.{accept}
 use Rattle.memory.specs.declared.memory.Memory.{Memory}
 use Rattle.table.specs.declared.table.Table.{Table}
 use Rattle.table.specs.declared.element.ElementSegment.{ElementSegment}
-use Rattle.machine.specs.Machine.{Buffers, buffers, memoryAt, tableAt, segmentAt}
+use Rattle.machine.specs.Machine.{capacity, Buffers, buffers, memoryAt, tableAt, segmentAt}
 use Rattle.machine.specs.Step.{Performed, decide}
 use Rattle.machine.specs.declared.records.Machine.{Machine}
 use Rattle.machine.specs.declared.outcome.Outcome.{Outcome}
@@ -44,21 +44,21 @@ firstPlaces m o =
 -- another memory, for its place among the 8
 unfoldable pub putMemory : ℕ → Memory → Placed → Placed
 putMemory i r p =
-    pick (ltb i 8)
+    pick (ltb i capacity)
     (record { «memory_at» = i; memory = r; «table_at» = p .«table_at»; table = p .table; «segment_at» = p .«segment_at»; segment = p .segment; standing = p .standing; fuel = p .fuel; answer = p .answer })
     p
 
 -- another table
 unfoldable pub putTable : ℕ → Table → Placed → Placed
 putTable i r p =
-    pick (ltb i 8)
+    pick (ltb i capacity)
     (record { «memory_at» = p .«memory_at»; memory = p .memory; «table_at» = i; table = r; «segment_at» = p .«segment_at»; segment = p .segment; standing = p .standing; fuel = p .fuel; answer = p .answer })
     p
 
 -- another segment
 unfoldable pub putSegment : ℕ → ElementSegment → Placed → Placed
 putSegment i r p =
-    pick (ltb i 8)
+    pick (ltb i capacity)
     (record { «memory_at» = p .«memory_at»; memory = p .memory; «table_at» = p .«table_at»; table = p .table; «segment_at» = i; segment = r; standing = p .standing; fuel = p .fuel; answer = p .answer })
     p
 

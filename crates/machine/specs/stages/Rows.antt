@@ -5,12 +5,14 @@ use mathlib.Core.Bool.{Bool, true}
 use mathlib.Core.List.{List}
 use lib.Dec.{leb, ltb}
 use lib.ListN.{length, getD}
+use Rattle.types.specs.Numbers.{word8, word32}
+use Rattle.types.specs.Limiter.{longestScript}
 use Rattle.types.specs.Pick.{pick, unless, both}
 use Rattle.types.specs.Span.{over}
 use Rattle.types.specs.Raw.{rawBytes}
 use Rattle.types.specs.declared.fuel.Fuel.{Fuel}
 use Rattle.types.specs.declared.limiter.Limiter.{Limiter}
-use Rattle.machine.specs.Machine.{Buffers, nextByte, nextCell, nextItem}
+use Rattle.machine.specs.Machine.{capacity, Buffers, nextByte, nextCell, nextItem}
 use Rattle.machine.specs.Sound.{soundOver}
 use Rattle.machine.specs.Operation.{wellFormed}
 use Rattle.machine.specs.Step.{Performed, Stepped, perform, step}
@@ -37,30 +39,31 @@ pub record Inside (m : Machine) (bytes cells items : ℕ) : Type 0 where
   pub cell : nextCell m ≤ cells
   pub item : nextItem m ≤ items
 
+-- the same as a test
 unfoldable pub endsInside : Machine → ℕ → ℕ → ℕ → Bool
 endsInside m bytes cells items = both (leb (nextByte m) bytes) (both (leb (nextCell m) cells) (leb (nextItem m) items))
 
 -- what every fuel and limiter that a program holds is: costs of 32 bits, a script of 16 places with answers of 8 bits
 pub record Fits (f : Fuel) (p : Limiter) : Type 0 where
-  pub script : length (p .script) ≡ 16
-  pub copied : f .costs .copied < 4294967296
-  pub translated : f .costs .translated < 4294967296
-  pub validated : f .costs .validated < 4294967296
-  pub answers : (i : ℕ) → getD (p .script) i 0 < 256
+  pub script : length (p .script) ≡ longestScript
+  pub copied : f .costs .copied < word32
+  pub translated : f .costs .translated < word32
+  pub validated : f .costs .validated < word32
+  pub answers : (i : ℕ) → getD (p .script) i 0 < word8
 
 -- and every machine: 8 places of each kind
 pub record Shaped (m : Machine) : Type 0 where
-  pub memories : length (m .memories) ≡ 8
-  pub tables : length (m .tables) ≡ 8
-  pub segments : length (m .segments) ≡ 8
+  pub memories : length (m .memories) ≡ capacity
+  pub tables : length (m .tables) ≡ capacity
+  pub segments : length (m .segments) ≡ capacity
   pub fits : Fits (m .fuel) (m .limiter)
 
 -- the record at a place is another; past the eighth place there is none
 unfoldable pub changedRow : List ℕ → Change → List ℕ
 changedRow l change.Nothing = l
-changedRow l (change.Memory i r) = pick (ltb i 8) (over l (recordLength * i) (memoryWords r)) l
-changedRow l (change.Table i r) = pick (ltb i 8) (over l (tablesAt + recordLength * i) (tableWords r)) l
-changedRow l (change.Segment i r) = pick (ltb i 8) (over l (segmentsAt + segmentLength * i) (segmentWords r)) l
+changedRow l (change.Memory i r) = pick (ltb i capacity) (over l (recordLength * i) (memoryWords r)) l
+changedRow l (change.Table i r) = pick (ltb i capacity) (over l (tablesAt + recordLength * i) (tableWords r)) l
+changedRow l (change.Segment i r) = pick (ltb i capacity) (over l (segmentsAt + segmentLength * i) (segmentWords r)) l
 
 -- what an operation may write besides numbers, fuel and the script's place: a record by a creation, a growth or a drop, a script by 04
 unfoldable pub fuelWrites : FuelOp → Writes
@@ -69,6 +72,7 @@ fuelWrites fuel.GetFuel = writes.Nothing
 fuelWrites (fuel.Charge units) = writes.Nothing
 fuelWrites (fuel.SetLimiter script) = writes.Script
 
+-- of a memory, a growth alone
 unfoldable pub memoryWrites : MemoryOp → Writes
 memoryWrites (memory.Grow pages) = writes.Record
 memoryWrites memory.Size = writes.Nothing
@@ -76,6 +80,7 @@ memoryWrites (memory.Load kind pointer offset) = writes.Nothing
 memoryWrites (memory.Store kind pointer offset bits) = writes.Nothing
 memoryWrites (memory.LinkCheck wanted) = writes.Nothing
 
+-- of a table, a growth alone
 unfoldable pub tableWrites : TableOp → Writes
 tableWrites (table.Grow cells value) = writes.Record
 tableWrites table.Size = writes.Nothing
@@ -83,6 +88,7 @@ tableWrites (table.Get index) = writes.Nothing
 tableWrites (table.Set index value) = writes.Nothing
 tableWrites (table.Fill start value len) = writes.Nothing
 
+-- of any operation
 unfoldable pub writesOf : Operation → Writes
 writesOf (op.Fuel o) = fuelWrites o
 writesOf (op.NewMemory room wanted) = writes.Record
@@ -130,6 +136,7 @@ pub record Steps (l : List ℕ) (x : InRow) (s : Stepped) : Type 0 where
   pub row : x ≡ rowAfter l s
   pub says : machineFrom (x .words) ≡ s .machine
 
+-- the same of an operation whose caller carries form and soundness
 pub record Proceeds (l : List ℕ) (b : Buffers) (op : Operation) (x : InRow) : Type 0 where
   pub is : x ≡ proceedRow rawBytes l b op
   pub steps : rowLength ≤ length l → Holds l → soundOver (machineFrom l) b ≡ true → Steps l x (step rawBytes (machineFrom l) b op)
