@@ -1,5 +1,5 @@
-//! What one operation costs a host in C: `ysh_operate` on a row of words, the same operations as through `operate`, and the two sizes
-//! that are read from the row alone. Every call is a call from here, and what it answers is looked at.
+//! What one operation costs a host in C: `ysh_operate` on a row of words, the same operations as in place, and the two sizes.
+//! Every call is a call from here, and what it answers is looked at.
 
 use super::operate::{OPERATIONS, ROOM, ROUNDS};
 use std::time::Instant;
