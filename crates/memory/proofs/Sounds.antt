@@ -1,7 +1,7 @@
 -- Laws of soundness: what the test shows, and the exits of the functions that test it. Assumes nothing.
 use Rattle.types.proofs.Prelude.{ℕ, _+_, _/_, _%_, _^_, _≤_, _<_, _≡_, sym, ap, _∙_, Bool, true, false, arith, leb, le-leb, lt-leb, leb-true, eq-eqb, ne-eqb}
 use Rattle.types.proofs.Prelude.{eqb-true, both-true, both-left, both-right, both-then, both-1, both-2}
-use Rattle.types.specs.{Pick.both, Limits.admitsOf, MemoryType.pageBytes, MemoryType.pageBound, MemoryType.validMemory, IndexType.maxSize}
+use Rattle.types.specs.{Pick.both, stages.Held.held, Limits.admitsOf, MemoryType.pageBytes, MemoryType.pageBound, MemoryType.validMemory, IndexType.maxSize}
 use Rattle.types.specs.{declared.index_ty.IndexType.IndexType, declared.index_ty.IndexType.the-variants.I64, declared.memory_ty.PageSize.PageSize}
 use Rattle.types.specs.{declared.memory_ty.PageSize.the-variants.One, declared.memory_ty.MemoryType.MemoryType}
 use Rattle.memory.specs.{Memory.pagesOf, Memory.soundRoom, Memory.soundSize, Memory.soundMemory, declared.memory.Memory.Memory}
@@ -60,11 +60,6 @@ bound-all t n h e d =
     let g : n ≤ 2 ^ 64 = omega arith in
     sym (le-leb n (2 ^ 64) g) ∙ bound-of t I64 One n e d
 
--- the exits of the whole test
-pub sound-untyped : (m : Memory) (len : ℕ) → validMemory (m .ty) ≡ false → false ≡ soundMemory m len
-unfolding soundMemory
-sound-untyped m len h = sym (both-right _ _ (both-left _ _ h))
-
 -- the exits of the room's test
 pub room-past : (m : Memory) (len : ℕ) → len < m .start + m .room → false ≡ soundRoom m len
 unfolding soundRoom
@@ -76,22 +71,20 @@ room-by m len h = sym (both-then _ _ (le-leb _ _ h))
 
 -- the exits of the size's test, by the pages of each case
 module _ (m : Memory) (p : PageSize) (e : m .ty .page ≡ p) where
-  pub size-broken : (m .size % pageBytes p ≡ 0 → ⊥) → false ≡ soundSize m
+  pub size-broken : (m .size % pageBytes p ≡ 0 → ⊥) → false ≡ both (validMemory (m .ty)) (soundSize m)
   unfolding soundSize
-  size-broken h = sym (both-left _ _ (ne-eqb _ _ (λ q. h (ap (λ (x : PageSize). m .size % pageBytes x) (sym e) ∙ q))))
+  size-broken h = sym (both-right _ _ (both-left _ _ (ne-eqb _ _ (λ q. h (ap (λ (x : PageSize). m .size % pageBytes x) (sym e) ∙ q)))))
 
-  pub size-by : (r : Bool) → m .size % pageBytes p ≡ 0
-      → r ≡ both (leb (m .ty .limits .minimum) (m .size / pageBytes p)) (both (leb (m .size / pageBytes p) (pageBound (m .ty))) (admitsOf (m .ty .limits) (m .size / pageBytes p)))
-      → r ≡ soundSize m
-  unfolding soundSize pagesOf
+  pub size-by : (r : Bool) → m .size % pageBytes p ≡ 0 → r ≡ held (m .ty .limits) (pageBound (m .ty)) (m .size / pageBytes p)
+      → r ≡ both (validMemory (m .ty)) (soundSize m)
+  unfolding soundSize pagesOf validMemory
   size-by r h d =
-      d ∙ ap (λ (x : PageSize). both (leb (m .ty .limits .minimum) (m .size / pageBytes x)) (both (leb (m .size / pageBytes x) (pageBound (m .ty))) (admitsOf (m .ty .limits) (m .size / pageBytes x)))) (sym e)
-      ∙ sym (both-then _ _ (eq-eqb _ _ (ap (λ (x : PageSize). m .size % pageBytes x) e ∙ h)))
+      d ∙ ap (λ (x : PageSize). held (m .ty .limits) (pageBound (m .ty)) (m .size / pageBytes x)) (sym e)
+      ∙ ap (both (validMemory (m .ty))) (sym (both-then _ _ (eq-eqb _ _ (ap (λ (x : PageSize). m .size % pageBytes x) e ∙ h))))
 
-pub size-bytes : (m : Memory) → m .ty .page ≡ One → (r : Bool)
-    → r ≡ both (leb (m .ty .limits .minimum) (m .size)) (both (leb (m .size) (pageBound (m .ty))) (admitsOf (m .ty .limits) (m .size))) → r ≡ soundSize m
+pub size-bytes : (m : Memory) → m .ty .page ≡ One → (r : Bool) → r ≡ held (m .ty .limits) (pageBound (m .ty)) (m .size)
+    → r ≡ both (validMemory (m .ty)) (soundSize m)
 size-bytes m e r d =
     let k : m .size ≡ m .size / 1 = omega arith in
     let h : m .size % 1 ≡ 0 = omega arith in
-    size-by m One e r h
-    (d ∙ ap (λ (x : ℕ). both (leb (m .ty .limits .minimum) x) (both (leb x (pageBound (m .ty))) (admitsOf (m .ty .limits) x))) k)
+    size-by m One e r h (d ∙ ap (held (m .ty .limits) (pageBound (m .ty))) k)

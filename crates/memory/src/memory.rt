@@ -15,7 +15,8 @@ ghost use lib.ListN.{length};
 ghost use lib.Dec.{leb};
 ghost use Rattle.types.specs.Pick.{both};
 ghost use Rattle.types.specs.Limits.{admitsOf};
-ghost use Rattle.types.specs.MemoryType.{pageBound};
+ghost use Rattle.types.specs.MemoryType.{pageBound, validMemory};
+ghost use Rattle.types.specs.stages.Held.{held};
 ghost use Rattle.types.specs.Answer.{refuse};
 ghost use Rattle.types.specs.Done.{done};
 ghost use Rattle.memory.specs.Memory.{pagesOf, soundRoom, soundSize, soundMemory, loadMemory, storeMemory};
@@ -64,15 +65,24 @@ pub(crate) fn admits_pages(ty: MemoryType, pages: u64) -> bool
     false
 }
 
-// The same, and at least the minimum.
+// Whether the type is valid and has so many pages. A size between the minimum and the bound shows that the minimum is within it: only a maximum is left.
 fn sound_pages(ty: MemoryType, pages: u64) -> bool
-    ensures { λ r. ⌜ r ≡ both (leb (ty .limits .minimum) pages) (both (leb pages (pageBound ty)) (admitsOf (ty .limits) pages)) ⌝ }
+    ensures { λ r. ⌜ r ≡ held (ty .limits) (pageBound ty) pages ⌝ }
 {
     let limits = ty.limits;
     if pages < limits.minimum {
         return false;
     }
-    admits_pages(ty, pages)
+    if !within_bound(ty, pages) {
+        return false;
+    }
+    if !limits.bounded {
+        return true;
+    }
+    if limits.maximum < pages {
+        return false;
+    }
+    within_bound(ty, limits.maximum)
 }
 
 impl Memory {
@@ -99,9 +109,9 @@ impl Memory {
         self.size <= self.room
     }
 
-    // Whether the size is of whole pages and within the type.
+    // Whether the type is valid, and the size of whole pages and within it.
     fn sound_size(self) -> bool
-        ensures { λ r. ⌜ r ≡ soundSize self ⌝ }
+        ensures { λ r. ⌜ r ≡ both (validMemory (self .ty)) (soundSize self) ⌝ }
     {
         let ty = self.ty;
         let page = ty.page;
@@ -120,14 +130,10 @@ impl Memory {
     pub fn is_sound(self, len: usize) -> bool
         ensures { λ r. ⌜ r ≡ soundMemory self len ⌝ }
     {
-        let ty = self.ty;
-        if !self.sound_room(len) {
-            return false;
+        if self.sound_room(len) {
+            return self.sound_size();
         }
-        if !ty.is_valid() {
-            return false;
-        }
-        self.sound_size()
+        false
     }
 
     // A load: 9 outside, 19 where the record is unsound.

@@ -1,8 +1,8 @@
 -- What soundness says of the places of tables and segments. Assumes nothing.
-use Rattle.types.proofs.Prelude.{_≡_, Bool, true, false, ℕ, _+_, _≤_, _<_, arith, leb-true, not-false, both-1, both-2, known-test}
+use Rattle.types.proofs.Prelude.{_≡_, sym, ap, _∙_, Bool, true, false, ℕ, _+_, _≤_, _<_, arith, le-leb, lt-leb, leb-true, not-false, both-left, both-right, both-then, both-1, both-2, known-test}
 use Rattle.types.proofs.Spans.{within-is}
 use mathlib.Core.Bool.{not}
-use Rattle.types.specs.Pick.{both}
+use Rattle.types.specs.{Pick.both, stages.Held.held, TableType.tableBound, TableType.validTable}
 use Rattle.table.specs.{Table.soundBuffer, Table.soundSize, Table.soundTable, Element.soundSegment, Copy.soundTwo}
 use Rattle.table.specs.{stages.Facts.Within, stages.Facts.Roomed, stages.Facts.Places, declared.table.Table.Table}
 use Rattle.table.specs.declared.element.ElementSegment.{ElementSegment}
@@ -14,6 +14,15 @@ buffer-within start places len e = within-is _ _ _ (both-2 _ _ e)
 pub size-within : (t : Table) → soundSize t ≡ true → t .size ≤ t .room
 unfolding soundSize
 size-within t e = leb-true _ _ (both-1 _ _ e)
+
+-- the exits of the size's test
+pub size-past : (t : Table) → t .room < t .size → false ≡ both (validTable (t .ty)) (soundSize t)
+unfolding soundSize
+size-past t h = sym (both-right _ _ (both-left _ _ (lt-leb _ _ h)))
+
+pub size-by : (t : Table) {r : Bool} → t .size ≤ t .room → r ≡ held (t .ty .limits) (tableBound (t .ty)) (t .size) → r ≡ both (validTable (t .ty)) (soundSize t)
+unfolding soundSize validTable
+size-by t h d = d ∙ ap (both (validTable (t .ty))) (sym (both-then _ _ (le-leb _ _ h)))
 
 module _ (t : Table) (len : ℕ) (e : soundTable t len ≡ true) where
   pub sound-room : Roomed t len

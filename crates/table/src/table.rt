@@ -15,7 +15,8 @@ ghost use Rattle.types.specs.Answer.{refuse};
 ghost use Rattle.types.specs.Done.{done, spanOf};
 ghost use Rattle.types.specs.Pick.{both};
 ghost use Rattle.types.specs.Span.{inside};
-ghost use Rattle.types.specs.TableType.{tableBound};
+ghost use Rattle.types.specs.TableType.{tableBound, validTable};
+ghost use Rattle.types.specs.stages.Held.{held};
 ghost use Rattle.table.specs.stages.Facts.{Within};
 ghost use Rattle.table.specs.Table.{soundBuffer, soundSize, soundTable, getTable, setSound, setTable};
 
@@ -71,37 +72,45 @@ fn within_bound(ty: TableType, size: u64) -> bool
     bound.covers(size)
 }
 
+// Whether the type is valid and has so many cells, as for a memory.
+fn sound_cells(ty: TableType, size: u64) -> bool
+    ensures { λ r. ⌜ r ≡ held (ty .limits) (tableBound ty) size ⌝ }
+{
+    let limits = ty.limits;
+    if size < limits.minimum {
+        return false;
+    }
+    if !within_bound(ty, size) {
+        return false;
+    }
+    if !limits.bounded {
+        return true;
+    }
+    if limits.maximum < size {
+        return false;
+    }
+    within_bound(ty, limits.maximum)
+}
+
 impl Table {
-    // Whether the size lies within type and room.
+    // Whether the type is valid, and the size within type and room.
     fn sound_size(self) -> bool
-        ensures { λ r. ⌜ r ≡ soundSize self ⌝ }
+        ensures { λ r. ⌜ r ≡ both (validTable (self .ty)) (soundSize self) ⌝ }
     {
-        let ty = self.ty;
-        let limits = ty.limits;
         if self.room < self.size {
             return false;
         }
-        if self.size < limits.minimum {
-            return false;
-        }
-        if !within_bound(ty, self.size) {
-            return false;
-        }
-        limits.admits(self.size)
+        sound_cells(self.ty, self.size)
     }
 
     // Whether the record is sound over a buffer of `len` references.
     pub fn is_sound(self, len: usize) -> bool
         ensures { λ r. ⌜ r ≡ soundTable self len ⌝ }
     {
-        let ty = self.ty;
-        if !sound_buffer(self.start, self.room, len) {
-            return false;
+        if sound_buffer(self.start, self.room, len) {
+            return self.sound_size();
         }
-        if !ty.is_valid() {
-            return false;
-        }
-        self.sound_size()
+        false
     }
 
     // The reference at an index: 9 outside.

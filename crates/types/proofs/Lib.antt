@@ -15,4 +15,5 @@ pub mod Chains
 pub mod Unique
 pub mod Halves
 pub mod Sizes
+pub mod Held
 pub mod Built

@@ -40,6 +40,12 @@ pub both-then : (a b : Bool) → a ≡ true → both a b ≡ b
 unfolding both
 both-then a b p = ap (λ (x : Bool). both x b) p
 
+-- where the second test holds the first decides
+pub both-last : (a b : Bool) → b ≡ true → both a b ≡ a
+unfolding both
+both-last true b p = p
+both-last false b p = refl
+
 pub both-1 : (a b : Bool) → both a b ≡ true → a ≡ true
 unfolding both
 both-1 true b p = refl

@@ -11,4 +11,4 @@ pub use lib.ListN.{length, take, drop, getD, set, replicate, length-append, leng
 pub use lib.Seq.{drop-drop, drop-cons, take-all}
 pub use borrow.Author.Needs.{needs}
 pub use borrow.Author.Tests.{lt-ltb, le-ltb, lt-leb, le-leb, eq-eqb, ne-eqb, not-true, not-false, ltb-true, ltb-false, leb-true, leb-false, eqb-true, eqb-false}
-pub use Rattle.types.proofs.Picks.{pick-true, pick-false, both-true, both-left, both-right, both-then, both-1, both-2, either, known-test, cases}
+pub use Rattle.types.proofs.Picks.{pick-true, pick-false, both-true, both-left, both-right, both-then, both-last, both-1, both-2, either, known-test, cases}

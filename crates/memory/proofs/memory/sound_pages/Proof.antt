@@ -1,16 +1,31 @@
 -- `memory::memory::sound_pages` meets its contract. Assumes nothing.
-use Rattle.types.proofs.Prelude.{cases, needs}
+use Rattle.types.proofs.Prelude.{known-test, needs, not-true, not-false}
+use Rattle.types.proofs.Held.{held-below, held-past, held-free, held-above, held-by}
 use Rattle.memory.proofs.memory.sound_pages.Statement.{statement}
 use Rattle.memory.proofs.memory.sound_pages.Tie as tie
 
 returns : tie.Need-returns
-returns c = search cases
+returns c = search held-below
 
-admits-pages-requires : tie.Need-admits-pages-requires
-admits-pages-requires c κs = search needs
+within-bound-requires : tie.Need-within-bound-requires
+within-bound-requires c κs = search needs
 
 returns-2 : tie.Need-returns-2
-returns-2 c = search cases
+returns-2 c = search (held-past, known-test, not-true)
+
+returns-3 : tie.Need-returns-3
+returns-3 c = search (held-free, known-test, not-true, not-false)
+
+returns-4 : tie.Need-returns-4
+returns-4 c = search (held-above, not-false)
+
+within-bound-requires-2 : tie.Need-within-bound-requires-2
+within-bound-requires-2 c κs = search needs
+
+returns-5 : tie.Need-returns-5
+returns-5 c = search (held-by, known-test, not-false)
 
 pub sound-pages-spec : {M : Type 1} → statement M
-sound-pages-spec = tie.close (tie.spec returns admits-pages-requires returns-2)
+sound-pages-spec =
+    tie.close
+    (tie.spec returns within-bound-requires returns-2 returns-3 returns-4 within-bound-requires-2 returns-5)

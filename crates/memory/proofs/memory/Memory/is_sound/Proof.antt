@@ -1,6 +1,5 @@
 -- `memory::memory::Memory::is_sound` meets its contract. Assumes nothing.
-use Rattle.types.proofs.Prelude.{cases, known-test, needs, not-true}
-use Rattle.memory.proofs.Sounds.{sound-untyped}
+use Rattle.types.proofs.Prelude.{cases, needs}
 use Rattle.memory.specs.Memory.{soundMemory}
 use Rattle.memory.proofs.memory.Memory.is_sound.Statement.{statement}
 use Rattle.memory.proofs.memory.Memory.is_sound.Tie as tie
@@ -8,31 +7,16 @@ use Rattle.memory.proofs.memory.Memory.is_sound.Tie as tie
 sound-room-requires : tie.Need-sound-room-requires
 sound-room-requires c κs = search needs
 
+sound-size-requires : tie.Need-sound-size-requires
+sound-size-requires c κs = search needs
+
 returns : tie.Need-returns
 unfolding soundMemory
 returns c = search cases
 
-is-valid-requires : tie.Need-is-valid-requires
-is-valid-requires c κs = search needs
-
 returns-2 : tie.Need-returns-2
 unfolding soundMemory
-returns-2 c = search (sound-untyped, known-test, not-true)
-
-sound-size-requires : tie.Need-sound-size-requires
-sound-size-requires c κs = search needs
-
-returns-3 : tie.Need-returns-3
-unfolding soundMemory
-returns-3 c = search cases
+returns-2 c = search cases
 
 pub is-sound-spec : {M : Type 1} → statement M
-is-sound-spec =
-    tie.close
-    (tie.spec
-    sound-room-requires
-    returns
-    is-valid-requires
-    returns-2
-    sound-size-requires
-    returns-3)
+is-sound-spec = tie.close (tie.spec sound-room-requires sound-size-requires returns returns-2)
