@@ -36,13 +36,7 @@ module _ (u : Bool) where
   pub first-fails : {r t : Bool} → r ≡ t → not r ≡ true → false ≡ both t u
   first-fails p q = sym (both-left _ _ (known-test p (not-true _ q)))
 
-  pub first-above : (n m : ℕ) → m < n → false ≡ both (leb n m) u
-  first-above n m h = sym (both-left _ _ (lt-leb _ _ h))
-
   pub first-holds : {x r t : Bool} → r ≡ t → not r ≡ false → x ≡ u → x ≡ both t u
   first-holds p q e = e ∙ sym (both-then _ _ (known-test p (not-false _ q)))
 
-  pub first-within : {x : Bool} (n m : ℕ) → n ≤ m → x ≡ u → x ≡ both (leb n m) u
-  first-within n m h e = e ∙ sym (both-then _ _ (le-leb _ _ h))
-
-pub ruleset exits = (taken-by, left-by, taken-not, left-not, taken-le, left-le, taken-eq, left-eq, first-fails, first-above, first-holds, first-within, done-as)
+pub ruleset exits = (taken-by, left-by, taken-not, left-not, taken-le, left-le, taken-eq, left-eq, first-fails, first-holds, done-as)
