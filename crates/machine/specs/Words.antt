@@ -10,7 +10,7 @@ use Rattle.machine.specs.declared.{records.Machine.Machine, records.Coun
 abbrev pub recordLength : ℕ
 recordLength = 8
 
--- of a segment
+-- the words of a record of a segment
 abbrev pub segmentLength : ℕ
 segmentLength = 4
 
@@ -26,15 +26,15 @@ segmentsAt = tablesAt + capacity * recordLength
 abbrev pub countsAt : ℕ
 countsAt = segmentsAt + capacity * segmentLength
 
--- then fuel
+-- fuel comes after the three counts
 abbrev pub fuelAt : ℕ
 fuelAt = countsAt + 3
 
--- then the limiter's count and place
+-- the limiter's count and place come after the five words of fuel
 abbrev pub limiterAt : ℕ
 limiterAt = fuelAt + 5
 
--- then its script's answers
+-- its script's answers come last
 abbrev pub scriptAt : ℕ
 scriptAt = limiterAt + 2
 
