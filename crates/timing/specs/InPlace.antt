@@ -12,6 +12,7 @@ pub record Rowing : Type 0 where
   pub words : List ℕ
   pub buffers : Buffers
 
+-- the four of them
 abbrev pub rowing : List ℕ → List ℕ → List ℕ → List ℕ → Rowing
 rowing l bytes cells items = record { words = l; buffers = buffers bytes cells items }
 

@@ -81,6 +81,7 @@ segmentOf size = record { ty = Func; start = 0; places = size; size = size }
 abbrev pub fillSpan : ℕ → ℕ → FillSpan
 fillSpan start len = record { start = start; len = len }
 
+-- a span to copy, from its three numbers
 abbrev pub copySpan : ℕ → ℕ → ℕ → CopySpan
 copySpan to from len = record { to = to; from = from; len = len }
 
