@@ -4,11 +4,7 @@ use Rattle.types.proofs.Prices.{too-large, product-fits}
 use Rattle.types.specs.{declared.memory_ty.PageSize.PageSize, declared.memory_ty.PageSize.the-variants.One, declared.memory_ty.PageSize.the-variants.Wasm}
 use Rattle.types.specs.{declared.memory_ty.ByteSize.the-variants.Bytes, declared.memory_ty.ByteSize.the-variants.Overflow, IndexType.maxSize}
 use Rattle.types.specs.{declared.index_ty.IndexType.IndexType, declared.index_ty.IndexType.the-variants.I32, declared.index_ty.IndexType.the-variants.I64}
-use Rattle.types.specs.{declared.memory_ty.MemoryType.MemoryType, MemoryType.log2Of, MemoryType.pageBytes, MemoryType.byteSize, MemoryType.maximumBytes}
-
-pub log2-few : (p : PageSize) → log2Of p < 64
-log2-few One = omega arith
-log2-few Wasm = omega arith
+use Rattle.types.specs.{declared.memory_ty.MemoryType.MemoryType, MemoryType.pageBytes, MemoryType.byteSize, MemoryType.maximumBytes}
 
 pub page-pos : (p : PageSize) → 0 < pageBytes p
 page-pos One = omega arith

@@ -135,13 +135,35 @@ impl MemoryType {
         limits.valid_within(self.absolute_max())
     }
 
-    // The page bound: the largest size shifted right by the page exponent.
+    // The page bound: 2^32 or 2^64 bytes, in pages of 2^0 or 2^16.
     pub fn absolute_max(self) -> Wide
         ensures { λ r. ⌜ r ≡ halves (pageBound self) ⌝ }
     {
         let index = self.index;
         let page = self.page;
-        index.max_size().shifted_right(page.page_size_log2())
+        match index {
+            IndexType::I32 => match page {
+                PageSize::One => Wide {
+                    high: 0,
+                    low: 1 << 32,
+                },
+                PageSize::Wasm => Wide {
+                    high: 0,
+                    low: 1 << 16,
+                },
+            },
+            IndexType::I64 => match page {
+                // 2^64 is 2^0 in the high half.
+                PageSize::One => Wide {
+                    high: 1 << 0,
+                    low: 0,
+                },
+                PageSize::Wasm => Wide {
+                    high: 0,
+                    low: 1 << 48,
+                },
+            },
+        }
     }
 
     pub fn minimum_byte_size(self) -> ByteSize

@@ -1,8 +1,7 @@
 // Bounds that do not fit 64 bits, as two halves.
 ghost use mathlib.Core.Path.{_≡_};
-ghost use Prim.Native.Nat.{_/_, _^_, _<_};
 ghost use lib.Dec.{leb, ltb};
-ghost use Rattle.types.specs.Wide.{halves, whole};
+ghost use Rattle.types.specs.Wide.{whole};
 
 // How many numbers of 32 bits there are.
 pub const WORD32: u64 = 4294967296;
@@ -13,20 +12,6 @@ pub struct Wide {
 }
 
 impl Wide {
-    // The number shifted right, both halves together.
-    pub(crate) fn shifted_right(self, by: u8) -> Wide
-        requires { ⌜ by < 64 ⌝ }
-        ensures { λ r. ⌜ r ≡ halves (whole self / 2 ^ by) ⌝ }
-    {
-        if by == 0 {
-            return self;
-        }
-        Wide {
-            high: self.high >> by,
-            low: (self.low >> by) + (self.high << (64 - by)),
-        }
-    }
-
     // Whether `n` is at most this number.
     pub fn covers(self, n: u64) -> bool
         ensures { λ r. ⌜ r ≡ leb n (whole self) ⌝ }
