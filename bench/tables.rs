@@ -24,28 +24,16 @@ unsafe extern "C" {
         left: *mut u64,
         per_unit: u32,
     ) -> u8;
-    /// From the table of `size` cells after the first `split` cells to the table of those.
+    /// To the table of the first `size` cells from that of as many from `start` on, which may be the same.
     fn timing_copy(
         cells: *mut u64,
         len: usize,
         wide: bool,
-        split: usize,
         size: u64,
         to: u64,
         from: u64,
         count: u64,
-        metered: bool,
-        left: *mut u64,
-        per_unit: u32,
-    ) -> u8;
-    fn timing_copy_within(
-        cells: *mut u64,
-        len: usize,
-        wide: bool,
-        size: u64,
-        to: u64,
-        from: u64,
-        count: u64,
+        start: usize,
         metered: bool,
         left: *mut u64,
         per_unit: u32,
@@ -214,7 +202,7 @@ fn ops(n: usize) -> Vec<Op> {
         ("table copy", "memmove"),
         (table(0, len), p, len),
         move |table, fuel| crate_copy(table, 0, &source, 0, count, fuel),
-        move |left| unsafe { timing_copy(p, 2 * len, wide, len, size, 0, 0, count, metered, left, per_unit) },
+        move |left| unsafe { timing_copy(p, 2 * len, wide, size, 0, 0, count, len, metered, left, per_unit) },
         move || {
             unsafe { shift(p.cast(), p.add(len).cast(), bytes) };
         },
@@ -227,7 +215,7 @@ fn ops(n: usize) -> Vec<Op> {
             (name, "memmove"),
             (table(0, len), p, len),
             move |table, fuel| crate_copy_within(table, i, j, count, fuel),
-            move |left| unsafe { timing_copy_within(p, len, wide, size, i, j, count, metered, left, per_unit) },
+            move |left| unsafe { timing_copy(p, len, wide, size, i, j, count, 0, metered, left, per_unit) },
             move || {
                 unsafe { shift(p.add(to).cast(), p.add(from).cast(), bytes) };
             },

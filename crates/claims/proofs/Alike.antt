@@ -1,5 +1,5 @@
 -- Machines that agree on what an operation names and on fuel, script, numbers, room left and segments: the same answer, fuel and script. Assumes nothing.
-use Rattle.types.proofs.Prelude.{refl, sym, ap, _∙_, arith, leb-false, ltb-true, eqb-false, pick-true, pick-false, both-true, both-1, both-2, either}
+use Rattle.types.proofs.Prelude.{refl, sym, ap, _∙_, arith, leb-false, ltb-true, pick-true, pick-false, both-true, both-1, both-2, either}
 use Rattle.types.proofs.Picks.{pick-ap}
 use Rattle.types.specs.Prelude.{ℕ, _+_, _-_, _<_, _≡_, Bool, true, false, List, leb, length, getD}
 use Rattle.types.specs.Names.{pick, Done, done, Answer, Spanned, Limiter, TypedRawRef, CopySpan, WantedMemory, WantedTable}
@@ -9,14 +9,14 @@ use Rattle.memory.specs.{Access.storeAt, Memory.pagesOf, Memory.loadMemory, Mem
 use Rattle.memory.specs.{declared.access.Address.the-variants.At, declared.access.Address.the-variants.Outside, New.newMemory}
 use Rattle.memory.proofs.Accesses.{address-is}
 use Rattle.table.specs.Names.{soundTable, soundSegment, Table, GrownTable, ElementSegment, CreatedTable, MadeSegment}
-use Rattle.table.specs.{Grow.growTable, Fill.fillTable, Copy.copyTable, Copy.copyWithin, Init.initTable, New.newTable}
+use Rattle.table.specs.{Grow.growTable, Fill.fillTable, Copy.copyTable, Init.initTable, New.newTable}
 use Rattle.table.specs.Table.{getTable, setSound, setTable}
 use Rattle.machine.specs.Names.{Buffers, buffers, memoryAt, tableAt, segmentAt, nextByte, nextCell, soundOver, wellFormed, Stepped, Machine}
 use Rattle.machine.specs.Names.{Operation, MemoryOp, TableOp}
 use Rattle.machine.specs.{Machine.nextItem, Outcome.settled, Fueling.fueled, Fueling.onFuel, Segments.initOn, Segments.dropOn, Segments.madeSegment}
 use Rattle.machine.specs.{Segments.newSegmentOn, Step.Performed, Step.perform, Step.decide, Step.step, declared.outcome.Outcome.Outcome}
 use Rattle.machine.specs.{declared.fueling.Fueled.Fueled, Memories.performMemory, Memories.linkTo, Memories.onMemory, Memories.madeMemory, Memories.newMemoryOn}
-use Rattle.machine.specs.Tables.{performTable, onTable, madeTable, newTableOn, copyKnown, copyOn}
+use Rattle.machine.specs.Tables.{performTable, onTable, madeTable, newTableOn, copyOn}
 use Rattle.machine.proofs.Rooms.{memory-sound, table-sound, segment-sound, next-byte-inside}
 use Rattle.claims.specs.Alike.{SameMemory, SameTable, Watched, namesOnly, Agree}
 use Rattle.claims.proofs.{Exiting.room-inside, TableExiting.cells-sound, TableExiting.two-sound, Cuts.part-alike, Cuts.cell-alike}
@@ -157,12 +157,6 @@ module _ (r : ℕ) (m : Machine) (b : Buffers) (ms : List Memory) (ts : List Tab
     table-alike (table.Fill start value len) =
         simp (chain, sound-table, sound-table′, w .ty, w .size, pick-ap (λ (d : Done Spanned). d .out .answer), pick-ap (λ (d : Done Spanned). d .out .fuel))
 
-    -- 26: a copy within it
-    within-alike : (s : CopySpan)
-        → sight (ofSpan (m .limiter)) (copyWithin r (tableAt m i) (b .cells) s (m .fuel)) ≡ sight (ofSpan (m .limiter)) (copyWithin r (tableAt m′ i) cs s (m .fuel))
-    unfolding copyWithin
-    within-alike s = simp (chain, sound-table, sound-table′, w .size)
-
     -- 27: an init from a sound segment
     init-alike : (g : ElementSegment) (s : CopySpan) → soundSegment g (length (b .items)) ≡ true
         → sight (ofSpan (m .limiter)) (initTable r (tableAt m i) g (b .cells) (b .items) s (m .fuel))
@@ -170,12 +164,12 @@ module _ (r : ℕ) (m : Machine) (b : Buffers) (ms : List Memory) (ts : List Tab
     unfolding initTable
     init-alike g s k = simp (chain, both-true, sound-table, sound-table′, k, w .ty, w .size)
 
-  -- 26: a copy between two tables that are the same in both
-  copy-alike : (i j : ℕ) (s : CopySpan) → i < m .counts .tables → j < m .counts .tables → (i ≡ j → ⊥) → SameTable m b m′ b′ i → SameTable m b m′ b′ j
+  -- 26: a copy between two tables that are the same in both, or within one
+  copy-alike : (i j : ℕ) (s : CopySpan) → i < m .counts .tables → j < m .counts .tables → SameTable m b m′ b′ i → SameTable m b m′ b′ j
       → sight (ofSpan (m .limiter)) (copyTable r (tableAt m i) (tableAt m j) (b .cells) s (m .fuel))
       ≡ sight (ofSpan (m .limiter)) (copyTable r (tableAt m′ i) (tableAt m′ j) cs s (m .fuel))
   unfolding copyTable
-  copy-alike i j s h g d w v = simp (chain, two-sound m b i j e h g d, two-sound m′ b′ i j e′ h g d, w .ty, v .ty, w .size, v .size)
+  copy-alike i j s h g w v = simp (chain, two-sound m b i j e h g, two-sound m′ b′ i j e′ h g, w .ty, v .ty, w .size, v .size)
 
   -- 10: a memory made in a room that is left in both
   new-memory-alike : (room : ℕ) (w : WantedMemory) → leb room (length (b .bytes) - nextByte m) ≡ true → leb room (length bs - nextByte m′) ≡ true
@@ -201,7 +195,7 @@ module _ (r : ℕ) (m : Machine) (b : Buffers) (ms : List Memory) (ts : List Tab
   module _ (w : Watched) (g : Agree w m b m′ b′) where
     -- every operation: 16 or 17, then as above
     perform-alike : (op : Operation) → namesOnly w op ≡ true → ofOut (perform r m b op .out) ≡ ofOut (perform r m′ b′ op .out)
-    unfolding perform namesOnly onFuel newMemoryOn onMemory newTableOn onTable copyOn copyKnown initOn dropOn newSegmentOn nextItem sight
+    unfolding perform namesOnly onFuel newMemoryOn onMemory newTableOn onTable copyOn initOn dropOn newSegmentOn nextItem sight
     perform-alike (op.Fuel o) n = refl
     perform-alike (op.NewMemory room wanted) n =
         let p = g .rest .bytes in
@@ -218,10 +212,7 @@ module _ (r : ℕ) (m : Machine) (b : Buffers) (ms : List Memory) (ts : List Tab
         (λ t.
         let h = ltb-true into (m .counts .tables) (both-1 _ _ t) in
         let k = ltb-true source (m .counts .tables) (both-2 _ _ t) in
-        let v = g .table into (both-1 _ _ n) h in
-        way (sight ofOut) _ _ _ _ _
-        (λ q. within-alike into h v span)
-        (λ q. copy-alike into source span h k (eqb-false into source q) v (g .table source (both-2 _ _ n) k)))
+        copy-alike into source span h k (g .table into (both-1 _ _ n) h) (g .table source (both-2 _ _ n) k))
         (λ t. refl)
     perform-alike (op.TableInit table segment span) n =
         way (sight ofOut) _ _ _ _ _

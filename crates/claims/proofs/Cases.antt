@@ -11,13 +11,13 @@ use Rattle.memory.specs.Access.{addressOf, extend, loadedOf, loadFound, loadAt,
 use Rattle.memory.specs.Memory.{pagesOf, soundRoom, soundSize, soundMemory, loadMemory, storeMemory}
 use Rattle.table.specs.Names.{GrownTable}
 use Rattle.table.specs.{Table.soundBuffer, Table.soundTable, New.newTable, Grow.growTable, Fill.fillTable, Element.soundSegment, Element.newSegment}
-use Rattle.table.specs.{Copy.copyWithin, Init.initTable}
+use Rattle.table.specs.{Copy.sameTable, Copy.roomsApart, Copy.soundTwo, Copy.copyTable, Init.initTable}
 use Rattle.machine.specs.{Machine.nextByte, Machine.nextCell, Machine.nextItem, Machine.freshMachine, Outcome.changed, Outcome.settled, Fueling.setBy}
 use Rattle.machine.specs.{Fueling.performFuel, Fueling.onFuel, Memories.performMemory, Memories.onMemory, Memories.madeMemory, Memories.newMemoryOn}
 use Rattle.machine.specs.{Segments.initOn, Segments.madeSegment, Segments.newSegmentOn, Step.perform, Step.decide, Step.step, Step.run}
 use Rattle.machine.specs.Sound.{follow, soundList, soundMemories, soundTables, soundSegments, soundReferences, soundMachine}
 use Rattle.machine.specs.Operation.{narrowStore, storeFields, itemField, itemFields, initFields, fuelWellFormed, memoryWellFormed, wellFormed}
-use Rattle.machine.specs.Tables.{performTable, onTable, madeTable, newTableOn, copyKnown, copyOn}
+use Rattle.machine.specs.Tables.{performTable, onTable, madeTable, newTableOn, copyOn}
 use Rattle.claims.specs.Cases.{allHold, builtNumber, shown, answeredAt, same, fullBuffer, nearlyFull, grownBy, cases}
 use Rattle.table.specs.Table as table
 
@@ -47,5 +47,5 @@ last-two xs ys e d = rw e (rw d refl)
 
 -- every test of the list computes to true
 pub worked-cases : allHold cases ≡ true
-unfolding allHold cases builtNumber shown answeredAt same price capped buildMemory validMemory validLimits validMaximum admitsOf pageBound byteSize minimumBytes tableBound validTable elementMatches rawBytes inside cut over bitsOf float32 float64 numberOf shownOf setFuel padded noLimiter saysOf moved heardOf leBytes leValue addressOf extend loadedOf loadFound loadAt storeFound storeAt pagesOf soundRoom soundSize soundMemory loadMemory storeMemory newMemory table.soundSize soundBuffer soundTable newTable growTable fillTable soundSegment newSegment copyWithin initTable nextByte nextCell nextItem freshMachine follow soundList soundMemories soundTables soundSegments soundReferences soundMachine narrowStore storeFields itemField itemFields initFields fuelWellFormed memoryWellFormed wellFormed changed settled setBy getFuel performFuel onFuel performMemory onMemory madeMemory newMemoryOn performTable onTable madeTable newTableOn copyKnown copyOn initOn madeSegment newSegmentOn perform decide step run pick both
+unfolding allHold cases builtNumber shown answeredAt same price capped buildMemory validMemory validLimits validMaximum admitsOf pageBound byteSize minimumBytes tableBound validTable elementMatches rawBytes inside cut over bitsOf float32 float64 numberOf shownOf setFuel padded noLimiter saysOf moved heardOf leBytes leValue addressOf extend loadedOf loadFound loadAt storeFound storeAt pagesOf soundRoom soundSize soundMemory loadMemory storeMemory newMemory table.soundSize soundBuffer soundTable newTable growTable fillTable soundSegment newSegment sameTable roomsApart soundTwo copyTable initTable nextByte nextCell nextItem freshMachine follow soundList soundMemories soundTables soundSegments soundReferences soundMachine narrowStore storeFields itemField itemFields initFields fuelWellFormed memoryWellFormed wellFormed changed settled setBy getFuel performFuel onFuel performMemory onMemory madeMemory newMemoryOn performTable onTable madeTable newTableOn copyOn initOn madeSegment newSegmentOn perform decide step run pick both
 worked-cases = last-two (grownBy 1) (grownBy 2) by-one by-two

@@ -6,7 +6,7 @@ use Rattle.claims.specs.Claims.{Claims}
 use Rattle.claims.proofs.{Sessions.session-is-run, Sessions.replies-run, Script.script-moves, Bound.byte-bound, Reached.bound-reached}
 use Rattle.claims.proofs.{Ledger.ledger, AlikeRun.alike, AlikeRun.alike-run, Never.never-unsound, Forms.stays-in-form, Cases.worked-cases}
 use Rattle.claims.proofs.Exits.{answer-or-refusal, refusal-leaves, accepted-when, accepted-does}
-use Rattle.claims.proofs.Spans.{span-alone, span-counted, refused-writes-none}
+use Rattle.claims.proofs.{Copies.copy-steps, Spans.span-alone, Spans.span-counted, Spans.refused-writes-none}
 
 -- every claim by its law
 pub claims : Claims
@@ -17,6 +17,7 @@ claims =
       script-moves = script-moves;
       accepted-when = accepted-when;
       accepted-does = accepted-does;
+      copy-steps = copy-steps;
       byte-bound = byte-bound;
       bound-reached = bound-reached;
       span-alone = span-alone;

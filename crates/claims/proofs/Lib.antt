@@ -7,6 +7,7 @@ pub mod MemoryExits
 pub mod TableExiting
 pub mod TableExits
 pub mod Exits
+pub mod Copies
 pub mod Script
 pub mod Never
 pub mod Bound

@@ -1,16 +1,16 @@
 -- How every operation on tables and segments ends: accepted on its occasion, or refused with all that it leaves. Assumes nothing.
-use Rattle.types.proofs.Prelude.{refl, sym, ap, subst, _∙_, arith, leb-true, leb-false, ltb-true, lt-ltb, le-ltb, eqb-true, eqb-false, pick-true, pick-false}
+use Rattle.types.proofs.Prelude.{refl, sym, ap, _∙_, arith, leb-true, leb-false, ltb-true, lt-ltb, le-ltb, eqb-true, eqb-false, pick-true, pick-false}
 use Rattle.types.proofs.{Prelude.both-true, Prelude.both-left, Prelude.both-right, Prelude.both-then, Prelude.both-1, Prelude.both-2, Spans.over-nil}
 use Rattle.types.specs.Prelude.{ℕ, _+_, _≡_, Bool, true, false, List, leb, ltb, length, replicate}
 use Rattle.types.specs.Names.{Done, done, over, refusal, accept, paid, moved, Answer, Spanned, RefType, TypedRawRef, maxSize, admitsOf}
 use Rattle.types.specs.{Names.elementMatches, Names.WantedTable, Names.CopySpan, Pick.both}
 use Rattle.table.specs.Names.{resized, soundTable, Table, GrownTable, CreatedTable, MadeSegment}
 use Rattle.table.specs.{Table.getTable, Table.setSound, Table.setTable, New.refused, New.newTable, Grow.answered, Grow.cellsPrice, Grow.growTable}
-use Rattle.table.specs.{Fill.fillTable, Copy.copyTable, Copy.copyWithin, Init.initTable, Element.newSegment}
+use Rattle.table.specs.{Fill.fillTable, Copy.copyTable, Init.initTable, Element.newSegment}
 use Rattle.machine.specs.Names.{Buffers, buffers, tableAt, soundOver, metered, Machine, Items, Operation, TableOp}
 use Rattle.machine.specs.{Operation.wellFormed, Segments.initOn, Segments.dropOn, Segments.madeSegment, Segments.segmentMade, Segments.newSegmentOn}
 use Rattle.machine.specs.{Step.Performed, Step.onNone, Step.onCells, Step.onItems, Step.perform, Step.after, declared.outcome.Outcome.Outcome}
-use Rattle.machine.specs.Tables.{tableKept, tableStored, tableSpanned, performTable, tableDone, onTable, spannedDone, copyKnown, copyOn, madeTable}
+use Rattle.machine.specs.Tables.{tableKept, tableStored, tableSpanned, performTable, tableDone, onTable, spannedDone, copyOn, madeTable}
 use Rattle.machine.specs.Tables.{tableMade, newTableOn}
 use Rattle.machine.proofs.{Rooms.table-sound, Rooms.segment-sound, Written.table-put-back}
 use Rattle.claims.specs.{Answers.accepted, Spans.put, Effects.tableEffect, Effects.effectOf, Effects.acceptedStep}
@@ -20,7 +20,7 @@ use Rattle.claims.proofs.{Exit.Exit, Exit.accepts, Growth.Grew, Growth.
 use Rattle.claims.proofs.Checks.{given-holds, given-comes, growing, used-holds, used-comes}
 use Rattle.claims.proofs.Exiting.{branch, surely, put-back-stays, named, nothing-put, Ends, accepted-is, ending, accepting}
 use Rattle.claims.proofs.Exiting.{accepting-paid, accepting-by, refusing, leaving-by, leaving, creating, paying, spanning, unknown}
-use Rattle.claims.proofs.TableExiting.{cells-sound, items-sound, own-kind, over-none, two-sound}
+use Rattle.claims.proofs.TableExiting.{cells-sound, items-sound, over-none, two-sound}
 use Rattle.types.specs.declared.answer.Answer.the-variants as answer
 use Rattle.machine.specs.declared.outcome.Change.the-variants as change
 use Rattle.machine.specs.declared.operation.Operation.the-variants as op
@@ -60,42 +60,19 @@ module _ (r : ℕ) (m : Machine) (b : Buffers) where
       (items-sound m b e _ (both-2 _ _ h)) (accepting refl refl h refl))
       (λ h. leaving (refusal 17 0) (named 17 refl refl) refl refl h))
 
-  -- within one table the kind is its own: 12, 7
-  within-ends : (i : ℕ) (s : CopySpan) → soundOver m b ≡ true → ltb i (m .counts .tables) ≡ true
-      → Ends r m b (op.TableCopy i i s) (onCells (spannedDone m (copyWithin r (tableAt m i) (b .cells) s (m .fuel))) b)
-  unfolding copyWithin holds checksOf given comes effectOf meteringOf put accepted
-  within-ends i s e h =
-      surely Within _ _ _ (table-sound m _ _ _ e i (ltb-true i _ h))
-      (branch Within _ _ _
-      (λ q.
-      paying change.Nothing (nothing-put m) refl refl _ _ (both-then _ _ (both-true _ _ h h) ∙ both-then _ _ (own-kind (tableAt m i .ty)) ∙ both-then _ _ q)
-      (λ o. accepting-paid refl refl o refl))
-      (λ q. leaving (refusal 12 0) (named 12 refl refl) refl refl (both-right _ _ (both-right _ _ (both-left _ _ q)))))
-    where
-      Within : Done Spanned → Type 0
-      Within d = Ends r m b (op.TableCopy i i s) (onCells (spannedDone m d) b)
-
   -- 26: 16, 14, 12, 7
   pub table-copy-exit : (into source : ℕ) (s : CopySpan) → soundOver m b ≡ true → wellFormed (op.TableCopy into source s) ≡ true
       → Exit r m b (op.TableCopy into source s) (occasion r m b (op.TableCopy into source s))
-  unfolding perform copyOn copyKnown copyTable holds checksOf given comes effectOf meteringOf put accepted
+  unfolding perform copyOn copyTable holds checksOf given comes effectOf meteringOf put accepted
   table-copy-exit into source s e w =
       ending e w
-      (branch (Copies source) _ _ _
+      (branch (λ (d : Done Outcome). Ends r m b (op.TableCopy into source s) (onCells d b)) _ _ _
       (λ h.
-      branch (Copies source) _ _ _
-      (λ z.
-      subst (λ (j : ℕ). Copies j (spannedDone m (copyWithin r (tableAt m into) (b .cells) s (m .fuel)))) (eqb-true into source z)
-      (within-ends into s e (both-1 _ _ h)))
-      (λ z.
-      surely (λ (d : Done Spanned). Copies source (spannedDone m d)) _ _ _
-      (two-sound m b into source e (ltb-true into _ (both-1 _ _ h)) (ltb-true source _ (both-2 _ _ h)) (eqb-false into source z))
+      surely (λ (d : Done Spanned). Ends r m b (op.TableCopy into source s) (onCells (spannedDone m d) b)) _ _ _
+      (two-sound m b into source e (ltb-true into _ (both-1 _ _ h)) (ltb-true source _ (both-2 _ _ h)))
       (spanning change.Nothing (nothing-put m) refl refl _ _ _ 12 _ (named 12 refl refl) (both-then _ _ h)
-      (λ o. paying change.Nothing (nothing-put m) refl refl _ _ o (λ o. accepting-paid refl refl o refl)))))
+      (λ o. paying change.Nothing (nothing-put m) refl refl _ _ o (λ o. accepting-paid refl refl o refl))))
       (λ h. unknown refl (both-left _ _ h)))
-    where
-      Copies : ℕ → Done Outcome → Type 0
-      Copies j d = Ends r m b (op.TableCopy into j s) (onCells d b)
 
   -- 27: 16, 14, 13, length 0 without fuel, 7
   pub table-init-exit : (i segment : ℕ) (s : CopySpan) → soundOver m b ≡ true → wellFormed (op.TableInit i segment s) ≡ true

@@ -4,8 +4,8 @@ use contract.Lifetimes.{Lfts}
 use borrow.Fn.Kinds.{Dens, resT, endedOf}
 use denote.Triple.Clauses.{AtExit}
 use denote.Ref.{now}
-use Rattle.types.specs.Names.{word64, over, rawBytes, FuelCosts}
-use Rattle.machine.specs.Names.{Buffers, buffers, freshMachine, soundReferences, soundOver, stepped, step, run, OthersStay, OnlySizes}
+use Rattle.types.specs.{Names.word64, Names.over, Names.rawBytes, Names.FuelCosts, Names.CopySpan, Steps.copySteps}
+use Rattle.machine.specs.Names.{Buffers, buffers, tableAt, freshMachine, soundReferences, soundOver, stepped, step, run, OthersStay, OnlySizes}
 use Rattle.machine.specs.Names.{Machine, Operation, MemoryOp, TableOp}
 use Rattle.machine.specs.{Words.wordsOf, Words.machineFrom, Words.inForm, Row.inRow, Row.operateRow, Row.rowPages, Row.rowCells}
 use Rattle.machine.proofs.row.operate.Reads as row-reads
@@ -37,6 +37,10 @@ pub record Claims : Type 0 where
   pub accepted-when : (r : ℕ) (m : Machine) (b : Buffers) (op : Operation) → accepted (step r m b op .answer) ≡ acceptedWhen r m b op
   pub accepted-does : (r : ℕ) (m : Machine) (b : Buffers) (op : Operation) → accepted (step r m b op .answer) ≡ true
       → step r m b op ≡ acceptedStep r m b op
+  -- An accepted table copy, of one table or of two, leaves the cells that the standard's steps leave, whatever the overlap.
+  pub copy-steps : (r : ℕ) (m : Machine) (b : Buffers) (into source : ℕ) (s : CopySpan) → accepted (step r m b (Operation.TableCopy into source s) .answer) ≡ true
+      → step r m b (Operation.TableCopy into source s) .buffers .cells
+      ≡ copySteps (s .len) (b .cells) (tableAt m into .start) (s .to) (tableAt m source .start) (s .from)
   -- 4. Metering on, B at least 1, R at most 16: the bytes written are at most B·F + (B-1)·K.
   pub byte-bound : (r : ℕ) (costs : FuelCosts) (b : Buffers) (ops : List Operation) → r ≤ mostR → 1 ≤ costs .copied
       → totals r (freshMachine true costs) b ops .bytes

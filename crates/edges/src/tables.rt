@@ -213,7 +213,7 @@ fn init(x: Order, t: GrownTable, cells: &mut [u64], items: &[u64]) -> GrownTable
 // To, from, length.
 fn within(x: Order, t: GrownTable, cells: &mut [u64]) -> GrownTable {
     let table = t.table;
-    spanned(t, table.copy_within(cells, span_of(x), t.fuel))
+    spanned(t, table.copy(table, cells, span_of(x), t.fuel))
 }
 
 // Fuel and limiter for the lines that follow.

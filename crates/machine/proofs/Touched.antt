@@ -20,7 +20,7 @@ use Rattle.machine.specs.Frame.{InMemory, InTable, InSegment, NewItems, 
 use Rattle.machine.specs.Outcome.{withMemories, withTables, withSegments, changed, standing, oneMemoryMore, oneTableMore, oneSegmentMore, settled}
 use Rattle.machine.specs.{Operation.wellFormed, Operation.itemsOf, Fueling.onFuel}
 use Rattle.machine.specs.Memories.{performMemory, onMemory, madeMemory, newMemoryOn}
-use Rattle.machine.specs.Tables.{performTable, onTable, madeTable, newTableOn, copyKnown, copyOn}
+use Rattle.machine.specs.Tables.{performTable, onTable, madeTable, newTableOn, copyOn}
 use Rattle.machine.specs.Segments.{initOn, dropOn, madeSegment, newSegmentOn}
 use Rattle.machine.specs.Step.{Performed, onNone, onBytes, onCells, onItems, perform, decide, step}
 use Rattle.machine.specs.{declared.records.Machine.Machine, declared.outcome.Outcome.Outcome, declared.operation.Operation.Operation}
@@ -472,14 +472,11 @@ module _ (m : Machine) (b : Buffers) (op : Operation) (e : soundOver m b ≡ tru
 
   -- 26: cells are copied, between two tables or within one
   copy-table : (r into source : ℕ) (s : CopySpan) → targetOf m op ≡ InTable into → Leaves (onCells (copyOn r m (b .cells) into source s) b)
-  unfolding copyOn copyKnown changed
+  unfolding copyOn changed
   copy-table r into source s p =
       tested (λ (d : Done Outcome). Leaves (onCells d b)) _ _ _
-      (λ t.
-      let h : into < m .counts .tables = ltb-true into (m .counts .tables) (both-1 _ _ t) in
-      tested (λ (d : Done Outcome). Leaves (onCells d b)) _ _ _
-      (λ y. table-written into h p _ (table-frames.within-frame r (tableAt m into) (b .cells) s (m .fuel) .kept))
-      (table-written into h p _ (table-frames.copy-frame r (tableAt m into) (tableAt m source) (b .cells) s (m .fuel) .kept)))
+      (λ t. table-written into (ltb-true into (m .counts .tables) (both-1 _ _ t)) p _
+      (table-frames.copy-frame r (tableAt m into) (tableAt m source) (b .cells) s (m .fuel) .kept))
       stays
 
   -- 27: cells are set from a segment's items

@@ -11,7 +11,7 @@ use Rattle.machine.specs.Machine.{Buffers, memoryAt, tableAt, noMemory, 
 use Rattle.machine.specs.Outcome.{withMemories, withTables, changed}
 use Rattle.machine.specs.Fueling.{setBy, chargedBy, performFuel, onFuel}
 use Rattle.machine.specs.Memories.{performMemory, onMemory, madeMemory, newMemoryOn}
-use Rattle.machine.specs.Tables.{performTable, onTable, copyKnown, copyOn, madeTable, newTableOn}
+use Rattle.machine.specs.Tables.{performTable, onTable, copyOn, madeTable, newTableOn}
 use Rattle.machine.specs.{Segments.initOn, Segments.dropOn, Segments.madeSegment, Segments.newSegmentOn, Step.perform}
 use Rattle.machine.specs.stages.Rows.{fuelWrites, memoryWrites, tableWrites, writesOf}
 use Rattle.machine.specs.{declared.records.Machine.Machine, declared.outcome.Outcome.Outcome, declared.operation.Writes.Writes}
@@ -154,7 +154,7 @@ module _ (r : ℕ) (m : Machine) where
 
   -- every operation
   pub left : (b : Buffers) (o : Operation) → Left (writesOf o) m (perform r m b o .out)
-  unfolding Left perform writesOf newMemoryOn newTableOn copyOn copyKnown initOn dropOn newSegmentOn changed
+  unfolding Left perform writesOf newMemoryOn newTableOn copyOn initOn dropOn newSegmentOn changed
   left b (op.Fuel o) = on-fuel o
   left b (op.NewMemory room wanted) =
       either-way (LeftDone writes.Record) _ _ _ (made-memory-left _ _ (new-memory (m .limiter) wanted _ room (b .bytes))) refl
@@ -162,8 +162,7 @@ module _ (r : ℕ) (m : Machine) where
   left b (op.NewTable room wanted initial) =
       either-way (LeftDone writes.Record) _ _ _ (made-table-left _ _ (new-table (m .limiter) wanted initial _ room (b .cells))) refl
   left b (op.Table number o) = one-table number (b .cells) o
-  left b (op.TableCopy into source span) =
-      either-way (LeftDone writes.Nothing) _ _ _ (either-way (LeftDone writes.Nothing) _ _ _ (refl, refl) (refl, refl)) (refl, refl)
+  left b (op.TableCopy into source span) = either-way (LeftDone writes.Nothing) _ _ _ (refl, refl) (refl, refl)
   left b (op.TableInit into segment span) = either-way (LeftDone writes.Nothing) _ _ _ (refl, refl) (refl, refl)
   left b (op.DropSegment segment) = either-way (Left writes.Record m) _ _ _ refl refl
   left b (op.NewSegment element items) = either-way (LeftDone writes.Record) _ _ _ (made-segment-left _) refl

@@ -1,8 +1,8 @@
 -- Document 01, operations 20 to 26: tables. 16 is tested once, then an operation is one on the table's own record.
 -- R, the bytes that a reference counts, is the first argument throughout.
-use Rattle.types.specs.Prelude.{ℕ, _-_, List, eqb, leb, ltb, length}
-use Rattle.types.specs.Names.{pick, unless, both, Done, done, accept, Answer, Fuel, Limiter, Spanned, TypedRawRef, CopySpan, WantedTable}
-use Rattle.table.specs.Names.{getTable, setTable, newTable, growTable, fillTable, copyTable, copyWithin, Table, GrownTable, MadeTable, CreatedTable}
+use Rattle.types.specs.Prelude.{ℕ, _-_, List, leb, ltb, length}
+use Rattle.types.specs.Names.{unless, both, Done, done, accept, Answer, Fuel, Limiter, Spanned, TypedRawRef, CopySpan, WantedTable}
+use Rattle.table.specs.Names.{getTable, setTable, newTable, growTable, fillTable, copyTable, Table, GrownTable, MadeTable, CreatedTable}
 use Rattle.machine.specs.{Machine.capacity, Machine.tableAt, Machine.nextCell, Outcome.leaves, Outcome.creates, Outcome.refused, Outcome.oneTableMore}
 use Rattle.machine.specs.declared.{records.Machine.Machine, outcome.Outcome.Outcome, outcome.Change.Change, operation.TableOp.TableOp}
 
@@ -48,18 +48,11 @@ spannedOut m s = leaves m (s .answer) (s .fuel) (m .limiter)
 abbrev pub spannedDone : Machine → Done Spanned → Done Outcome
 spannedDone m s = done (spannedOut m (s .out)) (s .cells)
 
--- 26: of two tables, or within one
-unfoldable pub copyKnown : ℕ → Machine → List ℕ → ℕ → ℕ → CopySpan → Done Outcome
-copyKnown r m cs into source span =
-    pick (eqb into source)
-    (spannedDone m (copyWithin r (tableAt m into) cs span (m .fuel)))
-    (spannedDone m (copyTable r (tableAt m into) (tableAt m source) cs span (m .fuel)))
-
--- 16, then the copy
+-- 26: 16, then the copy; both numbers may be one
 unfoldable pub copyOn : ℕ → Machine → List ℕ → ℕ → ℕ → CopySpan → Done Outcome
 copyOn r m cs into source span =
     unless (both (ltb into (m .counts .tables)) (ltb source (m .counts .tables))) (refused m 16 cs)
-    (copyKnown r m cs into source span)
+    (spannedDone m (copyTable r (tableAt m into) (tableAt m source) cs span (m .fuel)))
 
 -- 20: a creation answers the new number; a refused one takes neither number nor room
 unfoldable pub madeTable : Machine → MadeTable → Limiter → Outcome

@@ -27,10 +27,10 @@ ghost use Rattle.types.specs.Raw.{rawBytes};
 ghost use Rattle.table.specs.Table.{setTable};
 ghost use Rattle.table.specs.New.{newTable};
 ghost use Rattle.table.specs.Fill.{fillTable};
-ghost use Rattle.table.specs.Copy.{copyTable, copyWithin};
-ghost use Rattle.machine.specs.Machine.{capacity, nextCell};
+ghost use Rattle.table.specs.Copy.{copyTable};
+ghost use Rattle.machine.specs.Machine.{capacity, tableAt, nextCell};
 ghost use Rattle.machine.specs.Words.{rowLength, machineFrom};
-ghost use Rattle.machine.specs.Tables.{tableKept, tableStored, tableSpanned, performTable, tableOut, tableDone, onTable, spannedOut, spannedDone, copyKnown, copyOn, madeTable, tableMade, newTableOn};
+ghost use Rattle.machine.specs.Tables.{tableKept, tableStored, tableSpanned, performTable, tableOut, tableDone, onTable, spannedOut, spannedDone, copyOn, madeTable, tableMade, newTableOn};
 
 // An answer that leaves the record, with fuel and limiter after it.
 fn keep(table: Table, fuel: Fuel, limiter: Limiter, answer: Answer) -> GrownTable
@@ -155,37 +155,16 @@ pub(crate) fn spanned(words: &[u64], span: Spanned) -> Outcome
     outcome::leaves(words, answer, fuel, limiter)
 }
 
-// Between two tables.
-fn copy_two(words: &[u64], into: Table, source: Table, cells: &mut [u64], span: CopySpan) -> Outcome
-    requires { ⌜ rowLength ≤ length (now words) ⌝ }
-    ensures { λ r. ⌜ done r (now (cells .exit)) ≡ spannedDone (machineFrom (now (words .entry))) (copyTable rawBytes into source (now (cells .entry)) span ((machineFrom (now (words .entry))) .fuel)) ⌝ }
-{
-    let fuel = words::fuel_from(words);
-    let done = into.copy(source, cells, span, fuel);
-    spanned(words, done)
-}
-
-// Within one table.
-fn copy_one(words: &[u64], table: Table, cells: &mut [u64], span: CopySpan) -> Outcome
-    requires { ⌜ rowLength ≤ length (now words) ⌝ }
-    ensures { λ r. ⌜ done r (now (cells .exit)) ≡ spannedDone (machineFrom (now (words .entry))) (copyWithin rawBytes table (now (cells .entry)) span ((machineFrom (now (words .entry))) .fuel)) ⌝ }
-{
-    let fuel = words::fuel_from(words);
-    let done = table.copy_within(cells, span, fuel);
-    spanned(words, done)
-}
-
-// Of known tables: two, or one.
+// Of the records that two known numbers name, which may be one.
 fn copy_known(words: &[u64], cells: &mut [u64], into: u64, source: u64, span: CopySpan) -> Outcome
     requires { ⌜ rowLength ≤ length (now words) ⌝ }
-    ensures { λ r. ⌜ done r (now (cells .exit)) ≡ copyKnown rawBytes (machineFrom (now (words .entry))) (now (cells .entry)) into source span ⌝ }
+    ensures { λ r. ⌜ done r (now (cells .exit)) ≡ spannedDone (machineFrom (now (words .entry))) (copyTable rawBytes (tableAt (machineFrom (now (words .entry))) into) (tableAt (machineFrom (now (words .entry))) source) (now (cells .entry)) span ((machineFrom (now (words .entry))) .fuel)) ⌝ }
 {
     let table = row::table_at(words, into as usize);
-    if into == source {
-        return copy_one(words, table, cells, span);
-    }
     let other = row::table_at(words, source as usize);
-    copy_two(words, table, other, cells, span)
+    let fuel = words::fuel_from(words);
+    let done = table.copy(other, cells, span, fuel);
+    spanned(words, done)
 }
 
 // 26: 16, then a copy.

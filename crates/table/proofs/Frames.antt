@@ -1,6 +1,6 @@
 -- Laws of the operations, for the layer above: what accepted and refused ones leave, what every one keeps, and that sound records stay sound. Assumes nothing.
 use Rattle.types.proofs.Prelude.{_≡_, refl, sym, ap, _∙_, Bool, true, false, List, ℕ, _+_, _-_, _≤_, _<_, arith, le-leb, leb-true, leb-false, ltb-true}
-use Rattle.types.proofs.Prelude.{eqb-true, leb, eqb, length, take, drop, set, replicate, length-replicate, pick-true, pick-false, both-true, both-1, both-2}
+use Rattle.types.proofs.Prelude.{eqb-true, leb, eqb, length, take, drop, set, replicate, length-replicate, pick-true, pick-false, both-true, both-1, both-2, either}
 use Rattle.types.proofs.{Spans.within-is, Spans.length-over, Spans.over-low, Spans.over-after, Moves.length-cut}
 use Rattle.types.proofs.{Stepping.fill-closed, Stepping.init-closed, Stepping.copy-closed, Grants.granted-span, Grants.granted-creation, Grants.granted-admits}
 use mathlib.Core.Logic.{inl, inr}
@@ -14,14 +14,14 @@ use Rattle.types.specs.{declared.limiter.Limiter.Limiter, declared.limiter.Perm
 use Rattle.types.specs.{declared.limiter.Permit.the-variants.Granted, declared.limiter.Permit.the-variants.Denied, declared.limits.Limits.Limits}
 use Rattle.types.specs.{declared.raw.RefType.RefType, declared.raw.TypedRawRef.TypedRawRef, declared.span.CopySpan.CopySpan, declared.span.FillSpan.FillSpan}
 use Rattle.types.specs.{declared.table_ty.TableType.TableType, declared.table_ty.BuiltTable.BuiltTable, declared.table_ty.WantedTable.WantedTable}
-use Rattle.table.proofs.Readings.{grow-reads, new-reads, fill-reads, copy-reads, within-reads, init-reads}
+use Rattle.table.proofs.Readings.{grow-reads, new-reads, fill-reads, copy-reads, init-reads}
 use Rattle.table.proofs.{Sounds.buffer-within, Sounds.sound-room, Sounds.sound-size, Sounds.sound-within, Sounds.segment-places, Growths.growth-fits}
 use Rattle.table.specs.Table.{resized, soundBuffer, soundSize, soundTable, setSound, setTable}
 use Rattle.table.specs.{Element.dropped, Element.soundSegment, Element.newSegment, New.refused, New.tableOf, New.newTable}
 use Rattle.table.specs.stages.New.{madeBy, madeOf, byKind, byType}
 use Rattle.table.specs.stages.Grow.{enlargedBy, grantOf, growTo, growSome, growSound}
 use Rattle.table.specs.stages.Spans.{fillKind, fillSound, copyBounds, copyKinds, initSome, initBounds, initKinds}
-use Rattle.table.specs.{Grow.answered, Grow.growTable, Fill.fillTable, Copy.roomsApart, Copy.soundTwo, Copy.copyTable, Copy.copyWithin, Init.initTable}
+use Rattle.table.specs.{Grow.answered, Grow.growTable, Fill.fillTable, Copy.sameTable, Copy.roomsApart, Copy.soundTwo, Copy.copyTable, Init.initTable}
 use Rattle.table.specs.{declared.table.Table.Table, declared.element.ElementSegment.ElementSegment, declared.element.MadeSegment.MadeSegment}
 use Rattle.table.specs.{declared.new.MadeTable.the-variants.Made, declared.new.MadeTable.the-variants.Refused, declared.new.CreatedTable.CreatedTable}
 use Rattle.table.specs.declared.grow.GrownTable.{GrownTable}
@@ -108,6 +108,12 @@ apart-rooms d s i j n = go (leb (d .start + d .room) (s .start)) refl
         let e : leb (s .start + s .room) (d .start) ≡ true = sym (pick-false _ _ _ p) ∙ q in
         inr (inr (omega (arith, leb-true (s .start + s .room) (d .start) e)))
 
+-- spans of one table need not
+apart-spans : (d s : Table) (i j n : ℕ) → pick (sameTable d s) true (roomsApart d s) ≡ true → i + n ≤ d .room → j + n ≤ s .room → Apart n (d .start) i (s .start) j
+unfolding sameTable
+apart-spans d s i j n e g k =
+    either (sameTable d s) (λ t. inl (eqb-true _ _ (both-1 _ _ t))) (λ t. apart-rooms d s i j n (sym (pick-false _ _ _ t) ∙ e) g k)
+
 module _ (r : ℕ) (d s : Table) (cs : List ℕ) (span : CopySpan) (f : Fuel) where
   copy-bounds : soundTable d (length cs) ≡ true → soundTable s (length cs) ≡ true
       → (span .to + span .len ≤ d .size → span .from + span .len ≤ s .size → Apart (span .len) (d .start) (span .to) (s .start) (span .from))
@@ -135,11 +141,7 @@ module _ (r : ℕ) (d s : Table) (cs : List ℕ) (span : CopySpan) (f : Fuel) wh
       let q = both-1 _ _ (both-2 _ _ h) in
       let a = both-2 _ _ (both-2 _ _ h) in
       span-pick f cs _ _ _ _ _ _
-      (λ k. copy-bounds p q (λ b c. apart-rooms d s (span .to) (span .from) (span .len) a (omega (arith, sound-size d _ p)) (omega (arith, sound-size s _ q))))))
-
-pub within-frame : (r : ℕ) (t : Table) (cs : List ℕ) (span : CopySpan) (f : Fuel)
-    → SpanFrame f cs (copySteps (span .len) cs (t .start) (span .to) (t .start) (span .from)) (t .start) (t .start + t .room) (copyWithin r t cs span f)
-within-frame r t cs span f = rw within-reads (span-pick f cs _ _ _ _ _ _ (λ h. copy-bounds r t t cs span f h h (λ b c. inl refl)))
+      (λ k. copy-bounds p q (λ b c. apart-spans d s (span .to) (span .from) (span .len) a (omega (arith, sound-size d _ p)) (omega (arith, sound-size s _ q))))))
 
 -- init
 module _ (r : ℕ) (t : Table) (s : ElementSegment) (cs items : List ℕ) (span : CopySpan) (f : Fuel) where

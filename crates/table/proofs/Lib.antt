@@ -4,5 +4,6 @@ pub mod Outcomes
 pub mod Growths
 pub mod Exits
 pub mod Readings
+pub mod Copies
 pub mod Frames
 pub mod Unique

@@ -8,7 +8,7 @@ use Rattle.types.specs.{declared.fuel.Fuel.Fuel, declared.grant.Spanned.Spanned
 use Rattle.types.specs.{TableType.validTable, TableType.validated, TableType.buildTable, TableType.elementMatches, declared.raw.TypedRawRef.TypedRawRef}
 use Rattle.types.specs.{declared.span.CopySpan.CopySpan, declared.span.FillSpan.FillSpan, declared.table_ty.WantedTable.WantedTable}
 use Rattle.table.specs.{Table.resized, Table.soundBuffer, Table.soundTable, Element.soundSegment, Grow.answered, Grow.cellsPrice, Grow.growTable}
-use Rattle.table.specs.{Fill.fillTable, Copy.soundTwo, Copy.copyTable, Copy.copyWithin, Init.initTable}
+use Rattle.table.specs.{Fill.fillTable, Copy.soundTwo, Copy.copyTable, Init.initTable}
 use Rattle.table.specs.stages.New.{madeBy, madeOf, byKind, byType}
 use Rattle.table.specs.stages.Grow.{enlargedBy, grantOf, growTo, growSome, growSound}
 use Rattle.table.specs.stages.Spans.{fillKind, fillSound, copyBounds, copyKinds, initSome, initBounds, initKinds}
@@ -83,7 +83,7 @@ fill-reads r t cs span v f =
     ap (λ (o : Done Spanned). unless (soundTable t (length cs)) (spanDone (refuse 19 0) f cs) (unless (elementMatches (t .ty) (v .ty)) (spanDone (refuse 14 0) f cs) o))
     (sym (span-chain f (inside (span .start) (span .len) (t .size)) 11 (price (f .costs .copied) (span .len * r)) cs (over cs (t .start + span .start) (replicate (span .len) (v .raw .bits)))))
 
--- both copies have one chain from the bounds on
+-- a copy from its bounds on
 span-reads : (r : ℕ) (d s : Table) (cs : List ℕ) (span : CopySpan) (f : Fuel)
     → copyBounds r d s cs span f
     ≡ unless (both (inside (span .to) (span .len) (d .size)) (inside (span .from) (span .len) (s .size))) (spanDone (refuse 12 0) f cs)
@@ -100,12 +100,6 @@ unfolding copyTable copyKinds
 copy-reads r d s cs span f =
     ap (λ (o : Done Spanned). unless (soundTwo d s (length cs)) (spanDone (refuse 19 0) f cs) (unless (elementMatches (d .ty) (s .ty .element)) (spanDone (refuse 14 0) f cs) o))
     (sym (span-reads r d s cs span f))
-
-pub within-reads : (r : ℕ) (t : Table) (cs : List ℕ) (span : CopySpan) (f : Fuel)
-    → copyWithin r t cs span f ≡ pick (soundTable t (length cs)) (copyBounds r t t cs span f) (spanDone (refuse 19 0) f cs)
-unfolding copyWithin
-within-reads r t cs span f =
-    ap (λ (o : Done Spanned). unless (soundTable t (length cs)) (spanDone (refuse 19 0) f cs) o) (sym (span-reads r t t cs span f))
 
 pub init-reads : (r : ℕ) (t : Table) (s : ElementSegment) (cs items : List ℕ) (span : CopySpan) (f : Fuel)
     → initTable r t s cs items span f

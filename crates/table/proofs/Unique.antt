@@ -4,8 +4,6 @@ use Rattle.types.proofs.One.{One, OneWith}
 use Rattle.types.proofs.Dones.{done-parts}
 use Rattle.table.proofs.table.Table.copy.Reads as table-copy-reads
 use Rattle.table.proofs.table.Table.copy.Kinds as table-copy-kinds
-use Rattle.table.proofs.table.Table.copy_within.Reads as table-copy-within-reads
-use Rattle.table.proofs.table.Table.copy_within.Kinds as table-copy-within-kinds
 use Rattle.table.proofs.element.ElementSegment.new.Reads as element-segment-new-reads
 use Rattle.table.proofs.element.ElementSegment.new.Kinds as element-segment-new-kinds
 use Rattle.table.proofs.element.ElementSegment.is_sound.Reads as element-segment-is-sound-reads
@@ -31,9 +29,6 @@ use Rattle.table.proofs.table.Table.set.Kinds as table-set-kinds
 
 pub table-copy-one : OneWith 1 table-copy-kinds.ps table-copy-kinds.r table-copy-reads.Pre table-copy-reads.Post (List ℕ) (λ κs s. now (s .1 .1 .0))
 table-copy-one κs a x x′ s s′ z p q = done-parts (p ∙ sym q)
-
-pub table-copy-within-one : OneWith 1 table-copy-within-kinds.ps table-copy-within-kinds.r table-copy-within-reads.Pre table-copy-within-reads.Post (List ℕ) (λ κs s. now (s .1 .0))
-table-copy-within-one κs a x x′ s s′ z p q = done-parts (p ∙ sym q)
 
 pub element-segment-new-one : OneWith 2 element-segment-new-kinds.ps element-segment-new-kinds.r element-segment-new-reads.Pre element-segment-new-reads.Post (List ℕ) (λ κs s. now (s .1 .1 .0))
 element-segment-new-one κs a x x′ s s′ z p q = done-parts (p ∙ sym q)

@@ -1,4 +1,4 @@
-// Copying cells between two tables and within one, in the order of checks of document 01.
+// Copying cells between two tables, which may be one, in the order of checks of document 01.
 use super::cells;
 use super::table;
 use super::table::Table;
@@ -17,7 +17,7 @@ ghost use Rattle.types.specs.Done.{done};
 ghost use Rattle.types.specs.stages.Grant.{spanned};
 ghost use Rattle.types.specs.Raw.{rawBytes};
 ghost use Rattle.table.specs.stages.Facts.{Goes, Within};
-ghost use Rattle.table.specs.Copy.{roomsApart, soundTwo, copyTable, copyWithin};
+ghost use Rattle.table.specs.Copy.{sameTable, roomsApart, soundTwo, copyTable};
 ghost use Rattle.table.specs.stages.Spans.{copyBounds, copyKinds};
 
 // By what bounds and fuel say.
@@ -60,6 +60,19 @@ fn copy_bounds(into: Table, source: Table, cells: &mut [u64], span: CopySpan, fu
     copy_by(step, fuel, into, source, cells, span)
 }
 
+// Whether two records are of one table.
+fn same_table(into: Table, source: Table) -> bool
+    ensures { λ r. ⌜ r ≡ sameTable into source ⌝ }
+{
+    if into.start != source.start {
+        return false;
+    }
+    if into.room != source.room {
+        return false;
+    }
+    into.size == source.size
+}
+
 // Whether the rooms of two tables follow each other.
 fn rooms_apart(into: Table, source: Table) -> bool
     ensures { λ r. ⌜ r ≡ roomsApart into source ⌝ }
@@ -79,6 +92,9 @@ fn sound_two(into: Table, source: Table, len: usize) -> bool
     if !source.is_sound(len) {
         return false;
     }
+    if same_table(into, source) {
+        return true;
+    }
     rooms_apart(into, source)
 }
 
@@ -96,24 +112,14 @@ fn copy_kinds(into: Table, source: Table, cells: &mut [u64], span: CopySpan, fue
 }
 
 impl Table {
-    // Cells of another table go to this one: 14, 12 outside, 7; 19 where a record is unsound or the rooms meet.
+    // Cells of a table, this one or another, go to this one, read as they were before: 14, 12 outside, 7; 19 where a record is unsound
+    // or the rooms of two tables meet.
     pub fn copy(self, source: Table, cells: &mut [u64], span: CopySpan, fuel: Fuel) -> Spanned
         ensures { λ r. ⌜ done r (now (cells .exit)) ≡ copyTable rawBytes self source (now (cells .entry)) span fuel ⌝ }
     {
         let len = cells.len();
         if sound_two(self, source, len) {
             return copy_kinds(self, source, cells, span, fuel);
-        }
-        table::not_spanned(19, fuel)
-    }
-
-    // Cells go to others of the same table, read as they were before: 12 outside, 7; 19 where the record is unsound.
-    pub fn copy_within(self, cells: &mut [u64], span: CopySpan, fuel: Fuel) -> Spanned
-        ensures { λ r. ⌜ done r (now (cells .exit)) ≡ copyWithin rawBytes self (now (cells .entry)) span fuel ⌝ }
-    {
-        let len = cells.len();
-        if self.is_sound(len) {
-            return copy_bounds(self, self, cells, span, fuel);
         }
         table::not_spanned(19, fuel)
     }

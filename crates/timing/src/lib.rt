@@ -28,7 +28,7 @@ ghost use Rattle.memory.specs.Grow.{growMemory};
 ghost use Rattle.memory.specs.Host.{readMemory, writeMemory};
 ghost use Rattle.table.specs.Table.{getTable, setTable};
 ghost use Rattle.table.specs.Fill.{fillTable};
-ghost use Rattle.table.specs.Copy.{copyTable, copyWithin};
+ghost use Rattle.table.specs.Copy.{copyTable};
 ghost use Rattle.table.specs.Init.{initTable};
 ghost use Rattle.timing.specs.Timing.{pageOf, memoryOf, fuelOf, tableOf, refOf, segmentOf, fillSpan, copySpan, Grew, Took, Charged, Got, Wrote, Spans};
 
@@ -333,24 +333,24 @@ fn copy_from(
     answer.number()
 }
 
-// A copy from the table of `size` cells after the first `split` to the table of those.
+// A copy to the table of the first `size` cells from that of as many from `start` on, which may be the same.
 #[no_mangle]
 pub extern "C" fn timing_copy(
     cells: &mut [u64],
     wide: bool,
-    split: usize,
     size: u64,
     to: u64,
     from: u64,
     count: u64,
+    start: usize,
     metered: bool,
     left: &mut u64,
     per_unit: u32,
 ) -> u8
-    ensures { λ r. ⌜ Spans (copyTable rawBytes (tableOf wide 0 split) (tableOf wide split size) (now (cells .entry)) (copySpan to from count) (fuelOf metered (now (left .entry)) «per_unit»)) r (now (cells .exit)) (now (left .exit)) ⌝ }
+    ensures { λ r. ⌜ Spans (copyTable rawBytes (tableOf wide 0 size) (tableOf wide start size) (now (cells .entry)) (copySpan to from count) (fuelOf metered (now (left .entry)) «per_unit»)) r (now (cells .exit)) (now (left .exit)) ⌝ }
 {
-    let table = table_of(wide, 0, split as u64);
-    let source = table_of(wide, split, size);
+    let table = table_of(wide, 0, size);
+    let source = table_of(wide, start, size);
     let fuel = fuel_of(metered, *left, per_unit);
     let span = CopySpan {
         to,
@@ -358,47 +358,6 @@ pub extern "C" fn timing_copy(
         len: count,
     };
     copy_from(table, source, cells, span, fuel, left)
-}
-
-fn copy_within_from(
-    table: Table,
-    cells: &mut [u64],
-    span: CopySpan,
-    fuel: Fuel,
-    left: &mut u64,
-) -> u8
-    ensures { λ r. ⌜ Spans (copyWithin rawBytes table (now (cells .entry)) span fuel) r (now (cells .exit)) (now (left .exit)) ⌝ }
-{
-    let copied = table.copy_within(cells, span, fuel);
-    let paid = copied.fuel;
-    let answer = copied.answer;
-    *left = paid.remaining;
-    answer.number()
-}
-
-// A copy within one table.
-#[no_mangle]
-pub extern "C" fn timing_copy_within(
-    cells: &mut [u64],
-    wide: bool,
-    size: u64,
-    to: u64,
-    from: u64,
-    count: u64,
-    metered: bool,
-    left: &mut u64,
-    per_unit: u32,
-) -> u8
-    ensures { λ r. ⌜ Spans (copyWithin rawBytes (tableOf wide 0 size) (now (cells .entry)) (copySpan to from count) (fuelOf metered (now (left .entry)) «per_unit»)) r (now (cells .exit)) (now (left .exit)) ⌝ }
-{
-    let table = table_of(wide, 0, size);
-    let fuel = fuel_of(metered, *left, per_unit);
-    let span = CopySpan {
-        to,
-        from,
-        len: count,
-    };
-    copy_within_from(table, cells, span, fuel, left)
 }
 
 fn init_from(

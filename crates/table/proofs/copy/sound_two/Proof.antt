@@ -19,12 +19,19 @@ returns-2 : tie.Need-returns-2
 unfolding soundTwo
 returns-2 c = search exits
 
-rooms-apart-requires : tie.Need-rooms-apart-requires
-rooms-apart-requires c κs = search needs
+same-table-requires : tie.Need-same-table-requires
+same-table-requires c κs = search needs
 
 returns-3 : tie.Need-returns-3
 unfolding soundTwo
 returns-3 c = search exits
+
+rooms-apart-requires : tie.Need-rooms-apart-requires
+rooms-apart-requires c κs = search needs
+
+returns-4 : tie.Need-returns-4
+unfolding soundTwo
+returns-4 c = search exits
 
 pub sound-two-spec : {M : Type 1} → statement M
 sound-two-spec =
@@ -34,5 +41,7 @@ sound-two-spec =
     returns
     is-sound-requires-2
     returns-2
+    same-table-requires
+    returns-3
     rooms-apart-requires
-    returns-3)
+    returns-4)
