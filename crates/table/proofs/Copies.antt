@@ -1,6 +1,6 @@
 -- Laws of the one copy: from a table to itself, and between two tables whose rooms meet. Assumes nothing.
 use Rattle.types.proofs.Prelude.{_≡_, refl, _∙_, true, false, List, ℕ, _+_, length, eq-eqb, pick-true, pick-false, both-true, both-right}
-use Rattle.types.specs.Names.{unless, pick, both, inside, cut, over, refuse, accept, short, paid, Done, spanDone, Fuel, Spanned, CopySpan, TableType, RefType}
+use Rattle.types.specs.Names.{unless, pick, both, inside, cut, over, refuse, accept, short, paid, spanDone, Fuel, CopySpan, TableType, RefType}
 use Rattle.types.specs.{Raw.sameKind, TableType.elementMatches, declared.raw.RefType.the-variants.Func, declared.raw.RefType.the-variants.Extern}
 use Rattle.table.specs.{Table.soundTable, Grow.cellsPrice, Copy.sameTable, Copy.roomsApart, Copy.soundTwo, Copy.copyTable, declared.table.Table.Table}
 

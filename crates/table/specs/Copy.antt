@@ -4,7 +4,7 @@ use Rattle.types.specs.Names.{pick, unless, both, inside, cut, over, refuse, ac
 use Rattle.types.specs.Names.{Fuel, Spanned, CopySpan}
 use Rattle.table.specs.{Table.soundTable, Grow.cellsPrice, declared.table.Table.Table}
 
--- two records of one table: the same start, room and size
+-- two records of one table: the same start, room and size; two tables without a room may have that too, and share no cell
 unfoldable pub sameTable : Table → Table → Bool
 sameTable d s = both (eqb (d .start) (s .start)) (both (eqb (d .room) (s .room)) (eqb (d .size) (s .size)))
 
