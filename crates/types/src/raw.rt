@@ -1,5 +1,6 @@
 // References: 64 bits here, and the kind of what they refer to.
 ghost use mathlib.Core.Path.{_≡_};
+ghost use Rattle.types.specs.declared.raw.RefType.the-variants.{Extern};
 ghost use Rattle.types.specs.Raw.{nullRef, isNull, nullOf, typedOf, sameKind, rawBytes};
 
 pub enum RefType {
@@ -7,21 +8,25 @@ pub enum RefType {
     Extern,
 }
 
+// A kind is a flag: two flags are compared in a few instructions, two kinds by a table of cases.
+fn is_extern(kind: RefType) -> bool
+    ensures { λ r. ⌜ r ≡ sameKind Extern kind ⌝ }
+{
+    match kind {
+        RefType::Func => false,
+        RefType::Extern => true,
+    }
+}
+
 impl RefType {
     // Whether two element kinds are one.
     pub fn same(self, other: RefType) -> bool
         ensures { λ r. ⌜ r ≡ sameKind self other ⌝ }
     {
-        match self {
-            RefType::Func => match other {
-                RefType::Func => true,
-                RefType::Extern => false,
-            },
-            RefType::Extern => match other {
-                RefType::Func => false,
-                RefType::Extern => true,
-            },
+        if is_extern(self) {
+            return is_extern(other);
         }
+        !is_extern(other)
     }
 }
 
