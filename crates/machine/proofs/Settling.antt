@@ -1,22 +1,22 @@
 -- What an operation writes to a row that holds its machine's words are the words of the machine after it, and the row then says that machine. Assumes nothing.
-use Rattle.types.proofs.Prelude.{ℕ, _+_, _*_, _≤_, _<_, _≡_, refl, sym, ap, subst, _∙_, Bool, true, false, false≢true, List, _++_, arith, ltb, length, set}
+use Rattle.types.proofs.Prelude.{ℕ, _+_, _*_, _≤_, _<_, _≡_, refl, sym, ap, subst, _∙_, Bool, true, false, false≢true, List, [], _∷_, _++_, arith, ltb, length, set}
 use Rattle.types.proofs.Prelude.{length-set, ltb-true, leb-true, le-leb, lt-leb, pick-true, pick-false, both-true, both-left, both-right, both-1, both-2}
 use Rattle.types.proofs.Prelude.{either}
-use Rattle.types.specs.{Pick.pick, Span.over, Raw.rawBytes, declared.fuel.Fuel.Fuel, declared.limiter.Limiter.Limiter, Answer.refuse}
+use Rattle.types.specs.{Pick.pick, Span.over, Raw.rawBytes, Fuel.left, declared.fuel.Fuel.Fuel, declared.limiter.Limiter.Limiter, Answer.refuse}
 use Rattle.memory.specs.declared.memory.Memory.{Memory}
 use Rattle.table.specs.{declared.table.Table.Table, declared.element.ElementSegment.ElementSegment}
 use Rattle.machine.specs.{Machine.Buffers, Machine.noMemory, Machine.noTable, Machine.noSegment, Sound.soundOver, Operation.wellFormed}
 use Rattle.machine.specs.Outcome.{keeps, withMemories, withTables, withSegments, changed, settled}
 use Rattle.machine.specs.Step.{Stepped, onNone, after, perform, decide, step}
-use Rattle.machine.specs.Words.{recordLength, segmentLength, tablesAt, segmentsAt, countsAt, rowLength}
-use Rattle.machine.specs.Words.{memoryWords, tableWords, segmentWords, rowsOf, instanceWords, standingWords, stateWords, wordsOf, machineFrom, inForm}
+use Rattle.machine.specs.Words.{recordLength, segmentLength, tablesAt, segmentsAt, countsAt, fuelAt, rowLength}
+use Rattle.machine.specs.Words.{memoryWords, tableWords, segmentWords, countWords, fuelWords, placeWords, rowsOf, instanceWords, standingWords, stateWords, wordsOf, machineFrom, inForm}
 use Rattle.machine.specs.Row.{InRow, rowKeeps, rowAfter, operateRow}
 use Rattle.machine.specs.stages.Rows.{Inside, endsInside, Fits, Shaped, changedRow, writesOf, settledRow, rowSettled, Goes, Holds, proceedRow, Steps, Proceeds}
 use Rattle.machine.specs.{declared.records.Machine.Machine, declared.records.Counts.Counts, declared.outcome.Outcome.Outcome}
 use Rattle.machine.specs.{declared.outcome.Change.Change, declared.operation.Operation.Operation, declared.operation.Writes.Writes}
-use Rattle.machine.proofs.Lengths.{length-memory, length-table, length-segment, length-standing}
+use Rattle.machine.proofs.Lengths.{length-memory, length-table, length-segment, length-count, length-fuel, length-standing}
 use Rattle.machine.proofs.{Rows.rows-length, Rows.length-both, Rows.over-all, Places.over-left, Places.over-right, Places.over-in, Places.rows-set}
-use Rattle.machine.proofs.{Back.row-back, Back.shaped-from, Formed.form-holds, Written.Left, Written.left}
+use Rattle.machine.proofs.{Back.row-back, Back.shaped-from, Formed.form-holds, Written.Left, Written.leaves}
 use Rattle.machine.proofs.Rooms.{next-byte-inside, next-cell-inside, next-item-inside}
 use Rattle.machine.specs.declared.outcome.Change.the-variants as change
 use Rattle.machine.specs.declared.operation.Writes.the-variants as writes
@@ -24,6 +24,11 @@ use Rattle.machine.specs.declared.operation.Writes.the-variants as write
 -- how long the parts are
 state-long : (k : Counts) (f : Fuel) (p : Limiter) → length (p .script) ≡ 16 → length (stateWords k f p) ≡ 26
 state-long k f p e = length-both (standingWords k f p) (p .script) 10 16 26 (length-standing k f p) e refl
+
+-- the fuel left is the first of fuel's words
+left-first : (f : Fuel) (n : ℕ) → over (fuelWords f) 0 (n ∷ []) ≡ fuelWords (left f n)
+unfolding over fuelWords
+left-first f n = refl
 
 -- a machine whose lists have 8 places
 pub record Eights (m : Machine) : Type 0 where
@@ -108,6 +113,20 @@ module _ (m : Machine) (h : Eights m) where
       let e : 160 ≡ length (instanceWords m) + 0 = omega (arith, instances-long) in
       over-right (instanceWords m) (s ++ u) 0 160 t e
       ∙ ap (λ (z : List ℕ). instanceWords m ++ z) (over-left s u 0 t (omega (arith, p, q)) ∙ ap (λ (z : List ℕ). z ++ u) (over-all s t 10 p q))
+
+  -- the fuel left
+  left-among : (k : Counts) (f : Fuel) (p : Limiter) (n : ℕ) → over (instanceWords m ++ stateWords k f p) fuelAt (n ∷ []) ≡ instanceWords m ++ stateWords k (left f n) p
+  left-among k f p n =
+      let c = countWords k in
+      let w = fuelWords f in
+      let e : 163 ≡ length (instanceWords m) + 3 = omega (arith, instances-long) in
+      let g : 3 ≡ length c + 0 = omega (arith, length-count k) in
+      over-right (instanceWords m) (((c ++ w) ++ placeWords p) ++ p .script) 3 163 (n ∷ []) e
+      ∙ ap (λ (z : List ℕ). instanceWords m ++ z)
+      (over-left ((c ++ w) ++ placeWords p) (p .script) 3 (n ∷ []) (omega (arith, length-standing k f p))
+      ∙ ap (λ (z : List ℕ). z ++ p .script)
+      (over-left (c ++ w) (placeWords p) 3 (n ∷ []) (omega (arith, length-both c w 3 5 8 (length-count k) (length-fuel f) refl))
+      ∙ ap (λ (z : List ℕ). z ++ placeWords p) (over-right c w 0 3 (n ∷ []) g ∙ ap (λ (z : List ℕ). c ++ z) (left-first f n))))
 
 -- a change keeps the lists' lengths
 pub changed-eights : (x : Change) (m : Machine) → Eights m → Eights (changed x m)
@@ -196,9 +215,11 @@ module _ (l : List ℕ) (o : Outcome) (h : Holds l) (f : Fits (o .fuel) (o .limi
 
   settle-words : (w : Writes) → Left w before o → settledRow l w o ≡ over l 0 (wordsOf (settled before o))
   unfolding settledRow settled wordsOf Left
-  settle-words writes.Nothing (kept, same) =
-      ap (λ (z : List ℕ). over z 160 standing) h ∙ put-standing before (eights before (shaped-from l)) same
-      ∙ ap (λ (k : Machine). over l 0 (instanceWords k ++ stated)) (sym kept)
+  settle-words writes.Nothing only =
+      ap (λ (z : List ℕ). over z 163 (o .fuel .remaining ∷ [])) h
+      ∙ over-in l (instanceWords before ++ held) 163 (o .fuel .remaining ∷ []) (omega (arith, row-long l held before (eights before (shaped-from l)) held-long))
+      ∙ ap (over l 0) (left-among before (eights before (shaped-from l)) (before .counts) (before .fuel) (before .limiter) (o .fuel .remaining))
+      ∙ ap (λ (k : Machine). over l 0 (wordsOf k)) (sym only)
   settle-words writes.Record same =
       ap (λ (z : List ℕ). over (changedRow z (o .change)) 160 standing) h
       ∙ ap (λ (z : List ℕ). over z 160 standing) (change-row l held before (eights before (shaped-from l)) held-long (o .change))
@@ -220,7 +241,7 @@ goes-steps l b op h w e f q =
     let m = machineFrom l in
     let p = perform rawBytes m b op in
     let g = goes rawBytes m b op w e in
-    let words = settle-words l (p .out) h f (writesOf op) (left rawBytes m b op) in
+    let words = settle-words l (p .out) h f (writesOf op) (leaves rawBytes m b op) in
     let row : rowSettled l op p ≡ rowAfter l (after m p) = ap (λ (z : List ℕ). record { answer = p .out .answer; words = z; buffers = p .buffers }) words in
     let back : machineFrom (over l 0 (wordsOf (settled m (p .out)))) ≡ settled m (p .out) = row-back (settled m (p .out)) l (settled-shaped m (p .out) (eights m (shaped-from l)) f) in
     record {

@@ -1,15 +1,16 @@
--- Which words an operation leaves: no record changes but by a creation, a growth or a drop, no answer of the script but by handing one over. Assumes nothing.
-use Rattle.types.proofs.Prelude.{ℕ, _≡_, refl, ap, Bool, true, false, List, ltb}
+-- Which words an operation leaves: only the fuel left changes but by a creation, a growth or a drop, or by handing a script over, which alone changes the script's answers. Assumes nothing.
+use Rattle.types.proofs.Prelude.{ℕ, _≡_, refl, ap, _∙_, Bool, true, false, List, ltb}
 use lib.Seq.{set-getD}
-use Rattle.types.specs.{Pick.pick, Done.Done, Limiter.moved, declared.fuel.Fuel.Fuel, declared.fuel.FuelStep.FuelStep, declared.limiter.Limiter.Limiter}
+use Rattle.types.specs.{Pick.pick, Done.Done, Fuel.left, Fuel.paid, Fuel.setFuel, Fuel.consume, Fuel.consumeUnchecked, Limiter.moved, declared.fuel.Fuel.Fuel, declared.fuel.FuelStep.FuelStep, declared.limiter.Limiter.Limiter}
 use Rattle.types.specs.{declared.memory_ty.WantedMemory.WantedMemory, declared.table_ty.WantedTable.WantedTable, declared.raw.TypedRawRef.TypedRawRef}
+use Rattle.types.specs.{declared.grant.Spanned.Spanned, declared.span.FillSpan.FillSpan, declared.span.CopySpan.CopySpan}
 use Rattle.memory.specs.{New.newMemory, Grow.growMemory, declared.memory.Memory.Memory, declared.grow.GrownMemory.GrownMemory}
 use Rattle.memory.specs.{declared.new.MadeMemory.MadeMemory, declared.new.CreatedMemory.CreatedMemory}
-use Rattle.table.specs.{New.newTable, Grow.growTable, declared.table.Table.Table, declared.grow.GrownTable.GrownTable, declared.new.MadeTable.MadeTable}
-use Rattle.table.specs.{declared.new.CreatedTable.CreatedTable, declared.element.MadeSegment.MadeSegment}
-use Rattle.machine.specs.Machine.{Buffers, memoryAt, tableAt, noMemory, noTable}
-use Rattle.machine.specs.Outcome.{withMemories, withTables, changed}
-use Rattle.machine.specs.Fueling.{setBy, chargedBy, performFuel, onFuel}
+use Rattle.table.specs.{New.newTable, Grow.growTable, Fill.fillTable, Copy.copyTable, Init.initTable, declared.table.Table.Table, declared.grow.GrownTable.GrownTable, declared.new.MadeTable.MadeTable}
+use Rattle.table.specs.{declared.new.CreatedTable.CreatedTable, declared.element.ElementSegment.ElementSegment, declared.element.MadeSegment.MadeSegment}
+use Rattle.machine.specs.Machine.{Buffers, memoryAt, tableAt, segmentAt, noMemory, noTable}
+use Rattle.machine.specs.Outcome.{withMemories, withTables, changed, standing, metered, settled}
+use Rattle.machine.specs.Fueling.{setBy, chargedBy, performFuel, fueledOut, onFuel}
 use Rattle.machine.specs.Memories.{performMemory, onMemory, madeMemory, newMemoryOn}
 use Rattle.machine.specs.Tables.{performTable, onTable, copyOn, madeTable, newTableOn}
 use Rattle.machine.specs.{Segments.initOn, Segments.dropOn, Segments.madeSegment, Segments.newSegmentOn, Step.perform}
@@ -17,7 +18,6 @@ use Rattle.machine.specs.stages.Rows.{fuelWrites, memoryWrites, tableWri
 use Rattle.machine.specs.{declared.records.Machine.Machine, declared.outcome.Outcome.Outcome, declared.operation.Writes.Writes}
 use Rattle.machine.specs.{declared.operation.FuelOp.FuelOp, declared.operation.MemoryOp.MemoryOp, declared.operation.TableOp.TableOp}
 use Rattle.machine.specs.declared.operation.Operation.{Operation}
-use Rattle.types.specs.declared.fuel.FuelStep.the-variants as step
 use Rattle.memory.specs.declared.new.MadeMemory.the-variants as made-memory
 use Rattle.table.specs.declared.new.MadeTable.the-variants as made-table
 use Rattle.table.specs.declared.element.MadeSegment.the-variants as made-segment
@@ -91,9 +91,33 @@ module _ (l : Limiter) where
       (either-way Grown-table _ _ _ refl
       (either-way Grown-table _ _ _ (either-way Grown-table _ _ _ refl (either-way Grown-table _ _ _ refl refl)) refl))) refl)) refl) refl
 
+-- spans only take of the fuel left
+module _ (f : Fuel) where
+  abbrev Taken : Done Spanned → Type 0
+  Taken d = d .out .fuel ≡ left f (d .out .fuel .remaining)
+
+  pay : (p : ℕ) → paid f p ≡ left f (paid f p .remaining)
+  pay p = either-way (λ (g : Fuel). g ≡ left f (g .remaining)) (f .enabled) _ _ refl refl
+
+  fill-takes : (r : ℕ) (t : Table) (cs : List ℕ) (span : FillSpan) (v : TypedRawRef) → Taken (fillTable r t cs span v f)
+  unfolding fillTable
+  fill-takes r t cs span v =
+      either-way Taken _ _ _ (either-way Taken _ _ _ (either-way Taken _ _ _ (either-way Taken _ _ _ refl (pay _)) refl) refl) refl
+
+  copy-takes : (r : ℕ) (d s : Table) (cs : List ℕ) (span : CopySpan) → Taken (copyTable r d s cs span f)
+  unfolding copyTable
+  copy-takes r d s cs span =
+      either-way Taken _ _ _ (either-way Taken _ _ _ (either-way Taken _ _ _ (either-way Taken _ _ _ refl (pay _)) refl) refl) refl
+
+  init-takes : (r : ℕ) (t : Table) (s : ElementSegment) (cs items : List ℕ) (span : CopySpan) → Taken (initTable r t s cs items span f)
+  unfolding initTable
+  init-takes r t s cs items span =
+      either-way Taken _ _ _
+      (either-way Taken _ _ _ (either-way Taken _ _ _ (either-way Taken _ _ _ refl (either-way Taken _ _ _ refl (pay _))) refl) refl) refl
+
 -- what an operation leaves as it was
 unfoldable pub Left : Writes → Machine → Outcome → Type 0
-Left writes.Nothing m o = (changed (o .change) m ≡ m) × (o .limiter .script ≡ m .limiter .script)
+Left writes.Nothing m o = settled m o ≡ metered m (left (m .fuel) (o .fuel .remaining)) (m .limiter)
 Left writes.Record m o = o .limiter .script ≡ m .limiter .script
 Left writes.Script m o = changed (o .change) m ≡ m
 
@@ -101,22 +125,17 @@ module _ (r : ℕ) (m : Machine) where
   abbrev LeftDone : Writes → Done Outcome → Type 0
   LeftDone w d = Left w m (d .out)
 
+  abbrev Only : Outcome → Type 0
+  Only o = Left writes.Nothing m o
+
   -- fuel
-  set-by : (s : FuelStep) → setBy s (m .fuel) (m .limiter) .limiter .script ≡ m .limiter .script
-  unfolding setBy
-  set-by (step.Refused x) = refl
-  set-by (step.Done left) = refl
-
-  charged-by : (s : FuelStep) → chargedBy s (m .fuel) (m .limiter) .limiter .script ≡ m .limiter .script
-  unfolding chargedBy
-  charged-by (step.Refused x) = refl
-  charged-by (step.Done left) = refl
-
   on-fuel : (o : FuelOp) → Left (fuelWrites o) m (onFuel m o)
-  unfolding Left onFuel performFuel fuelWrites changed
-  on-fuel (fuel.SetFuel amount) = (refl, set-by _)
-  on-fuel fuel.GetFuel = (refl, refl)
-  on-fuel (fuel.Charge units) = (refl, charged-by _)
+  unfolding Left onFuel performFuel fuelWrites settled changed setFuel setBy consume consumeUnchecked chargedBy
+  on-fuel (fuel.SetFuel amount) = either-way (λ (s : FuelStep). Only (fueledOut m (setBy s (m .fuel) (m .limiter)))) _ _ _ refl refl
+  on-fuel fuel.GetFuel = refl
+  on-fuel (fuel.Charge units) =
+      either-way (λ (s : FuelStep). Only (fueledOut m (chargedBy s (m .fuel) (m .limiter)))) _ _ _
+      (either-way (λ (s : FuelStep). Only (fueledOut m (chargedBy s (m .fuel) (m .limiter)))) _ _ _ refl refl) refl
   on-fuel (fuel.SetLimiter script) = refl
 
   -- memories
@@ -125,13 +144,16 @@ module _ (r : ℕ) (m : Machine) where
   made-memory-left (made-memory.Refused x) l h = h
   made-memory-left (made-memory.Made x) l h = h
 
+  memory-back : (i : ℕ) → standing (changed (change.Memory i (memoryAt m i)) m) (m .counts) (m .fuel) (m .limiter) ≡ m
+  memory-back i = ap (λ (k : Machine). standing k (m .counts) (m .fuel) (m .limiter)) (memory-put-back m i)
+
   one-memory : (i : ℕ) (bs : List ℕ) (o : MemoryOp) → LeftDone (memoryWrites o) (onMemory m bs i o)
-  unfolding Left onMemory performMemory memoryWrites changed
+  unfolding Left onMemory performMemory memoryWrites settled changed
   one-memory i bs (memory.Grow pages) = either-way (LeftDone writes.Record) _ _ _ (grow-memory (m .limiter) (memoryAt m i) bs pages (m .fuel)) refl
-  one-memory i bs memory.Size = either-way (LeftDone writes.Nothing) _ _ _ (memory-put-back m i, refl) (refl, refl)
-  one-memory i bs (memory.Load kind pointer offset) = either-way (LeftDone writes.Nothing) _ _ _ (memory-put-back m i, refl) (refl, refl)
-  one-memory i bs (memory.Store kind pointer offset bits) = either-way (LeftDone writes.Nothing) _ _ _ (memory-put-back m i, refl) (refl, refl)
-  one-memory i bs (memory.LinkCheck wanted) = either-way (LeftDone writes.Nothing) _ _ _ (memory-put-back m i, refl) (refl, refl)
+  one-memory i bs memory.Size = either-way (LeftDone writes.Nothing) _ _ _ (memory-back i) refl
+  one-memory i bs (memory.Load kind pointer offset) = either-way (LeftDone writes.Nothing) _ _ _ (memory-back i) refl
+  one-memory i bs (memory.Store kind pointer offset bits) = either-way (LeftDone writes.Nothing) _ _ _ (memory-back i) refl
+  one-memory i bs (memory.LinkCheck wanted) = either-way (LeftDone writes.Nothing) _ _ _ (memory-back i) refl
 
   -- tables
   made-table-left : (x : MadeTable) (l : Limiter) → l .script ≡ m .limiter .script → Left writes.Record m (madeTable m x l)
@@ -139,13 +161,18 @@ module _ (r : ℕ) (m : Machine) where
   made-table-left (made-table.Refused x) l h = h
   made-table-left (made-table.Made x) l h = h
 
+  table-back : (i : ℕ) (f : Fuel) → standing (changed (change.Table i (tableAt m i)) m) (m .counts) f (m .limiter) ≡ metered m f (m .limiter)
+  table-back i f = ap (λ (k : Machine). standing k (m .counts) f (m .limiter)) (table-put-back m i)
+
   one-table : (i : ℕ) (cs : List ℕ) (o : TableOp) → LeftDone (tableWrites o) (onTable r m cs i o)
-  unfolding Left onTable performTable tableWrites changed
+  unfolding Left onTable performTable tableWrites settled changed
   one-table i cs (table.Grow cells value) = either-way (LeftDone writes.Record) _ _ _ (grow-table (m .limiter) r (tableAt m i) cs cells value (m .fuel)) refl
-  one-table i cs table.Size = either-way (LeftDone writes.Nothing) _ _ _ (table-put-back m i, refl) (refl, refl)
-  one-table i cs (table.Get index) = either-way (LeftDone writes.Nothing) _ _ _ (table-put-back m i, refl) (refl, refl)
-  one-table i cs (table.Set index value) = either-way (LeftDone writes.Nothing) _ _ _ (table-put-back m i, refl) (refl, refl)
-  one-table i cs (table.Fill start value len) = either-way (LeftDone writes.Nothing) _ _ _ (table-put-back m i, refl) (refl, refl)
+  one-table i cs table.Size = either-way (LeftDone writes.Nothing) _ _ _ (table-back i (m .fuel)) refl
+  one-table i cs (table.Get index) = either-way (LeftDone writes.Nothing) _ _ _ (table-back i (m .fuel)) refl
+  one-table i cs (table.Set index value) = either-way (LeftDone writes.Nothing) _ _ _ (table-back i (m .fuel)) refl
+  one-table i cs (table.Fill start value len) =
+      either-way (LeftDone writes.Nothing) _ _ _
+      (table-back i _ ∙ ap (λ (f : Fuel). metered m f (m .limiter)) (fill-takes (m .fuel) r (tableAt m i) cs _ value)) refl
 
   made-segment-left : (x : MadeSegment) → Left writes.Record m (madeSegment m x)
   unfolding Left madeSegment
@@ -153,16 +180,19 @@ module _ (r : ℕ) (m : Machine) where
   made-segment-left (made-segment.Made x) = refl
 
   -- every operation
-  pub left : (b : Buffers) (o : Operation) → Left (writesOf o) m (perform r m b o .out)
-  unfolding Left perform writesOf newMemoryOn newTableOn copyOn initOn dropOn newSegmentOn changed
-  left b (op.Fuel o) = on-fuel o
-  left b (op.NewMemory room wanted) =
+  pub leaves : (b : Buffers) (o : Operation) → Left (writesOf o) m (perform r m b o .out)
+  unfolding Left perform writesOf newMemoryOn newTableOn copyOn initOn dropOn newSegmentOn settled changed
+  leaves b (op.Fuel o) = on-fuel o
+  leaves b (op.NewMemory room wanted) =
       either-way (LeftDone writes.Record) _ _ _ (made-memory-left _ _ (new-memory (m .limiter) wanted _ room (b .bytes))) refl
-  left b (op.Memory number o) = one-memory number (b .bytes) o
-  left b (op.NewTable room wanted initial) =
+  leaves b (op.Memory number o) = one-memory number (b .bytes) o
+  leaves b (op.NewTable room wanted initial) =
       either-way (LeftDone writes.Record) _ _ _ (made-table-left _ _ (new-table (m .limiter) wanted initial _ room (b .cells))) refl
-  left b (op.Table number o) = one-table number (b .cells) o
-  left b (op.TableCopy into source span) = either-way (LeftDone writes.Nothing) _ _ _ (refl, refl) (refl, refl)
-  left b (op.TableInit into segment span) = either-way (LeftDone writes.Nothing) _ _ _ (refl, refl) (refl, refl)
-  left b (op.DropSegment segment) = either-way (Left writes.Record m) _ _ _ refl refl
-  left b (op.NewSegment element items) = either-way (LeftDone writes.Record) _ _ _ (made-segment-left _) refl
+  leaves b (op.Table number o) = one-table number (b .cells) o
+  leaves b (op.TableCopy into source span) =
+      either-way (LeftDone writes.Nothing) _ _ _ (ap (λ (f : Fuel). metered m f (m .limiter)) (copy-takes (m .fuel) r (tableAt m into) (tableAt m source) (b .cells) span)) refl
+  leaves b (op.TableInit into segment span) =
+      either-way (LeftDone writes.Nothing) _ _ _
+      (ap (λ (f : Fuel). metered m f (m .limiter)) (init-takes (m .fuel) r (tableAt m into) (segmentAt m segment) (b .cells) (b .items) span)) refl
+  leaves b (op.DropSegment segment) = either-way (Left writes.Record m) _ _ _ refl refl
+  leaves b (op.NewSegment element items) = either-way (LeftDone writes.Record) _ _ _ (made-segment-left _) refl

@@ -218,7 +218,7 @@ fn put_change(words: &mut [u64], change: Change)
     }
 }
 
-// The row after an operation: of record and script only what it may have changed.
+// The row after an operation: only what it may have changed.
 fn settle(words: &mut [u64], outcome: Outcome, writes: Writes)
     requires { ⌜ rowLength ≤ length (now words) ⌝ }
     ensures { λ _. ⌜ Settles (now (words .entry)) writes outcome (now (words .exit)) ⌝ }
@@ -228,7 +228,7 @@ fn settle(words: &mut [u64], outcome: Outcome, writes: Writes)
     let fuel = outcome.fuel;
     let limiter = outcome.limiter;
     match writes {
-        Writes::Nothing => words::put_standing(words, counts, fuel, limiter),
+        Writes::Nothing => words::put_left(words, fuel.remaining),
         Writes::Record => {
             put_change(words, change);
             words::put_standing(words, counts, fuel, limiter)

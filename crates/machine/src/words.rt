@@ -18,10 +18,11 @@ use types::table_ty::TableType;
 use types::wide::WORD32;
 ghost use mathlib.Core.Path.{_≡_};
 ghost use Prim.Native.Nat.{_+_, _-_, _*_, _≤_};
+ghost use mathlib.Core.List.{[], _∷_};
 ghost use lib.ListN.{length, replicate};
 ghost use Rattle.types.specs.Span.{over};
 ghost use Rattle.machine.specs.Machine.{capacity};
-ghost use Rattle.machine.specs.Words.{recordLength, segmentLength, countsAt, rowLength, yesWord, isWasm, pageOf, isExtern, elementOf, memoryWords, tableWords, segmentWords};
+ghost use Rattle.machine.specs.Words.{recordLength, segmentLength, countsAt, fuelAt, rowLength, yesWord, isWasm, pageOf, isExtern, elementOf, memoryWords, tableWords, segmentWords};
 ghost use Rattle.machine.specs.Words.{countWords, fuelWords, placeWords, rowsOf, instanceWords, standingWords, stateWords, wordsOf};
 ghost use Rattle.machine.specs.Words.{limitsFrom, memoryFrom, tableFrom, segmentFrom, countsFrom, costFrom, answerFrom, fuelFrom, limiterFrom, machineFrom};
 
@@ -247,6 +248,15 @@ fn put_instances(words: &mut [u64], machine: Machine)
     put_memories(words, 0, memories);
     put_tables(words, TABLES, tables);
     put_segments(words, SEGMENTS, segments);
+}
+
+// The fuel left.
+pub(crate) fn put_left(words: &mut [u64], left: u64)
+    requires { ⌜ rowLength ≤ length (now words) ⌝ }
+    ensures { λ _. ⌜ now (words .exit) ≡ over (now (words .entry)) fuelAt (left ∷ []) ⌝ }
+{
+    let row = [left];
+    put(words, FUEL, &row);
 }
 
 // The numbers in use, fuel and the script's place.

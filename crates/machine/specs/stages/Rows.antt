@@ -2,7 +2,7 @@
 use Prim.Native.Nat.{ℕ, _+_, _*_, _≤_, _<_}
 use mathlib.Core.Path.{_≡_}
 use mathlib.Core.Bool.{Bool, true}
-use mathlib.Core.List.{List}
+use mathlib.Core.List.{List, [], _∷_}
 use lib.Dec.{leb, ltb}
 use lib.ListN.{length, getD}
 use Rattle.types.specs.Numbers.{word8, word32}
@@ -16,7 +16,7 @@ use Rattle.machine.specs.Machine.{capacity, Buffers, nextByte, nextCell,
 use Rattle.machine.specs.Sound.{soundOver}
 use Rattle.machine.specs.Operation.{wellFormed}
 use Rattle.machine.specs.Step.{Performed, Stepped, perform, step}
-use Rattle.machine.specs.Words.{recordLength, segmentLength, tablesAt, segmentsAt, countsAt, rowLength, memoryWords, tableWords, segmentWords, standingWords, stateWords, wordsOf, machineFrom}
+use Rattle.machine.specs.Words.{recordLength, segmentLength, tablesAt, segmentsAt, countsAt, fuelAt, rowLength, memoryWords, tableWords, segmentWords, standingWords, stateWords, wordsOf, machineFrom}
 use Rattle.machine.specs.Row.{InRow, rowKeeps, rowAfter}
 use Rattle.machine.specs.declared.records.Machine.{Machine}
 use Rattle.machine.specs.declared.outcome.Outcome.{Outcome}
@@ -65,7 +65,7 @@ changedRow l (change.Memory i r) = pick (ltb i capacity) (over l (recordLength *
 changedRow l (change.Table i r) = pick (ltb i capacity) (over l (tablesAt + recordLength * i) (tableWords r)) l
 changedRow l (change.Segment i r) = pick (ltb i capacity) (over l (segmentsAt + segmentLength * i) (segmentWords r)) l
 
--- what an operation may write besides numbers, fuel and the script's place: a record by a creation, a growth or a drop, a script by 04
+-- what an operation may write besides the fuel left: a record by a creation, a growth or a drop, a script by 04
 unfoldable pub fuelWrites : FuelOp → Writes
 fuelWrites (fuel.SetFuel amount) = writes.Nothing
 fuelWrites fuel.GetFuel = writes.Nothing
@@ -100,9 +100,9 @@ writesOf (op.TableInit into segment span) = writes.Nothing
 writesOf (op.DropSegment segment) = writes.Record
 writesOf (op.NewSegment element items) = writes.Record
 
--- the row after an operation
+-- the row after an operation: the fuel left alone, or with a record or a script the numbers, all of fuel and the script's place too
 unfoldable pub settledRow : List ℕ → Writes → Outcome → List ℕ
-settledRow l writes.Nothing o = over l countsAt (standingWords (o .counts) (o .fuel) (o .limiter))
+settledRow l writes.Nothing o = over l fuelAt (o .fuel .remaining ∷ [])
 settledRow l writes.Record o = over (changedRow l (o .change)) countsAt (standingWords (o .counts) (o .fuel) (o .limiter))
 settledRow l writes.Script o = over l countsAt (stateWords (o .counts) (o .fuel) (o .limiter))
 

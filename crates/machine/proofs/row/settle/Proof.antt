@@ -10,8 +10,8 @@ use Rattle.machine.proofs.row.settle.Tie as tie
 enum-told : tie.Need-enum-told
 enum-told c = search needs
 
-put-standing-requires : tie.Need-put-standing-requires
-put-standing-requires c κs = search needs
+put-left-requires : tie.Need-put-left-requires
+put-left-requires c κs = search needs
 
 enum-told-2 : tie.Need-enum-told-2
 enum-told-2 c = search needs
@@ -19,8 +19,8 @@ enum-told-2 c = search needs
 put-change-requires : tie.Need-put-change-requires
 put-change-requires c κs = search needs
 
-put-standing-requires-2 : tie.Need-put-standing-requires-2
-put-standing-requires-2 c κs = search needs
+put-standing-requires : tie.Need-put-standing-requires
+put-standing-requires c κs = search needs
 
 enum-told-3 : tie.Need-enum-told-3
 enum-told-3 c = search needs
@@ -39,7 +39,7 @@ returns c =
     let costs = good .1 .1 .1 .0 .1 .1 .1 .1 .0 .1 .1 in
     let script = good .1 .1 .1 .1 .0 .1 .1 .0 .1 in
     record {
-      row = rw (c .before .before .before .before .enum-told .given .1) (c .before .before .put-standing .ensures);
+      row = rw (c .before .before .before .before .enum-told .given .1) (c .before .before .put-left .ensures);
       fits = record {
         script = length-unmapped _ (o .limiter .script) 16 (script .0 .1);
         copied = costs .0 .1;
@@ -60,7 +60,7 @@ returns-2 c =
     let costs = good .1 .1 .1 .0 .1 .1 .1 .1 .0 .1 .1 in
     let script = good .1 .1 .1 .1 .0 .1 .1 .0 .1 in
     record {
-      row = rw (c .before .before .before .before .before .before .before .before .enum-told2 .given .1) (c .before .before .put-standing2 .ensures ∙ ap (λ (z : List ℕ). over z 160 (standingWords (o .counts) (o .fuel) (o .limiter))) (c .before .before .before .before .before .before .put-change .ensures));
+      row = rw (c .before .before .before .before .before .before .before .before .enum-told2 .given .1) (c .before .before .put-standing .ensures ∙ ap (λ (z : List ℕ). over z 160 (standingWords (o .counts) (o .fuel) (o .limiter))) (c .before .before .before .before .before .before .put-change .ensures));
       fits = record {
         script = length-unmapped _ (o .limiter .script) 16 (script .0 .1);
         copied = costs .0 .1;
@@ -96,10 +96,10 @@ settle-spec =
     tie.close
     (tie.spec
     enum-told
-    put-standing-requires
+    put-left-requires
     enum-told-2
     put-change-requires
-    put-standing-requires-2
+    put-standing-requires
     enum-told-3
     put-state-requires
     same-length
