@@ -1,4 +1,4 @@
--- Laws of a sound machine: its parts, its instances, and that the next room starts inside its buffer. Assumes nothing.
+-- Laws of a sound machine: its parts, its instances, that no count passes the places, and that the next room starts inside its buffer. Assumes nothing.
 use Rattle.types.proofs.Prelude.{ℕ, _≤_, _<_, _≡_, true, both-true, both-1, both-2}
 use Rattle.memory.specs.{Memory.soundMemory, declared.memory.Memory.Memory}
 use Rattle.memory.proofs.Sounds.{sound-is}
@@ -7,7 +7,7 @@ use Rattle.table.proofs.Sounds.{sound-room, segment-room}
 use Rattle.machine.specs.Machine.{memoryAt, tableAt, segmentAt, noMemory, noTable, noSegment, nextByte, nextCell, nextItem}
 use Rattle.machine.specs.Sound.{soundMemories, soundTables, soundSegments, soundReferences, soundMachine}
 use Rattle.machine.specs.declared.records.Machine.{Machine}
-use Rattle.machine.proofs.ListLaws.{each-sound, next-inside}
+use Rattle.machine.proofs.ListLaws.{few, each-sound, next-inside}
 
 -- what a sound machine has
 pub record Parts (m : Machine) (bytes cells items : ℕ) : Type 0 where
@@ -40,6 +40,19 @@ module _ (m : Machine) (bytes cells items : ℕ) (e : soundMachine m bytes cells
   pub segment-sound : (i : ℕ) → i < m .counts .segments → soundSegment (segmentAt m i) items ≡ true
   unfolding soundSegments
   segment-sound i h = each-sound _ _ _ noSegment _ (m .segments) (parts m bytes cells items e .segments) i h
+
+  -- at most 8 instances of a kind are in use
+  pub memories-few : m .counts .memories ≤ 8
+  unfolding soundMemories
+  memories-few = few _ _ _ noMemory _ (m .memories) (parts m bytes cells items e .memories)
+
+  pub tables-few : m .counts .tables ≤ 8
+  unfolding soundTables
+  tables-few = few _ _ _ noTable _ (m .tables) (parts m bytes cells items e .tables)
+
+  pub segments-few : m .counts .segments ≤ 8
+  unfolding soundSegments
+  segments-few = few _ _ _ noSegment _ (m .segments) (parts m bytes cells items e .segments)
 
   -- the next room starts inside its buffer
   pub next-byte-inside : nextByte m ≤ bytes

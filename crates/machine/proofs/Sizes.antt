@@ -1,14 +1,14 @@
 -- On a row in form the two sizes are what the operations 12 and 22 answer, refusals too. Assumes nothing.
-use Rattle.types.proofs.Prelude.{ℕ, zero, suc, _+_, _*_, _<_, _≡_, refl, sym, ap, _∙_, Bool, true, List, arith, ltb, length, ltb-true, leb-true, le-leb}
+use Rattle.types.proofs.Prelude.{ℕ, zero, suc, _+_, _*_, _<_, _≡_, refl, sym, ap, _∙_, Bool, true, List, arith, ltb, length, ltb-true, le-leb}
 use Rattle.types.proofs.Prelude.{pick-true, pick-false, both-1, both-2, either}
 use Rattle.types.specs.{Done.Done, declared.answer.Answer.Answer}
-use Rattle.machine.specs.{Machine.Buffers, Sound.soundList, Sound.soundMemories, Sound.soundTables, Sound.soundMachine, Sound.soundOver}
+use Rattle.machine.specs.{Machine.Buffers, Sound.soundMachine, Sound.soundOver}
 use Rattle.machine.specs.{Operation.wellFormed, Operation.memoryWellFormed, Memories.performMemory, Memories.onMemory}
 use Rattle.machine.specs.{Tables.performTable, Tables.onTable, Step.Stepped, Step.perform, Step.step}
 use Rattle.machine.specs.Words.{recordLength, tablesAt, rowLength, machineFrom, allAt, recordInForm, inForm}
 use Rattle.machine.specs.{Row.ifSound, Row.rowPages, Row.rowCells, declared.records.Machine.Machine, declared.outcome.Outcome.Outcome}
 use Rattle.machine.specs.declared.operation.Operation.{Operation}
-use Rattle.machine.proofs.{Formed.form-long, Rooms.parts, Settling.goes, Settling.unsound-stops}
+use Rattle.machine.proofs.{Formed.form-long, Rooms.memories-few, Rooms.tables-few, Settling.goes, Settling.unsound-stops}
 use Rattle.machine.specs.declared.operation.Operation.the-variants as op
 use Rattle.machine.specs.declared.operation.MemoryOp.the-variants as memory
 use Rattle.machine.specs.declared.operation.TableOp.the-variants as table
@@ -26,12 +26,10 @@ all-each t w l a (suc n) (suc i) p h q e =
 
 -- a number in use has one of the 8 places
 pub memory-place : (m : Machine) (bytes cells items i : ℕ) → soundMachine m bytes cells items ≡ true → i < m .counts .memories → i < 8
-unfolding soundMemories soundList
-memory-place m bytes cells items i s h = omega (arith, h, leb-true (m .counts .memories) 8 (both-1 _ _ (both-2 _ _ (parts m bytes cells items s .memories))))
+memory-place m bytes cells items i s h = omega (arith, h, memories-few m bytes cells items s)
 
 pub table-place : (m : Machine) (bytes cells items i : ℕ) → soundMachine m bytes cells items ≡ true → i < m .counts .tables → i < 8
-unfolding soundTables soundList
-table-place m bytes cells items i s h = omega (arith, h, leb-true (m .counts .tables) 8 (both-1 _ _ (both-2 _ _ (parts m bytes cells items s .tables))))
+table-place m bytes cells items i s h = omega (arith, h, tables-few m bytes cells items s)
 
 module _ (r : ℕ) (l : List ℕ) (b : Buffers) (i : ℕ) (f : inForm l ≡ true) where
   abbrev m : Machine
