@@ -249,10 +249,13 @@ goes-steps l b op h w e f q =
       says = ap (λ (z : InRow). machineFrom (z .words)) (q ∙ row) ∙ back ∙ ap (λ (s : Stepped). s .machine) (sym g);
     }
 
--- a sound machine's next rooms start inside its buffers
+-- no count of a sound machine passes the places, and its next rooms start inside its buffers
 pub sound-inside : (m : Machine) (b : Buffers) → soundOver m b ≡ true → Inside m (length (b .bytes)) (length (b .cells)) (length (b .items))
 sound-inside m b e =
     record {
+      memories = Rattle.machine.proofs.Rooms.memories-few m (length (b .bytes)) (length (b .cells)) (length (b .items)) e;
+      tables = Rattle.machine.proofs.Rooms.tables-few m (length (b .bytes)) (length (b .cells)) (length (b .items)) e;
+      segments = Rattle.machine.proofs.Rooms.segments-few m (length (b .bytes)) (length (b .cells)) (length (b .items)) e;
       byte = next-byte-inside m (length (b .bytes)) (length (b .cells)) (length (b .items)) e;
       cell = next-cell-inside m (length (b .bytes)) (length (b .cells)) (length (b .items)) e;
       item = next-item-inside m (length (b .bytes)) (length (b .cells)) (length (b .items)) e;
@@ -261,12 +264,24 @@ sound-inside m b e =
 pub tested-inside : (m : Machine) (bytes cells items : ℕ) → endsInside m bytes cells items ≡ true → Inside m bytes cells items
 unfolding endsInside
 tested-inside m bytes cells items e =
-    let f = both-2 _ _ e in
-    record { byte = leb-true _ _ (both-1 _ _ e); cell = leb-true _ _ (both-1 _ _ f); item = leb-true _ _ (both-2 _ _ f) }
+    let memory = both-1 _ _ e in
+    let table = both-1 _ _ (both-2 _ _ e) in
+    let segment = both-2 _ _ (both-2 _ _ e) in
+    record {
+      memories = leb-true _ _ (both-1 _ _ memory);
+      tables = leb-true _ _ (both-1 _ _ table);
+      segments = leb-true _ _ (both-1 _ _ segment);
+      byte = leb-true _ _ (both-2 _ _ memory);
+      cell = leb-true _ _ (both-2 _ _ table);
+      item = leb-true _ _ (both-2 _ _ segment);
+    }
 
 pub inside-tested : (m : Machine) (bytes cells items : ℕ) → Inside m bytes cells items → endsInside m bytes cells items ≡ true
 unfolding endsInside
-inside-tested m bytes cells items h = both-true _ _ (le-leb _ _ (h .byte)) (both-true _ _ (le-leb _ _ (h .cell)) (le-leb _ _ (h .item)))
+inside-tested m bytes cells items h =
+    both-true _ _ (both-true _ _ (le-leb _ _ (h .memories)) (le-leb _ _ (h .byte)))
+    (both-true _ _ (both-true _ _ (le-leb _ _ (h .tables)) (le-leb _ _ (h .cell)))
+    (both-true _ _ (le-leb _ _ (h .segments)) (le-leb _ _ (h .item))))
 
 -- an operation that says something wrong changes nothing, in place too
 stops : (r : ℕ) (m : Machine) (b : Buffers) (o : Operation) → wellFormed o ≡ false → step r m b o ≡ after m (onNone (keeps m (refuse 18 0)) b)

@@ -30,7 +30,7 @@ ghost use lib.ListN.{length};
 ghost use Rattle.types.specs.Answer.{refuse};
 ghost use Rattle.types.specs.Pick.{both};
 ghost use Rattle.types.specs.Raw.{rawBytes};
-ghost use Rattle.machine.specs.Machine.{buffers, memoryAt, tableAt, segmentAt, nextByte, nextCell, nextItem};
+ghost use Rattle.machine.specs.Machine.{capacity, buffers, memoryAt, tableAt, segmentAt, nextByte, nextCell, nextItem};
 ghost use Rattle.machine.specs.Words.{rowLength, machineFrom, inForm};
 ghost use Rattle.machine.specs.Row.{rowed, freshRow, inRow, operateRow, fuelOf, rowPages, rowCells};
 ghost use Rattle.machine.specs.Sound.{soundMachine};
@@ -112,7 +112,7 @@ pub(crate) fn next_item(words: &[u64]) -> usize
     last.start + (last.places as usize)
 }
 
-// Whether the next rooms start inside buffers of these lengths.
+// Whether no count passes the places, and the next rooms start inside buffers of these lengths.
 fn ends_inside(words: &[u64], bytes: usize, cells: usize, items: usize) -> bool
     requires { ⌜ rowLength ≤ length (now words) ⌝ }
     ensures { λ r. ⌜ r ≡ endsInside (machineFrom (now (words .entry))) bytes cells items ⌝ }
@@ -138,10 +138,13 @@ fn room_inside(start: usize, room: u64, len: usize) -> bool
 
 fn byte_inside(words: &[u64], bytes: usize) -> bool
     requires { ⌜ rowLength ≤ length (now words) ⌝ }
-    ensures { λ r. ⌜ r ≡ leb (nextByte (machineFrom (now (words .entry)))) bytes ⌝ }
+    ensures { λ r. ⌜ r ≡ both (leb ((machineFrom (now (words .entry))) .counts .memories) capacity) (leb (nextByte (machineFrom (now (words .entry)))) bytes) ⌝ }
 {
     let counts = words::counts_from(words);
     let count = counts.memories;
+    if CAPACITY < count {
+        return false;
+    }
     if count == 0 {
         return true;
     }
@@ -151,10 +154,13 @@ fn byte_inside(words: &[u64], bytes: usize) -> bool
 
 fn cell_inside(words: &[u64], cells: usize) -> bool
     requires { ⌜ rowLength ≤ length (now words) ⌝ }
-    ensures { λ r. ⌜ r ≡ leb (nextCell (machineFrom (now (words .entry)))) cells ⌝ }
+    ensures { λ r. ⌜ r ≡ both (leb ((machineFrom (now (words .entry))) .counts .tables) capacity) (leb (nextCell (machineFrom (now (words .entry)))) cells) ⌝ }
 {
     let counts = words::counts_from(words);
     let count = counts.tables;
+    if CAPACITY < count {
+        return false;
+    }
     if count == 0 {
         return true;
     }
@@ -164,10 +170,13 @@ fn cell_inside(words: &[u64], cells: usize) -> bool
 
 fn item_inside(words: &[u64], items: usize) -> bool
     requires { ⌜ rowLength ≤ length (now words) ⌝ }
-    ensures { λ r. ⌜ r ≡ leb (nextItem (machineFrom (now (words .entry)))) items ⌝ }
+    ensures { λ r. ⌜ r ≡ both (leb ((machineFrom (now (words .entry))) .counts .segments) capacity) (leb (nextItem (machineFrom (now (words .entry)))) items) ⌝ }
 {
     let counts = words::counts_from(words);
     let count = counts.segments;
+    if CAPACITY < count {
+        return false;
+    }
     if count == 0 {
         return true;
     }
@@ -261,7 +270,7 @@ fn refused(number: u8) -> Answer
     Answer::Refusal(Refusal { number, amount: 0 })
 }
 
-// One operation on a row whose form and soundness the caller carries from call to call: only its length and the next rooms' starts are tested.
+// One operation on a row whose form and soundness the caller carries from call to call: only its length, the counts and the next rooms' starts are tested.
 pub fn proceed(
     words: &mut [u64],
     bytes: &mut [u8],

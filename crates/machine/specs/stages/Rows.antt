@@ -33,15 +33,21 @@ use Rattle.machine.specs.declared.operation.TableOp.the-variants as tabl
 use Rattle.machine.specs.declared.operation.Operation.{Operation}
 use Rattle.machine.specs.declared.operation.Operation.the-variants as op
 
--- the next rooms start inside their buffers
+-- no count passes the places, and the next rooms start inside their buffers
 pub record Inside (m : Machine) (bytes cells items : ℕ) : Type 0 where
+  pub memories : m .counts .memories ≤ capacity
+  pub tables : m .counts .tables ≤ capacity
+  pub segments : m .counts .segments ≤ capacity
   pub byte : nextByte m ≤ bytes
   pub cell : nextCell m ≤ cells
   pub item : nextItem m ≤ items
 
 -- the same as a test
 unfoldable pub endsInside : Machine → ℕ → ℕ → ℕ → Bool
-endsInside m bytes cells items = both (leb (nextByte m) bytes) (both (leb (nextCell m) cells) (leb (nextItem m) items))
+endsInside m bytes cells items =
+    both (both (leb (m .counts .memories) capacity) (leb (nextByte m) bytes))
+    (both (both (leb (m .counts .tables) capacity) (leb (nextCell m) cells))
+    (both (leb (m .counts .segments) capacity) (leb (nextItem m) items)))
 
 -- what every fuel and limiter that a program holds is: costs of 32 bits, a script of 16 places with answers of 8 bits
 pub record Fits (f : Fuel) (p : Limiter) : Type 0 where
@@ -115,7 +121,7 @@ pub record Settles (l : List ℕ) (w : Writes) (o : Outcome) (after : List ℕ) 
 abbrev pub rowSettled : List ℕ → Operation → Performed → InRow
 rowSettled l o p = record { answer = p .out .answer; words = settledRow l (writesOf o) (p .out); buffers = p .buffers }
 
--- what an operation leaves, of which only the next rooms' starts were tested
+-- what an operation leaves, of which only the counts and the next rooms' starts were tested
 pub record Goes (l : List ℕ) (b : Buffers) (op : Operation) (x : InRow) : Type 0 where
   pub is : x ≡ rowSettled l op (perform rawBytes (machineFrom l) b op)
   pub fits : Fits (perform rawBytes (machineFrom l) b op .out .fuel) (perform rawBytes (machineFrom l) b op .out .limiter)
@@ -124,7 +130,7 @@ pub record Goes (l : List ℕ) (b : Buffers) (op : Operation) (x : InRow) : Type
 abbrev pub Holds : List ℕ → Type 0
 Holds l = l ≡ over l 0 (wordsOf (machineFrom l))
 
--- an operation on a row of which only the length and the next rooms' starts are tested; on a sound row in form it is the step
+-- an operation on a row of which only the length, the counts and the next rooms' starts are tested; on a sound row in form it is the step
 unfoldable pub proceedRow : ℕ → List ℕ → Buffers → Operation → InRow
 proceedRow r l b op =
     unless (wellFormed op) (rowKeeps l b 18)

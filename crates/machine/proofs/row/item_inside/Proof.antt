@@ -1,5 +1,5 @@
 -- `machine::row::item_inside` meets its contract. Assumes nothing.
-use Rattle.types.proofs.Prelude.{_≡_, sym, ap, _∙_, now, arith, ℕ, _-_, eq-eqb, ne-eqb, le-leb, pick-true, pick-false, leb, needs}
+use Rattle.types.proofs.Prelude.{_≡_, sym, ap, _∙_, now, arith, ℕ, _-_, eq-eqb, ne-eqb, le-leb, lt-leb, pick-true, pick-false, both-left, both-then, both-true, leb, needs}
 use Rattle.machine.specs.{Words.machineFrom, declared.records.Counts.Counts, Machine.segmentAt, Machine.nextItem, Machine.segmentEnd}
 use Rattle.machine.proofs.row.item_inside.Statement.{statement}
 use Rattle.machine.proofs.row.item_inside.Tie as tie
@@ -8,13 +8,19 @@ counts-from-requires : tie.Need-counts-from-requires
 counts-from-requires c κs = search needs
 
 returns : tie.Need-returns
-unfolding nextItem
 returns c =
-    let a = c .before .before .before .args in
-    let m = machineFrom (now (a .words)) in
+    let m = machineFrom (now (c .before .before .before .args .words)) in
     let e : (c .before .counts-from .result .segments) ≡ m .counts .segments = ap (λ (k : Counts). k .segments) (c .before .counts-from .ensures) in
-    let z : nextItem m ≡ 0 = pick-true _ _ _ (eq-eqb _ _ (sym e ∙ c .if1 .taken)) in
-    sym (le-leb (nextItem m) (a .items) (omega (arith, z)))
+    sym (both-left _ _ (lt-leb (m .counts .segments) 8 (omega (arith, e, c .if1 .taken))))
+
+returns-2 : tie.Need-returns-2
+unfolding nextItem
+returns-2 c =
+    let a = c .before .before .before .before .args in
+    let m = machineFrom (now (a .words)) in
+    let e : (c .before .before .counts-from .result .segments) ≡ m .counts .segments = ap (λ (k : Counts). k .segments) (c .before .before .counts-from .ensures) in
+    let z : nextItem m ≡ 0 = pick-true _ _ _ (eq-eqb _ _ (sym e ∙ c .if2 .taken)) in
+    sym (both-true _ _ (le-leb (m .counts .segments) 8 (omega (arith, e, c .before .if1 .left))) (le-leb (nextItem m) (a .items) (omega (arith, z))))
 
 sub-segment-at : tie.Need-sub-segment-at
 sub-segment-at c = search needs
@@ -25,14 +31,14 @@ segment-at-requires c κs = search needs
 room-inside-requires : tie.Need-room-inside-requires
 room-inside-requires c κs = search needs
 
-returns-2 : tie.Need-returns-2
+returns-3 : tie.Need-returns-3
 unfolding nextItem
-returns-2 c =
-    let a = c .before .before .before .before .before .args in
+returns-3 c =
+    let a = c .before .before .before .before .before .before .args in
     let m = machineFrom (now (a .words)) in
-    let e : (c .before .before .before .counts-from .result .segments) ≡ m .counts .segments = ap (λ (k : Counts). k .segments) (c .before .before .before .counts-from .ensures) in
-    let q : segmentEnd (c .before .segment-at .result) ≡ nextItem m = ap segmentEnd (c .before .segment-at .ensures ∙ ap (λ (n : ℕ). segmentAt m (n - 1)) e) ∙ sym (pick-false _ _ _ (ne-eqb _ _ (λ z. c .before .before .if1 .left (e ∙ z)))) in
-    c .room-inside .ensures ∙ ap (λ (n : ℕ). leb n (a .items)) q
+    let e : (c .before .before .before .before .counts-from .result .segments) ≡ m .counts .segments = ap (λ (k : Counts). k .segments) (c .before .before .before .before .counts-from .ensures) in
+    let q : segmentEnd (c .before .segment-at .result) ≡ nextItem m = ap segmentEnd (c .before .segment-at .ensures ∙ ap (λ (n : ℕ). segmentAt m (n - 1)) e) ∙ sym (pick-false _ _ _ (ne-eqb _ _ (λ z. c .before .before .if2 .left (e ∙ z)))) in
+    c .room-inside .ensures ∙ ap (λ (n : ℕ). leb n (a .items)) q ∙ sym (both-then _ _ (le-leb (m .counts .segments) 8 (omega (arith, e, c .before .before .before .if1 .left))))
 
 pub item-inside-spec : {M : Type 1} → statement M
 item-inside-spec =
@@ -40,7 +46,8 @@ item-inside-spec =
     (tie.spec
     counts-from-requires
     returns
+    returns-2
     sub-segment-at
     segment-at-requires
     room-inside-requires
-    returns-2)
+    returns-3)
