@@ -155,7 +155,7 @@ fn one_memory(words: &[u64], i: usize, memory: Memory, bytes: &mut [u8], op: Mem
 
 // 11 to 14, 30: 16, then the memory's own operation.
 pub(crate) fn on_memory(words: &[u64], bytes: &mut [u8], number: u64, op: MemoryOp) -> Outcome
-    requires { ⌜ rowLength ≤ length (now words) ⌝ }
+    requires { ⌜ (rowLength ≤ length (now words)) × ((machineFrom (now words)) .counts .memories ≤ capacity) ⌝ }
     ensures { λ r. ⌜ done r (now (bytes .exit)) ≡ onMemory (machineFrom (now (words .entry))) (now (bytes .entry)) number op ⌝ }
 {
     let counts = words::counts_from(words);
@@ -219,7 +219,7 @@ pub(crate) fn new_memory(
     room: u64,
     wanted: WantedMemory,
 ) -> Outcome
-    requires { ⌜ (rowLength ≤ length (now words)) × (nextByte (machineFrom (now words)) ≤ length (now bytes)) ⌝ }
+    requires { ⌜ (rowLength ≤ length (now words)) × ((machineFrom (now words)) .counts .memories ≤ capacity) × (nextByte (machineFrom (now words)) ≤ length (now bytes)) ⌝ }
     ensures { λ r. ⌜ done r (now (bytes .exit)) ≡ newMemoryOn (machineFrom (now (words .entry))) (now (bytes .entry)) room wanted ⌝ }
 {
     let counts = words::counts_from(words);

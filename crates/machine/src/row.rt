@@ -5,7 +5,6 @@ use super::operation::Operation;
 use super::operation::Writes;
 use super::outcome::Change;
 use super::outcome::Outcome;
-use super::records;
 use super::records::CAPACITY;
 use super::records::Machine;
 use super::sound;
@@ -39,40 +38,31 @@ ghost use Rattle.machine.specs.stages.Rows.{Inside, endsInside, changedR
 
 // The record of a memory.
 pub(crate) fn memory_at(words: &[u64], i: usize) -> Memory
-    requires { ⌜ rowLength ≤ length (now words) ⌝ }
+    requires { ⌜ (rowLength ≤ length (now words)) × (i < capacity) ⌝ }
     ensures { λ r. ⌜ r ≡ memoryAt (machineFrom (now (words .entry))) i ⌝ }
 {
-    if i < CAPACITY {
-        return words::memory_from(words, RECORD * i);
-    }
-    records::no_memory()
+    words::memory_from(words, RECORD * i)
 }
 
 // The record of a table.
 pub(crate) fn table_at(words: &[u64], i: usize) -> Table
-    requires { ⌜ rowLength ≤ length (now words) ⌝ }
+    requires { ⌜ (rowLength ≤ length (now words)) × (i < capacity) ⌝ }
     ensures { λ r. ⌜ r ≡ tableAt (machineFrom (now (words .entry))) i ⌝ }
 {
-    if i < CAPACITY {
-        return words::table_from(words, TABLES + RECORD * i);
-    }
-    records::no_table()
+    words::table_from(words, TABLES + RECORD * i)
 }
 
 // The record of a segment.
 pub(crate) fn segment_at(words: &[u64], i: usize) -> ElementSegment
-    requires { ⌜ rowLength ≤ length (now words) ⌝ }
+    requires { ⌜ (rowLength ≤ length (now words)) × (i < capacity) ⌝ }
     ensures { λ r. ⌜ r ≡ segmentAt (machineFrom (now (words .entry))) i ⌝ }
 {
-    if i < CAPACITY {
-        return words::segment_from(words, SEGMENTS + SEGMENT * i);
-    }
-    records::no_segment()
+    words::segment_from(words, SEGMENTS + SEGMENT * i)
 }
 
 // Where the next memory's room starts.
 pub(crate) fn next_byte(words: &[u64]) -> usize
-    requires { ⌜ (rowLength ≤ length (now words)) × (nextByte (machineFrom (now words)) < 2 ^ 64) ⌝ }
+    requires { ⌜ (rowLength ≤ length (now words)) × ((machineFrom (now words)) .counts .memories ≤ capacity) × (nextByte (machineFrom (now words)) < 2 ^ 64) ⌝ }
     ensures { λ r. ⌜ r ≡ nextByte (machineFrom (now (words .entry))) ⌝ }
 {
     let counts = words::counts_from(words);
@@ -86,7 +76,7 @@ pub(crate) fn next_byte(words: &[u64]) -> usize
 
 // Where the next table's room starts.
 pub(crate) fn next_cell(words: &[u64]) -> usize
-    requires { ⌜ (rowLength ≤ length (now words)) × (nextCell (machineFrom (now words)) < 2 ^ 64) ⌝ }
+    requires { ⌜ (rowLength ≤ length (now words)) × ((machineFrom (now words)) .counts .tables ≤ capacity) × (nextCell (machineFrom (now words)) < 2 ^ 64) ⌝ }
     ensures { λ r. ⌜ r ≡ nextCell (machineFrom (now (words .entry))) ⌝ }
 {
     let counts = words::counts_from(words);
@@ -100,7 +90,7 @@ pub(crate) fn next_cell(words: &[u64]) -> usize
 
 // Where the next segment's places start.
 pub(crate) fn next_item(words: &[u64]) -> usize
-    requires { ⌜ (rowLength ≤ length (now words)) × (nextItem (machineFrom (now words)) < 2 ^ 64) ⌝ }
+    requires { ⌜ (rowLength ≤ length (now words)) × ((machineFrom (now words)) .counts .segments ≤ capacity) × (nextItem (machineFrom (now words)) < 2 ^ 64) ⌝ }
     ensures { λ r. ⌜ r ≡ nextItem (machineFrom (now (words .entry))) ⌝ }
 {
     let counts = words::counts_from(words);

@@ -52,7 +52,7 @@ pub(crate) fn table_init(
     segment: u64,
     span: CopySpan,
 ) -> Outcome
-    requires { ⌜ rowLength ≤ length (now words) ⌝ }
+    requires { ⌜ (rowLength ≤ length (now words)) × ((machineFrom (now words)) .counts .tables ≤ capacity) × ((machineFrom (now words)) .counts .segments ≤ capacity) ⌝ }
     ensures { λ r. ⌜ done r (now (cells .exit)) ≡ initOn rawBytes (machineFrom (now (words .entry))) (now (cells .entry)) (now (items .entry)) number segment span ⌝ }
 {
     let counts = words::counts_from(words);
@@ -71,7 +71,7 @@ pub(crate) fn table_init(
 
 // 28: 16, then the segment becomes empty.
 pub(crate) fn drop_segment(words: &[u64], number: u64) -> Outcome
-    requires { ⌜ rowLength ≤ length (now words) ⌝ }
+    requires { ⌜ (rowLength ≤ length (now words)) × ((machineFrom (now words)) .counts .segments ≤ capacity) ⌝ }
     ensures { λ r. ⌜ r ≡ dropOn (machineFrom (now (words .entry))) number ⌝ }
 {
     let counts = words::counts_from(words);
@@ -130,7 +130,7 @@ fn make_segment(
 }
 
 fn add_items(words: &[u64], items: &mut [u64], element: RefType, given: &[u64]) -> Outcome
-    requires { ⌜ (rowLength ≤ length (now words)) × (nextItem (machineFrom (now words)) ≤ length (now items)) ⌝ }
+    requires { ⌜ (rowLength ≤ length (now words)) × ((machineFrom (now words)) .counts .segments ≤ capacity) × (nextItem (machineFrom (now words)) ≤ length (now items)) ⌝ }
     ensures { λ r. ⌜ done r (now (items .exit)) ≡ newSegmentOn (machineFrom (now (words .entry))) (now (items .entry)) element (now (given .entry)) ⌝ }
 {
     let counts = words::counts_from(words);
@@ -149,7 +149,7 @@ fn add_leading(
     count: u64,
     given: [u64; 4],
 ) -> Outcome
-    requires { ⌜ (rowLength ≤ length (now words)) × (nextItem (machineFrom (now words)) ≤ length (now items)) ⌝ }
+    requires { ⌜ (rowLength ≤ length (now words)) × ((machineFrom (now words)) .counts .segments ≤ capacity) × (nextItem (machineFrom (now words)) ≤ length (now items)) ⌝ }
     ensures { λ r. ⌜ done r (now (items .exit)) ≡ newSegmentOn (machineFrom (now (words .entry))) (now (items .entry)) element (take count given) ⌝ }
 {
     let n = count as usize;
@@ -166,7 +166,7 @@ pub(crate) fn new_segment(
     element: RefType,
     given: Items,
 ) -> Outcome
-    requires { ⌜ (rowLength ≤ length (now words)) × (nextItem (machineFrom (now words)) ≤ length (now items)) ⌝ }
+    requires { ⌜ (rowLength ≤ length (now words)) × ((machineFrom (now words)) .counts .segments ≤ capacity) × (nextItem (machineFrom (now words)) ≤ length (now items)) ⌝ }
     ensures { λ r. ⌜ done r (now (items .exit)) ≡ newSegmentOn (machineFrom (now (words .entry))) (now (items .entry)) element (itemsOf given) ⌝ }
 {
     add_leading(

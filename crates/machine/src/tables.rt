@@ -132,7 +132,7 @@ fn one_table(words: &[u64], i: usize, table: Table, cells: &mut [u64], op: Table
 
 // 21 to 25: 16, then the table's own operation.
 pub(crate) fn on_table(words: &[u64], cells: &mut [u64], number: u64, op: TableOp) -> Outcome
-    requires { ⌜ rowLength ≤ length (now words) ⌝ }
+    requires { ⌜ (rowLength ≤ length (now words)) × ((machineFrom (now words)) .counts .tables ≤ capacity) ⌝ }
     ensures { λ r. ⌜ done r (now (cells .exit)) ≡ onTable rawBytes (machineFrom (now (words .entry))) (now (cells .entry)) number op ⌝ }
 {
     let counts = words::counts_from(words);
@@ -157,7 +157,7 @@ pub(crate) fn spanned(words: &[u64], span: Spanned) -> Outcome
 
 // Of the records that two known numbers name, which may be one.
 fn copy_known(words: &[u64], cells: &mut [u64], into: u64, source: u64, span: CopySpan) -> Outcome
-    requires { ⌜ rowLength ≤ length (now words) ⌝ }
+    requires { ⌜ (rowLength ≤ length (now words)) × (into < capacity) × (source < capacity) ⌝ }
     ensures { λ r. ⌜ done r (now (cells .exit)) ≡ spannedDone (machineFrom (now (words .entry))) (copyTable rawBytes (tableAt (machineFrom (now (words .entry))) into) (tableAt (machineFrom (now (words .entry))) source) (now (cells .entry)) span ((machineFrom (now (words .entry))) .fuel)) ⌝ }
 {
     let table = row::table_at(words, into as usize);
@@ -175,7 +175,7 @@ pub(crate) fn table_copy(
     source: u64,
     span: CopySpan,
 ) -> Outcome
-    requires { ⌜ rowLength ≤ length (now words) ⌝ }
+    requires { ⌜ (rowLength ≤ length (now words)) × ((machineFrom (now words)) .counts .tables ≤ capacity) ⌝ }
     ensures { λ r. ⌜ done r (now (cells .exit)) ≡ copyOn rawBytes (machineFrom (now (words .entry))) (now (cells .entry)) into source span ⌝ }
 {
     let counts = words::counts_from(words);
@@ -243,7 +243,7 @@ pub(crate) fn new_table(
     wanted: WantedTable,
     initial: TypedRawRef,
 ) -> Outcome
-    requires { ⌜ (rowLength ≤ length (now words)) × (nextCell (machineFrom (now words)) ≤ length (now cells)) ⌝ }
+    requires { ⌜ (rowLength ≤ length (now words)) × ((machineFrom (now words)) .counts .tables ≤ capacity) × (nextCell (machineFrom (now words)) ≤ length (now cells)) ⌝ }
     ensures { λ r. ⌜ done r (now (cells .exit)) ≡ newTableOn (machineFrom (now (words .entry))) (now (cells .entry)) room wanted initial ⌝ }
 {
     let counts = words::counts_from(words);

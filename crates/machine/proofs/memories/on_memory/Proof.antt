@@ -23,7 +23,9 @@ returns c =
     unknown _ (a .number) (m .counts .memories) (omega (arith, e, c .before .if1 .taken)) (ap (λ (o : Outcome). done o (now (a .bytes))) (c .refuses .ensures))
 
 memory-at-requires : tie.Need-memory-at-requires
-memory-at-requires c κs = search needs
+memory-at-requires c κs =
+    let e = ap (λ (k : Counts). k .memories) (c .before .before .counts-from .ensures) in
+    search needs
 
 one-memory-requires : tie.Need-one-memory-requires
 one-memory-requires c κs = search needs

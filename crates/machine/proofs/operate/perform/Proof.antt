@@ -15,7 +15,9 @@ enum-known-op-2 : tie.Need-enum-known-op-2
 enum-known-op-2 c = search needs
 
 new-memory-requires : tie.Need-new-memory-requires
-new-memory-requires c κs = (c .before .before .before .before .before .before .before .before .pre .0, c .before .before .before .before .before .before .before .before .pre .1 .byte)
+new-memory-requires c κs =
+    let pre = c .before .before .before .before .before .before .before .before .pre in
+    (pre .0, pre .1 .memories, pre .1 .byte)
 
 enum-known-op-3 : tie.Need-enum-known-op-3
 enum-known-op-3 c = search needs
@@ -27,7 +29,9 @@ enum-known-op-4 : tie.Need-enum-known-op-4
 enum-known-op-4 c = search needs
 
 new-table-requires : tie.Need-new-table-requires
-new-table-requires c κs = (c .before .before .before .before .before .before .before .before .pre .0, c .before .before .before .before .before .before .before .before .pre .1 .cell)
+new-table-requires c κs =
+    let pre = c .before .before .before .before .before .before .before .before .pre in
+    (pre .0, pre .1 .tables, pre .1 .cell)
 
 enum-known-op-5 : tie.Need-enum-known-op-5
 enum-known-op-5 c = search needs
@@ -57,7 +61,9 @@ enum-known-op-9 : tie.Need-enum-known-op-9
 enum-known-op-9 c = search needs
 
 new-segment-requires : tie.Need-new-segment-requires
-new-segment-requires c κs = (c .before .before .before .before .before .before .before .before .pre .0, c .before .before .before .before .before .before .before .before .pre .1 .item)
+new-segment-requires c κs =
+    let pre = c .before .before .before .before .before .before .before .before .pre in
+    (pre .0, pre .1 .segments, pre .1 .item)
 
 returns : tie.Need-returns
 unfolding perform

@@ -1,7 +1,7 @@
 -- `machine::row::memory_at` meets its contract. Assumes nothing.
 use Rattle.types.proofs.Prelude.{_≡_, sym, ap, _∙_, now, arith, _+_, _*_, needs}
-use Rattle.machine.specs.{Machine.noMemory, Words.recordLength, Words.memoryFrom, Words.recordsFrom}
-use Rattle.machine.proofs.{Places.records-at, Places.records-length, Lists.past}
+use Rattle.machine.specs.{Machine.noMemory, Words.recordLength, Words.memoryFrom}
+use Rattle.machine.proofs.Places.{records-at}
 use Rattle.machine.proofs.row.memory_at.Statement.{statement}
 use Rattle.machine.proofs.row.memory_at.Tie as tie
 
@@ -13,18 +13,9 @@ memory-from-requires c κs = search needs
 
 returns : tie.Need-returns
 returns c =
-    let a = c .before .before .before .args in
+    let a = c .before .before .args in
     let z : 8 * (a .i) ≡ 0 + 8 * (a .i) = omega arith in
-    c .memory-from .ensures ∙ ap (memoryFrom (now (a .words))) z ∙ sym (records-at memoryFrom recordLength (now (a .words)) noMemory 0 8 (a .i) (c .before .if1 .taken))
-
-no-memory-requires : tie.Need-no-memory-requires
-no-memory-requires c κs = search needs
-
-returns-2 : tie.Need-returns-2
-returns-2 c =
-    let a = c .before .before .before .args in
-    c .no-memory .ensures ∙ sym (past (recordsFrom memoryFrom recordLength (now (a .words)) 0 8) noMemory (a .i) (records-length memoryFrom recordLength (now (a .words)) 0 8) (c .before .if1 .left))
+    c .memory-from .ensures ∙ ap (memoryFrom (now (a .words))) z ∙ sym (records-at memoryFrom recordLength (now (a .words)) noMemory 0 8 (a .i) (c .before .before .pre .1))
 
 pub memory-at-spec : {M : Type 1} → statement M
-memory-at-spec =
-    tie.close (tie.spec mul-memory-from memory-from-requires returns no-memory-requires returns-2)
+memory-at-spec = tie.close (tie.spec mul-memory-from memory-from-requires returns)

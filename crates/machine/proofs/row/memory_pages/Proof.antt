@@ -72,7 +72,12 @@ returns-4 c =
     ∙ pick-true _ _ _ (lt-ltb (a .number) (machineFrom (now (a .words)) .counts .memories) (omega (arith, count, c .before .before .before .if3 .left))) ∙ pick-false _ _ _ (sym (c .before .before .record-in-form .ensures) ∙ not-true _ (c .before .if4 .taken)))
 
 memory-at-requires : tie.Need-memory-at-requires
-memory-at-requires c κs = search needs
+memory-at-requires c κs =
+    let a = c .before .before .before .before .before .before .before .before .args in
+    let sound = sym (c .before .before .before .before .before .is-sound .ensures) ∙ not-false _ (c .before .before .before .before .if2 .left) in
+    let count = ap (λ (k : Counts). k .memories) (c .before .before .before .counts-from .ensures) in
+    let small : a .number < 8 = memory-place (machineFrom (now (a .words))) _ _ _ (a .number) sound (omega (arith, count, c .before .before .if3 .left)) in
+    search needs
 
 pages-requires : tie.Need-pages-requires
 pages-requires c κs = search needs

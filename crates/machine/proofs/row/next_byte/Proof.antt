@@ -19,7 +19,9 @@ sub-memory-at : tie.Need-sub-memory-at
 sub-memory-at c = search needs
 
 memory-at-requires : tie.Need-memory-at-requires
-memory-at-requires c κs = search needs
+memory-at-requires c κs =
+    let e = ap (λ (k : Counts). k .memories) (c .before .counts-from .ensures) in
+    search needs
 
 add-result : tie.Need-add-result
 unfolding nextByte
@@ -28,7 +30,7 @@ add-result c =
     let m = machineFrom (now (a .words)) in
     let e : (c .before .before .before .counts-from .result .memories) ≡ m .counts .memories = ap (λ (k : Counts). k .memories) (c .before .before .before .counts-from .ensures) in
     let q : memoryEnd (c .before .memory-at .result) ≡ nextByte m = ap memoryEnd (c .before .memory-at .ensures ∙ ap (λ (n : ℕ). memoryAt m (n - 1)) e) ∙ sym (pick-false _ _ _ (ne-eqb _ _ (λ z. c .before .before .if1 .left (e ∙ z)))) in
-    record { fits = omega (arith, q, c .before .before .before .before .before .pre .1) }
+    record { fits = omega (arith, q, c .before .before .before .before .before .pre .2) }
 
 returns-2 : tie.Need-returns-2
 unfolding nextByte

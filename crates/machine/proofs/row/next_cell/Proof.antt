@@ -19,7 +19,9 @@ sub-table-at : tie.Need-sub-table-at
 sub-table-at c = search needs
 
 table-at-requires : tie.Need-table-at-requires
-table-at-requires c κs = search needs
+table-at-requires c κs =
+    let e = ap (λ (k : Counts). k .tables) (c .before .counts-from .ensures) in
+    search needs
 
 add-result : tie.Need-add-result
 unfolding nextCell
@@ -28,7 +30,7 @@ add-result c =
     let m = machineFrom (now (a .words)) in
     let e : (c .before .before .before .counts-from .result .tables) ≡ m .counts .tables = ap (λ (k : Counts). k .tables) (c .before .before .before .counts-from .ensures) in
     let q : tableEnd (c .before .table-at .result) ≡ nextCell m = ap tableEnd (c .before .table-at .ensures ∙ ap (λ (n : ℕ). tableAt m (n - 1)) e) ∙ sym (pick-false _ _ _ (ne-eqb _ _ (λ z. c .before .before .if1 .left (e ∙ z)))) in
-    record { fits = omega (arith, q, c .before .before .before .before .before .pre .1) }
+    record { fits = omega (arith, q, c .before .before .before .before .before .pre .2) }
 
 returns-2 : tie.Need-returns-2
 unfolding nextCell

@@ -19,7 +19,9 @@ sub-segment-at : tie.Need-sub-segment-at
 sub-segment-at c = search needs
 
 segment-at-requires : tie.Need-segment-at-requires
-segment-at-requires c κs = search needs
+segment-at-requires c κs =
+    let e = ap (λ (k : Counts). k .segments) (c .before .counts-from .ensures) in
+    search needs
 
 add-result : tie.Need-add-result
 unfolding nextItem
@@ -28,7 +30,7 @@ add-result c =
     let m = machineFrom (now (a .words)) in
     let e : (c .before .before .before .counts-from .result .segments) ≡ m .counts .segments = ap (λ (k : Counts). k .segments) (c .before .before .before .counts-from .ensures) in
     let q : segmentEnd (c .before .segment-at .result) ≡ nextItem m = ap segmentEnd (c .before .segment-at .ensures ∙ ap (λ (n : ℕ). segmentAt m (n - 1)) e) ∙ sym (pick-false _ _ _ (ne-eqb _ _ (λ z. c .before .before .if1 .left (e ∙ z)))) in
-    record { fits = omega (arith, q, c .before .before .before .before .before .pre .1) }
+    record { fits = omega (arith, q, c .before .before .before .before .before .pre .2) }
 
 returns-2 : tie.Need-returns-2
 unfolding nextItem

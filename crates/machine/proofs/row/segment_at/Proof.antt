@@ -1,7 +1,7 @@
 -- `machine::row::segment_at` meets its contract. Assumes nothing.
 use Rattle.types.proofs.Prelude.{sym, _∙_, now, needs}
-use Rattle.machine.specs.{Machine.noSegment, Words.segmentLength, Words.segmentsAt, Words.segmentFrom, Words.recordsFrom}
-use Rattle.machine.proofs.{Places.records-at, Places.records-length, Lists.past}
+use Rattle.machine.specs.{Machine.noSegment, Words.segmentLength, Words.segmentsAt, Words.segmentFrom}
+use Rattle.machine.proofs.Places.{records-at}
 use Rattle.machine.proofs.row.segment_at.Statement.{statement}
 use Rattle.machine.proofs.row.segment_at.Tie as tie
 
@@ -16,24 +16,8 @@ segment-from-requires c κs = search needs
 
 returns : tie.Need-returns
 returns c =
-    let a = c .before .before .before .args in
-    c .segment-from .ensures ∙ sym (records-at segmentFrom segmentLength (now (a .words)) noSegment segmentsAt 8 (a .i) (c .before .if1 .taken))
-
-no-segment-requires : tie.Need-no-segment-requires
-no-segment-requires c κs = search needs
-
-returns-2 : tie.Need-returns-2
-returns-2 c =
-    let a = c .before .before .before .args in
-    c .no-segment .ensures ∙ sym (past (recordsFrom segmentFrom segmentLength (now (a .words)) segmentsAt 8) noSegment (a .i) (records-length segmentFrom segmentLength (now (a .words)) segmentsAt 8) (c .before .if1 .left))
+    let a = c .before .before .args in
+    c .segment-from .ensures ∙ sym (records-at segmentFrom segmentLength (now (a .words)) noSegment segmentsAt 8 (a .i) (c .before .before .pre .1))
 
 pub segment-at-spec : {M : Type 1} → statement M
-segment-at-spec =
-    tie.close
-    (tie.spec
-    mul-segment-from
-    add-segment-from
-    segment-from-requires
-    returns
-    no-segment-requires
-    returns-2)
+segment-at-spec = tie.close (tie.spec mul-segment-from add-segment-from segment-from-requires returns)

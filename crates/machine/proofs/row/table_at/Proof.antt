@@ -1,7 +1,7 @@
 -- `machine::row::table_at` meets its contract. Assumes nothing.
 use Rattle.types.proofs.Prelude.{sym, _∙_, now, needs}
-use Rattle.machine.specs.{Machine.noTable, Words.recordLength, Words.tablesAt, Words.tableFrom, Words.recordsFrom}
-use Rattle.machine.proofs.{Places.records-at, Places.records-length, Lists.past}
+use Rattle.machine.specs.{Machine.noTable, Words.recordLength, Words.tablesAt, Words.tableFrom}
+use Rattle.machine.proofs.Places.{records-at}
 use Rattle.machine.proofs.row.table_at.Statement.{statement}
 use Rattle.machine.proofs.row.table_at.Tie as tie
 
@@ -16,24 +16,8 @@ table-from-requires c κs = search needs
 
 returns : tie.Need-returns
 returns c =
-    let a = c .before .before .before .args in
-    c .table-from .ensures ∙ sym (records-at tableFrom recordLength (now (a .words)) noTable tablesAt 8 (a .i) (c .before .if1 .taken))
-
-no-table-requires : tie.Need-no-table-requires
-no-table-requires c κs = search needs
-
-returns-2 : tie.Need-returns-2
-returns-2 c =
-    let a = c .before .before .before .args in
-    c .no-table .ensures ∙ sym (past (recordsFrom tableFrom recordLength (now (a .words)) tablesAt 8) noTable (a .i) (records-length tableFrom recordLength (now (a .words)) tablesAt 8) (c .before .if1 .left))
+    let a = c .before .before .args in
+    c .table-from .ensures ∙ sym (records-at tableFrom recordLength (now (a .words)) noTable tablesAt 8 (a .i) (c .before .before .pre .1))
 
 pub table-at-spec : {M : Type 1} → statement M
-table-at-spec =
-    tie.close
-    (tie.spec
-    mul-table-from
-    add-table-from
-    table-from-requires
-    returns
-    no-table-requires
-    returns-2)
+table-at-spec = tie.close (tie.spec mul-table-from add-table-from table-from-requires returns)

@@ -80,7 +80,12 @@ returns-4 c =
     ∙ pick-true _ _ _ (lt-ltb (a .number) (machineFrom (now (a .words)) .counts .tables) (omega (arith, count, c .before .before .before .if3 .left))) ∙ pick-false _ _ _ (sym (c .before .before .record-in-form .ensures) ∙ not-true _ (c .before .if4 .taken)))
 
 table-at-requires : tie.Need-table-at-requires
-table-at-requires c κs = search needs
+table-at-requires c κs =
+    let a = c .before .before .before .before .before .before .before .before .args in
+    let sound = sym (c .before .before .before .before .before .is-sound .ensures) ∙ not-false _ (c .before .before .before .before .if2 .left) in
+    let count = ap (λ (k : Counts). k .tables) (c .before .before .before .counts-from .ensures) in
+    let small : a .number < 8 = table-place (machineFrom (now (a .words))) _ _ _ (a .number) sound (omega (arith, count, c .before .before .if3 .left)) in
+    search needs
 
 returns-5 : tie.Need-returns-5
 unfolding rowCells ifSound

@@ -20,7 +20,9 @@ returns c =
     unknown _ (a .number) (m .counts .segments) (omega (arith, e, c .before .if1 .taken)) (c .refuses .ensures)
 
 segment-at-requires : tie.Need-segment-at-requires
-segment-at-requires c κs = search needs
+segment-at-requires c κs =
+    let e = ap (λ (k : Counts). k .segments) (c .before .before .counts-from .ensures) in
+    search needs
 
 drop-items-requires : tie.Need-drop-items-requires
 drop-items-requires c κs = search needs

@@ -35,10 +35,14 @@ returns-2 c =
     ap (λ (o : Outcome). done o (now (a .cells))) (c .refuses2 .ensures) ∙ sym (pick-false _ _ _ (both-right _ _ (le-ltb (a .segment) (m .counts .segments) (omega (arith, f, c .before .if2 .taken)))))
 
 table-at-requires : tie.Need-table-at-requires
-table-at-requires c κs = search needs
+table-at-requires c κs =
+    let e = ap (λ (k : Counts). k .tables) (c .before .before .before .before .counts-from .ensures) in
+    search needs
 
 segment-at-requires : tie.Need-segment-at-requires
-segment-at-requires c κs = search needs
+segment-at-requires c κs =
+    let e = ap (λ (k : Counts). k .segments) (c .before .before .before .before .before .counts-from .ensures) in
+    search needs
 
 init-one-requires : tie.Need-init-one-requires
 init-one-requires c κs = search needs

@@ -23,7 +23,9 @@ returns c =
     unknown _ (a .number) (m .counts .tables) (omega (arith, e, c .before .if1 .taken)) (ap (λ (o : Outcome). done o (now (a .cells))) (c .refuses .ensures))
 
 table-at-requires : tie.Need-table-at-requires
-table-at-requires c κs = search needs
+table-at-requires c κs =
+    let e = ap (λ (k : Counts). k .tables) (c .before .before .counts-from .ensures) in
+    search needs
 
 one-table-requires : tie.Need-one-table-requires
 one-table-requires c κs = search needs

@@ -31,7 +31,9 @@ returns-2 c =
     ap (λ (o : Outcome). done o (now (a .cells))) (c .refuses2 .ensures) ∙ sym (pick-false _ _ _ (both-right _ _ (le-ltb (a .source) (m .counts .tables) (omega (arith, e, c .before .if2 .taken)))))
 
 copy-known-requires : tie.Need-copy-known-requires
-copy-known-requires c κs = search needs
+copy-known-requires c κs =
+    let e = ap (λ (k : Counts). k .tables) (c .before .before .before .counts-from .ensures) in
+    search needs
 
 same-length : tie.Need-same-length
 same-length c = search needs
