@@ -17,7 +17,7 @@ use Rattle.machine.specs.{declared.outcome.Change.Change, declared.opera
 use Rattle.machine.proofs.Lengths.{length-memory, length-table, length-segment, length-count, length-fuel, length-standing}
 use Rattle.machine.proofs.{Rows.rows-length, Rows.length-both, Rows.over-all, Places.over-left, Places.over-right, Places.over-in, Places.rows-set}
 use Rattle.machine.proofs.{Back.row-back, Back.shaped-from, Formed.form-holds, Written.Left, Written.leaves}
-use Rattle.machine.proofs.Rooms.{next-byte-inside, next-cell-inside, next-item-inside}
+use Rattle.machine.proofs.Rooms.{memories-few, tables-few, segments-few, next-byte-inside, next-cell-inside, next-item-inside}
 use Rattle.machine.specs.declared.outcome.Change.the-variants as change
 use Rattle.machine.specs.declared.operation.Writes.the-variants as writes
 
@@ -253,9 +253,9 @@ goes-steps l b op h w e f q =
 pub sound-inside : (m : Machine) (b : Buffers) → soundOver m b ≡ true → Inside m (length (b .bytes)) (length (b .cells)) (length (b .items))
 sound-inside m b e =
     record {
-      memories = Rattle.machine.proofs.Rooms.memories-few m (length (b .bytes)) (length (b .cells)) (length (b .items)) e;
-      tables = Rattle.machine.proofs.Rooms.tables-few m (length (b .bytes)) (length (b .cells)) (length (b .items)) e;
-      segments = Rattle.machine.proofs.Rooms.segments-few m (length (b .bytes)) (length (b .cells)) (length (b .items)) e;
+      memories = memories-few m (length (b .bytes)) (length (b .cells)) (length (b .items)) e;
+      tables = tables-few m (length (b .bytes)) (length (b .cells)) (length (b .items)) e;
+      segments = segments-few m (length (b .bytes)) (length (b .cells)) (length (b .items)) e;
       byte = next-byte-inside m (length (b .bytes)) (length (b .cells)) (length (b .items)) e;
       cell = next-cell-inside m (length (b .bytes)) (length (b .cells)) (length (b .items)) e;
       item = next-item-inside m (length (b .bytes)) (length (b .cells)) (length (b .items)) e;

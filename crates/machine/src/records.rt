@@ -45,7 +45,7 @@ fn no_limits() -> Limits
     }
 }
 
-pub(crate) fn no_memory() -> Memory
+fn no_memory() -> Memory
     ensures { λ r. ⌜ r ≡ noMemory ⌝ }
 {
     let limits = no_limits();
@@ -61,7 +61,7 @@ pub(crate) fn no_memory() -> Memory
     }
 }
 
-pub(crate) fn no_table() -> Table
+fn no_table() -> Table
     ensures { λ r. ⌜ r ≡ noTable ⌝ }
 {
     let limits = no_limits();
@@ -77,7 +77,7 @@ pub(crate) fn no_table() -> Table
     }
 }
 
-pub(crate) fn no_segment() -> ElementSegment
+fn no_segment() -> ElementSegment
     ensures { λ r. ⌜ r ≡ noSegment ⌝ }
 {
     ElementSegment {
