@@ -1,6 +1,8 @@
 // Memories and tables at their edges, over cells that are full of a5 before. The cases are lines on standard input, whose head says
 // how they read; a case prints its name, document 01's number, the value or amount in 16 hexadecimal digits, the size, the fuel
 // left, the script's place, and the cells: a memory's bytes, or the low 16 bits of each of a table's cells.
+#![tactic(auto)]
+
 mod memories;
 mod print;
 mod settings;

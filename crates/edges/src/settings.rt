@@ -3,7 +3,7 @@ use super::text::Order;
 use types::fuel::{Fuel, FuelCosts};
 use types::limiter::Limiter;
 
-#[derive(Drop)]
+#[derive(Clone, Copy)]
 pub(crate) struct Means {
     pub(crate) fuel: Fuel,
     pub(crate) limiter: Limiter,

@@ -2,7 +2,7 @@
 ghost use Rattle.std.specs.Prelude.{◌≤◌, ◌<◌, length};
 
 // What a line asks for: its word's bytes with the count of its numbers as one more byte, or 0, and its first seven numbers, or zeros.
-#[derive(Drop)]
+#[derive(Clone, Copy)]
 pub(crate) struct Order {
     pub(crate) key: u64,
     pub(crate) a: u64,
@@ -15,7 +15,7 @@ pub(crate) struct Order {
 }
 
 // A number, or text that is none.
-#[derive(Drop)]
+#[derive(Clone, Copy)]
 enum Number {
     Is(u64),
     Bad,

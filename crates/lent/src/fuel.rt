@@ -8,7 +8,7 @@ use types::answer::{Answer, Value};
 use types::fuel::{Fuel, FuelStep};
 
 // What the fuel record is asked for.
-#[derive(Drop)]
+#[derive(Clone, Copy)]
 pub enum FuelRequest {
     Set(u64),
     Get,
@@ -18,7 +18,7 @@ pub enum FuelRequest {
 }
 
 // What is left, and the answer.
-#[derive(Drop)]
+#[derive(Clone, Copy)]
 pub struct FuelLeft {
     pub left: u64,
     pub answer: Answer,

@@ -17,14 +17,14 @@ use types::fuel::Fuel;
 use types::limiter::Limiter;
 
 // How many instances there are, and the limiter.
-#[derive(Drop)]
+#[derive(Clone, Copy)]
 pub struct Standing {
     pub counts: Counts,
     pub limiter: Limiter,
 }
 
 // One record for each list, with its place, and all else that goes back.
-#[derive(Drop)]
+#[derive(Clone, Copy)]
 pub struct Placed {
     pub memory_at: usize,
     pub memory: Memory,
@@ -38,21 +38,21 @@ pub struct Placed {
 }
 
 // An answer, and the machine after it.
-#[derive(Drop)]
+#[derive(Clone, Copy)]
 pub struct Operated {
     pub answer: Answer,
     pub machine: Machine,
 }
 
 // Whether a list is too short, and the answer if so.
-#[derive(Drop)]
+#[derive(Clone, Copy)]
 pub struct Verdict {
     pub short: bool,
     pub answer: Answer,
 }
 
 // The records after an operation, by value, and its answer.
-#[derive(Drop)]
+#[derive(Clone, Copy)]
 pub struct Kept {
     pub memories: [Memory; CAPACITY],
     pub tables: [Table; CAPACITY],

@@ -6,7 +6,7 @@ use types::answer::{Answer, Refusal};
 use types::fuel::Fuel;
 use types::limiter::Limiter;
 
-#[derive(Drop)]
+#[derive(Clone, Copy)]
 pub struct Regrown {
     pub answer: Answer,
     // The record's place in its list.

@@ -12,7 +12,7 @@ use types::span::CopySpan;
 use types::wide::WORD32;
 
 // What a line says.
-#[derive(Drop)]
+#[derive(Clone, Copy)]
 pub enum Read {
     Operation(Operation),
     Making { metering: bool, copied: u32 },

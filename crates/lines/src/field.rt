@@ -5,7 +5,7 @@ ghost use Rattle.lines.specs.stages.Digits.{digit_table};
 ghost use Rattle.lines.specs.Hex.{digit_of, char_of, hex_from, hex_text};
 
 // A number, or text that is none.
-#[derive(Drop)]
+#[derive(Clone, Copy)]
 pub enum Field {
     Value(u64),
     Bad,

@@ -1,4 +1,6 @@
 // The text of operations and answers, lines of hexadecimal both ways, and a session over pieces of input.
+#![tactic(auto)]
+
 pub mod answer_line;
 pub mod code;
 pub mod field;

@@ -24,14 +24,14 @@ use types::fuel::FuelCosts;
 const LONGEST: usize = 160;
 
 // Whether the next line is the first, and whether the input is inside a line that is too long already; the machine stands in a row of words.
-#[derive(Drop)]
+#[derive(Clone, Copy)]
 pub struct Session {
     pub first: bool,
     pub skip: bool,
 }
 
 // 0, or 19 for a row that is out of form or unsound; the session after a piece, how much of the input it used, and how much of the output it wrote.
-#[derive(Drop)]
+#[derive(Clone, Copy)]
 pub struct Progress {
     pub number: u8,
     pub session: Session,

@@ -11,7 +11,7 @@ use types::fuel::{Fuel, FuelStep};
 use types::limiter::{HandedOver, Limiter};
 
 // An answer, fuel and limiter after it.
-#[derive(Drop)]
+#[derive(Clone, Copy)]
 pub struct Fueled {
     pub answer: Answer,
     pub fuel: Fuel,

@@ -1,4 +1,6 @@
 // The machine: up to 8 memories, 8 tables and 8 segments in lent buffers, the operation list, and one operation on them.
+#![tactic(auto)]
+
 pub mod fields;
 pub mod form;
 pub mod fueling;

@@ -11,14 +11,14 @@ use types::span::CopySpan;
 use types::table_ty::WantedTable;
 
 // The limiter's answers: so many, as leading digits.
-#[derive(Drop)]
+#[derive(Clone, Copy)]
 pub struct Script {
     pub count: u64,
     pub digits: u64,
 }
 
 // The items of a segment: so many of these four.
-#[derive(Drop)]
+#[derive(Clone, Copy)]
 pub struct Items {
     pub count: u64,
     pub first: u64,
@@ -27,7 +27,7 @@ pub struct Items {
     pub fourth: u64,
 }
 
-#[derive(Drop)]
+#[derive(Clone, Copy)]
 pub enum FuelOp {
     // 01
     SetFuel { amount: u64 },
@@ -39,7 +39,7 @@ pub enum FuelOp {
     SetLimiter { script: Script },
 }
 
-#[derive(Drop)]
+#[derive(Clone, Copy)]
 pub enum MemoryOp {
     // 11
     Grow {
@@ -66,7 +66,7 @@ pub enum MemoryOp {
     },
 }
 
-#[derive(Drop)]
+#[derive(Clone, Copy)]
 pub enum TableOp {
     // 21
     Grow {
@@ -92,7 +92,7 @@ pub enum TableOp {
     },
 }
 
-#[derive(Drop)]
+#[derive(Clone, Copy)]
 pub enum Operation {
     // 01 to 04
     Fuel {
@@ -166,7 +166,7 @@ fn memory_well_formed(op: MemoryOp) -> bool
 }
 
 // What an operation may write to a row besides the numbers in use, fuel and the script's place.
-#[derive(Drop)]
+#[derive(Clone, Copy)]
 pub enum Writes {
     Nothing,
     Record,

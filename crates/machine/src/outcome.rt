@@ -14,7 +14,7 @@ use types::fuel::Fuel;
 use types::limiter::Limiter;
 
 // The record at a place; a new one stands at the next free place.
-#[derive(Drop)]
+#[derive(Clone, Copy)]
 pub enum Change {
     Nothing,
     Memory(usize, Memory),
@@ -22,7 +22,7 @@ pub enum Change {
     Segment(usize, ElementSegment),
 }
 
-#[derive(Drop)]
+#[derive(Clone, Copy)]
 pub struct Outcome {
     pub answer: Answer,
     pub change: Change,

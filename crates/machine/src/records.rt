@@ -18,14 +18,14 @@ use types::table_ty::TableType;
 pub const CAPACITY: usize = 8;
 
 // How many instances there are.
-#[derive(Drop)]
+#[derive(Clone, Copy)]
 pub struct Counts {
     pub memories: usize,
     pub tables: usize,
     pub segments: usize,
 }
 
-#[derive(Drop)]
+#[derive(Clone, Copy)]
 pub struct Machine {
     pub memories: [Memory; CAPACITY],
     pub tables: [Table; CAPACITY],

@@ -12,7 +12,7 @@ use super::buffer;
 use types::answer::{Answer, Refusal, Value};
 
 // How many bytes an access has.
-#[derive(Drop)]
+#[derive(Clone, Copy)]
 pub enum Width {
     W8,
     W16,
@@ -20,7 +20,7 @@ pub enum Width {
     W64,
 }
 
-#[derive(Drop)]
+#[derive(Clone, Copy)]
 pub enum LoadKind {
     I32,
     I64,
@@ -38,7 +38,7 @@ pub enum LoadKind {
     I64From32U,
 }
 
-#[derive(Drop)]
+#[derive(Clone, Copy)]
 pub enum StoreKind {
     I32,
     I64,
@@ -52,7 +52,7 @@ pub enum StoreKind {
 }
 
 // Where an access starts, counted from the memory's first byte.
-#[derive(Drop)]
+#[derive(Clone, Copy)]
 pub enum Address {
     At(u64),
     Outside,

@@ -16,7 +16,7 @@ use types::grant::Growth;
 use types::limiter::{Limiter, Permit};
 use types::memory_ty::{ByteSize, MemoryType};
 
-#[derive(Drop)]
+#[derive(Clone, Copy)]
 pub struct GrownMemory {
     pub answer: Answer,
     pub memory: Memory,

@@ -1,4 +1,6 @@
 // Memories: one record by value over a lent byte buffer. It knows no instance numbers.
+#![tactic(auto)]
+
 pub mod access;
 pub mod buffer;
 pub mod grow;

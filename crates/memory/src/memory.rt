@@ -16,7 +16,7 @@ use types::index_ty::IndexType;
 use types::memory_ty::{MemoryType, PageSize};
 
 // `size` bytes in use of a room of `room` bytes, which starts at `start` in the buffer.
-#[derive(Drop)]
+#[derive(Clone, Copy)]
 pub struct Memory {
     pub ty: MemoryType,
     pub start: usize,

@@ -14,13 +14,13 @@ use types::answer::Refusal;
 use types::limiter::{Limiter, Permit};
 use types::memory_ty::{BuiltMemory, ByteSize, MemoryType, WantedMemory};
 
-#[derive(Drop)]
+#[derive(Clone, Copy)]
 pub enum MadeMemory {
     Made(Memory),
     Refused(Refusal),
 }
 
-#[derive(Drop)]
+#[derive(Clone, Copy)]
 pub struct CreatedMemory {
     pub made: MadeMemory,
     pub limiter: Limiter,

@@ -1,5 +1,7 @@
 // Operation lines on standard input, each run through records in lent lists on buffers that are full of other cells than 0 before: one
 // answer line for each on standard output, and after them the cells of every memory and table.
+#![tactic(auto)]
+
 mod cells;
 
 ghost use Rattle.std.specs.Prelude.{◌≤◌, length};
@@ -14,7 +16,7 @@ use types::answer::{Answer, Refusal, Value};
 use types::fuel::FuelCosts;
 
 // The machine after all lines, and whether their answers were sent.
-#[derive(Drop)]
+#[derive(Clone, Copy)]
 struct Replayed {
     machine: Machine,
     fine: bool,

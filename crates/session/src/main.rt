@@ -1,4 +1,6 @@
 // Operation lines on standard input, one answer line for each on standard output.
+#![tactic(auto)]
+
 ghost use Rattle.std.specs.Prelude.{◌≤◌, ◌≡◌, length};
 ghost use Rattle.types.specs.Done.{done};
 ghost use Rattle.lines.specs.Input.{kept_of};
@@ -9,7 +11,7 @@ use machine::row;
 use types::fuel::FuelCosts;
 
 // A session, how many bytes at the start of the input are still to be used, and whether all went well so far.
-#[derive(Drop)]
+#[derive(Clone, Copy)]
 struct Host {
     session: Session,
     kept: usize,
@@ -17,21 +19,21 @@ struct Host {
 }
 
 // A session after some input, how much of that it used, and whether its answers were sent.
-#[derive(Drop)]
+#[derive(Clone, Copy)]
 struct Handled {
     session: Session,
     used: usize,
     fine: bool,
 }
 
-#[derive(Drop)]
+#[derive(Clone, Copy)]
 struct Turned {
     host: Host,
     more: bool,
 }
 
 // One read: how many bytes came, 0 at the end or where it failed.
-#[derive(Drop)]
+#[derive(Clone, Copy)]
 struct Came {
     count: usize,
     fine: bool,

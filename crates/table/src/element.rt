@@ -8,7 +8,7 @@ use types::answer::{Answer, Refusal, Value};
 use types::raw::RefType;
 
 // `size` items at the `places` places from `start` on.
-#[derive(Drop)]
+#[derive(Clone, Copy)]
 pub struct ElementSegment {
     pub ty: RefType,
     pub start: usize,
@@ -16,7 +16,7 @@ pub struct ElementSegment {
     pub size: u64,
 }
 
-#[derive(Drop)]
+#[derive(Clone, Copy)]
 pub enum MadeSegment {
     Made(ElementSegment),
     Refused(Refusal),

@@ -18,7 +18,7 @@ use types::index_ty::IndexType;
 use types::limiter::{Limiter, Permit};
 use types::raw::{RawRef, TypedRawRef};
 
-#[derive(Drop)]
+#[derive(Clone, Copy)]
 pub struct GrownTable {
     pub answer: Answer,
     pub table: Table,

@@ -14,13 +14,13 @@ use types::limiter::{Limiter, Permit};
 use types::raw::TypedRawRef;
 use types::table_ty::{BuiltTable, TableType, WantedTable};
 
-#[derive(Drop)]
+#[derive(Clone, Copy)]
 pub enum MadeTable {
     Made(Table),
     Refused(Refusal),
 }
 
-#[derive(Drop)]
+#[derive(Clone, Copy)]
 pub struct CreatedTable {
     pub made: MadeTable,
     pub limiter: Limiter,

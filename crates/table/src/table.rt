@@ -18,7 +18,7 @@ use types::table_ty::TableType;
 use types::wide::WORD32;
 
 // `size` cells in use of a room of `room` cells, which starts at `start` in the buffer.
-#[derive(Drop)]
+#[derive(Clone, Copy)]
 pub struct Table {
     pub ty: TableType,
     pub start: usize,

@@ -1,4 +1,6 @@
 // Exports for the benches only: each builds the records of one operation from numbers, and leaves what a host would keep.
+#![tactic(auto)]
+
 pub mod in_place;
 pub mod text;
 

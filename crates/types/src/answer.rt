@@ -9,7 +9,7 @@ ghost use Rattle.types.specs.Answer.{float32, float64, bits_of, number_of, shown
 use super::wide::WORD32;
 
 // A NaN's bits stand beside the floats, since no float of the language keeps a payload.
-#[derive(Drop)]
+#[derive(Clone, Copy)]
 pub enum Value {
     I32(i32),
     I64(i64),
@@ -20,13 +20,13 @@ pub enum Value {
     Number(u64),
 }
 
-#[derive(Drop)]
+#[derive(Clone, Copy)]
 pub struct Refusal {
     pub number: u8,
     pub amount: u64,
 }
 
-#[derive(Drop)]
+#[derive(Clone, Copy)]
 pub enum Answer {
     Value(Value),
     Refusal(Refusal),

@@ -5,7 +5,7 @@ ghost use Rattle.types.specs.Fuel.{default_costs, new_fuel, set_fuel, get_fuel, 
 
 use super::answer::{Answer, Refusal, Value};
 
-#[derive(Drop)]
+#[derive(Clone, Copy)]
 pub struct FuelCosts {
     // Bytes copied for one unit.
     pub copied: u32,
@@ -15,7 +15,7 @@ pub struct FuelCosts {
     pub validated: u32,
 }
 
-#[derive(Drop)]
+#[derive(Clone, Copy)]
 pub struct Fuel {
     pub remaining: u64,
     pub enabled: bool,
@@ -23,7 +23,7 @@ pub struct Fuel {
 }
 
 // The record after a step, or why there was none.
-#[derive(Drop)]
+#[derive(Clone, Copy)]
 pub enum FuelStep {
     Done(Fuel),
     Refused(Refusal),

@@ -8,7 +8,7 @@ use super::fuel::{Fuel, FuelStep};
 use super::limiter::{Asked, Limiter, Permit};
 
 // What a growth's checks leave: the permit, and fuel and limiter after them.
-#[derive(Drop)]
+#[derive(Clone, Copy)]
 pub struct Growth {
     pub permit: Permit,
     pub fuel: Fuel,
@@ -16,7 +16,7 @@ pub struct Growth {
 }
 
 // What a span operation gives back beside its cells.
-#[derive(Drop)]
+#[derive(Clone, Copy)]
 pub struct Spanned {
     pub answer: Answer,
     pub fuel: Fuel,

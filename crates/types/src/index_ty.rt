@@ -5,7 +5,7 @@ ghost use Rattle.types.specs.Wide.{halves};
 
 use super::wide::{WORD32, Wide};
 
-#[derive(Drop)]
+#[derive(Clone, Copy)]
 pub enum IndexType {
     I32,
     I64,

@@ -1,4 +1,6 @@
 // What every layer speaks of: answers, fuel, the limiter and spans of cells; memory and table types, and references. It knows numbers only.
+#![tactic(auto)]
+
 pub mod answer;
 pub mod fuel;
 pub mod grant;

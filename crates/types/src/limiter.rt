@@ -7,32 +7,32 @@ use super::answer::{Answer, Refusal, Value};
 // The most answers that a script has.
 pub const LONGEST_SCRIPT: usize = 16;
 
-#[derive(Drop)]
+#[derive(Clone, Copy)]
 pub struct Limiter {
     pub script: [u8; LONGEST_SCRIPT],
     pub count: usize,
     pub at: usize,
 }
 
-#[derive(Drop)]
+#[derive(Clone, Copy)]
 pub enum Permit {
     Granted,
     Denied(Refusal),
 }
 
-#[derive(Drop)]
+#[derive(Clone, Copy)]
 pub struct Asked {
     pub permit: Permit,
     pub limiter: Limiter,
 }
 
-#[derive(Drop)]
+#[derive(Clone, Copy)]
 pub struct Noticed {
     pub refusal: Refusal,
     pub limiter: Limiter,
 }
 
-#[derive(Drop)]
+#[derive(Clone, Copy)]
 pub struct HandedOver {
     pub answer: Answer,
     pub limiter: Limiter,

@@ -5,7 +5,7 @@ ghost use Rattle.types.specs.Wide.{whole};
 
 use super::wide::Wide;
 
-#[derive(Drop)]
+#[derive(Clone, Copy)]
 pub struct Limits {
     pub minimum: u64,
     pub bounded: bool,

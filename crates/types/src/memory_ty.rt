@@ -9,13 +9,13 @@ use super::limits::Limits;
 use super::wide::{WORD32, Wide};
 
 // Pages of one byte, or of 64 KiB.
-#[derive(Drop)]
+#[derive(Clone, Copy)]
 pub enum PageSize {
     One,
     Wasm,
 }
 
-#[derive(Drop)]
+#[derive(Clone, Copy)]
 pub struct MemoryType {
     pub index: IndexType,
     pub page: PageSize,
@@ -23,21 +23,21 @@ pub struct MemoryType {
 }
 
 // A memory type that is asked for, before it is built.
-#[derive(Drop)]
+#[derive(Clone, Copy)]
 pub struct WantedMemory {
     pub wide: bool,
     pub limits: Limits,
     pub exponent: u8,
 }
 
-#[derive(Drop)]
+#[derive(Clone, Copy)]
 pub enum BuiltMemory {
     Built(MemoryType),
     Refused(Refusal),
 }
 
 // A size in bytes, or that it reaches 2^64.
-#[derive(Drop)]
+#[derive(Clone, Copy)]
 pub enum ByteSize {
     Bytes(u64),
     Overflow,

@@ -3,7 +3,7 @@ ghost use Rattle.std.specs.Prelude.{◌≡◌};
 ghost use Rattle.types.specs.declared.raw.RefType.TheVariants.{Extern};
 ghost use Rattle.types.specs.Raw.{null_ref, is_null, null_of, typed_of, same_kind, raw_bytes};
 
-#[derive(Drop)]
+#[derive(Clone, Copy)]
 pub enum RefType {
     Func,
     Extern,
@@ -31,7 +31,7 @@ impl RefType {
     }
 }
 
-#[derive(Drop)]
+#[derive(Clone, Copy)]
 pub struct RawRef {
     pub bits: u64,
 }
@@ -57,7 +57,7 @@ impl RawRef {
     }
 }
 
-#[derive(Drop)]
+#[derive(Clone, Copy)]
 pub struct TypedRawRef {
     pub raw: RawRef,
     pub ty: RefType,

@@ -3,7 +3,7 @@ ghost use Rattle.std.specs.Prelude.{◌≡◌};
 ghost use Rattle.types.specs.Span.{inside};
 
 // So many cells, from one place to another.
-#[derive(Drop)]
+#[derive(Clone, Copy)]
 pub struct CopySpan {
     pub to: u64,
     pub from: u64,
@@ -11,7 +11,7 @@ pub struct CopySpan {
 }
 
 // So many cells, from one place on.
-#[derive(Drop)]
+#[derive(Clone, Copy)]
 pub struct FillSpan {
     pub start: u64,
     pub len: u64,

@@ -9,7 +9,7 @@ use super::limits::Limits;
 use super::raw::RefType;
 use super::wide::Wide;
 
-#[derive(Drop)]
+#[derive(Clone, Copy)]
 pub struct TableType {
     pub element: RefType,
     pub index: IndexType,
@@ -17,14 +17,14 @@ pub struct TableType {
 }
 
 // A table type that is asked for, before it is built.
-#[derive(Drop)]
+#[derive(Clone, Copy)]
 pub struct WantedTable {
     pub element: RefType,
     pub wide: bool,
     pub limits: Limits,
 }
 
-#[derive(Drop)]
+#[derive(Clone, Copy)]
 pub enum BuiltTable {
     Built(TableType),
     Refused(Refusal),

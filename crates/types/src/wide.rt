@@ -5,7 +5,7 @@ ghost use Rattle.types.specs.Wide.{whole};
 // How many numbers of 32 bits there are.
 pub const WORD32: u64 = 4294967296;
 
-#[derive(Drop)]
+#[derive(Clone, Copy)]
 pub struct Wide {
     pub high: u64,
     pub low: u64,

@@ -1,4 +1,6 @@
 // The worked cases P1 to P11 of document 01, run. A line has the case, document 01's number, and the value, amount or price.
+#![tactic(auto)]
+
 mod lines;
 mod machines;
 mod numbers;

@@ -1,4 +1,6 @@
 // What C calls: the typed loads and stores on a memory's bytes, and the price; `whole` has machines. The result is document 01's number.
+#![tactic(auto)]
+
 pub mod whole;
 
 ghost use Rattle.std.specs.Prelude.{◌≡◌, ◌*◌};

@@ -1,5 +1,5 @@
 -- `replay::answer_all` meets its contract. Assumes nothing.
-use Rattle.types.proofs.Prelude.{◌≡◌, refl, arith, length, ◌-◌, ◌≤◌, needs}
+use Rattle.types.proofs.Prelude.{◌≡◌, refl, arith, length, ◌-◌, ◌≤◌, rules}
 use Rattle.replay.proofs.answer_all.Statement.{statement}
 use Rattle.replay.proofs.answer_all.Tie as tie
 
@@ -17,19 +17,19 @@ line-end-requires : tie.Need-line-end-requires invariant_loop decreases_loop
 line-end-requires c κs = c.before.loop.invariant.4
 
 sub-one-line : tie.Need-overflow-sub-one-line invariant_loop decreases_loop
-sub-one-line c = search needs
+sub-one-line c = search rules
 
 part-one-line-start : tie.Need-slice-bounds-one-line-start invariant_loop decreases_loop
-part-one-line-start c = search needs
+part-one-line-start c = search rules
 
 part-one-line-end : tie.Need-slice-bounds-one-line-end invariant_loop decreases_loop
-part-one-line-end c = search needs
+part-one-line-end c = search rules
 
 one-line-requires : tie.Need-one-line-requires invariant_loop decreases_loop
-one-line-requires c κs = search needs
+one-line-requires c κs = search rules
 
 tell-requires : tie.Need-tell-requires invariant_loop decreases_loop
-tell-requires c κs = search needs
+tell-requires c κs = search rules
 
 same_length : tie.Need-same-length invariant_loop decreases_loop
 same_length c = omega (arith, c.before.before.before.before.before.before.before.before.before.before.before.bytes.given, c.before.before.before.before.before.before.before.before.before.before.before.before.before.before.before.before.before.before.before.loop.invariant.0)
@@ -44,7 +44,7 @@ same-length-4 : tie.Need-same-length-4 invariant_loop decreases_loop
 same-length-4 c = omega (arith, c.before.before.out.given, c.before.before.before.before.before.before.before.before.before.before.before.before.before.before.before.before.before.before.before.loop.invariant.3)
 
 returns : tie.Need-returns invariant_loop decreases_loop
-returns c = search needs
+returns c = search rules
 
 same-length-5 : tie.Need-same-length-5 invariant_loop decreases_loop
 same-length-5 c = omega (arith, c.before.before.before.before.before.before.before.before.before.before.before.before.bytes.given, c.before.before.before.before.before.before.before.before.before.before.before.before.before.before.before.before.before.before.before.before.loop.invariant.0)
@@ -59,7 +59,7 @@ same-length-8 : tie.Need-same-length-8 invariant_loop decreases_loop
 same-length-8 c = omega (arith, c.before.before.before.out.given, c.before.before.before.before.before.before.before.before.before.before.before.before.before.before.before.before.before.before.before.before.loop.invariant.3)
 
 returns-2 : tie.Need-returns-2 invariant_loop decreases_loop
-returns-2 c = search needs
+returns-2 c = search rules
 
 add_at : tie.Need-overflow-add-at invariant_loop decreases_loop
 add_at c = omega (arith, c.if2.false, c.before.before.before.before.before.before.before.before.before.before.before.before.before.before.before.before.before.before.before.before.before.before.before.before.before.before.well-formed.1.1.1.1.0.0)
@@ -77,19 +77,19 @@ loop-again c = (
 )
 
 same-length-9 : tie.Need-same-length-9 invariant_loop decreases_loop
-same-length-9 c = search needs
+same-length-9 c = search rules
 
 same-length-10 : tie.Need-same-length-10 invariant_loop decreases_loop
-same-length-10 c = search needs
+same-length-10 c = search rules
 
 same-length-11 : tie.Need-same-length-11 invariant_loop decreases_loop
-same-length-11 c = search needs
+same-length-11 c = search rules
 
 same-length-12 : tie.Need-same-length-12 invariant_loop decreases_loop
-same-length-12 c = search needs
+same-length-12 c = search rules
 
 returns-3 : tie.Need-returns-3 invariant_loop decreases_loop
-returns-3 c = search needs
+returns-3 c = search rules
 
 pub answer-all-spec : {M : Type 1} → statement M
 answer-all-spec =

@@ -1,5 +1,5 @@
 -- `replay::line_end` meets its contract. Assumes nothing.
-use Rattle.types.proofs.Prelude.{arith, length, ◌-◌, ◌≤◌, needs}
+use Rattle.types.proofs.Prelude.{arith, length, ◌-◌, ◌≤◌, rules}
 use Rattle.replay.proofs.line_end.Statement.{statement}
 use Rattle.replay.proofs.line_end.Tie as tie
 
@@ -14,13 +14,13 @@ loop-holds : tie.Need-loop-init invariant_loop decreases_loop
 loop-holds c = (omega arith, omega arith)
 
 shared-slice-read-if1 : tie.Need-shared-slice-read-if1 invariant_loop decreases_loop
-shared-slice-read-if1 c = search needs
+shared-slice-read-if1 c = search rules
 
 returns : tie.Need-returns invariant_loop decreases_loop
 returns c = (c.before.before.before.loop.invariant.0, omega (arith, c.before.before.before.loop.invariant.1, c.before.before.loop-test.true))
 
 add-i : tie.Need-overflow-add-i invariant_loop decreases_loop
-add-i c = search needs
+add-i c = search rules
 
 loop-less : tie.Need-loop-smaller invariant_loop decreases_loop
 loop-less c = omega (arith, c.before.before.loop-test.true)

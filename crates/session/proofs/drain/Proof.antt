@@ -1,5 +1,5 @@
 -- `session::drain` meets its contract. Assumes nothing.
-use Rattle.types.proofs.Prelude.{◌≡◌, refl, arith, length, ◌-◌, ◌≤◌, needs}
+use Rattle.types.proofs.Prelude.{◌≡◌, refl, arith, length, ◌-◌, ◌≤◌, rules}
 use Rattle.session.proofs.drain.Statement.{statement}
 use Rattle.session.proofs.drain.Tie as tie
 
@@ -14,16 +14,16 @@ loop-holds : tie.Need-loop-init invariant_loop decreases_loop
 loop-holds c = (refl, refl, refl, refl, refl, omega arith)
 
 sub-handle : tie.Need-overflow-sub-handle invariant_loop decreases_loop
-sub-handle c = search needs
+sub-handle c = search rules
 
 part-handle-start : tie.Need-slice-bounds-handle-start invariant_loop decreases_loop
-part-handle-start c = search needs
+part-handle-start c = search rules
 
 part-handle-end : tie.Need-slice-bounds-handle-end invariant_loop decreases_loop
-part-handle-end c = search needs
+part-handle-end c = search rules
 
 handle-requires : tie.Need-handle-requires invariant_loop decreases_loop
-handle-requires c κs = search needs
+handle-requires c κs = search rules
 
 add_at : tie.Need-overflow-add-at invariant_loop decreases_loop
 add_at c = omega (arith, c.before.before.before.before.before.before.before.before.before.before.before.before.before.before.handle-arg5.given, c.before.before.before.before.before.before.before.before.before.before.before.before.handle.ensures, c.before.before.before.before.before.before.before.before.before.before.before.before.before.before.before.before.before.before.before.loop-test.true, c.before.before.before.before.before.before.before.before.before.before.before.before.before.before.before.before.before.before.before.before.loop.invariant.5, c.before.before.before.before.before.before.before.before.before.before.before.before.before.before.before.before.before.before.before.before.before.before.before.before.before.before.before.well-formed.1.1.1.1.1.0.0)
@@ -78,22 +78,22 @@ loop-again c = (
 )
 
 same-length-11 : tie.Need-same-length-11 invariant_loop decreases_loop
-same-length-11 c = search needs
+same-length-11 c = search rules
 
 same-length-12 : tie.Need-same-length-12 invariant_loop decreases_loop
-same-length-12 c = search needs
+same-length-12 c = search rules
 
 same-length-13 : tie.Need-same-length-13 invariant_loop decreases_loop
-same-length-13 c = search needs
+same-length-13 c = search rules
 
 same-length-14 : tie.Need-same-length-14 invariant_loop decreases_loop
-same-length-14 c = search needs
+same-length-14 c = search rules
 
 same-length-15 : tie.Need-same-length-15 invariant_loop decreases_loop
-same-length-15 c = search needs
+same-length-15 c = search rules
 
 returns-3 : tie.Need-returns-3 invariant_loop decreases_loop
-returns-3 c = search needs
+returns-3 c = search rules
 
 pub drain-spec : {M : Type 1} → statement M
 drain-spec =

@@ -1,5 +1,5 @@
 -- `session::read_all` meets its contract. Assumes nothing.
-use Rattle.types.proofs.Prelude.{◌≡◌, refl, arith, length, needs}
+use Rattle.types.proofs.Prelude.{◌≡◌, refl, arith, length, rules}
 use Rattle.session.proofs.read_all.Statement.{statement}
 use Rattle.session.proofs.read_all.Tie as tie
 
@@ -54,22 +54,22 @@ loop-again c = (
 )
 
 same-length-7 : tie.Need-same-length-7 invariant_loop decreases_loop
-same-length-7 c = search needs
+same-length-7 c = search rules
 
 same-length-8 : tie.Need-same-length-8 invariant_loop decreases_loop
-same-length-8 c = search needs
+same-length-8 c = search rules
 
 same-length-9 : tie.Need-same-length-9 invariant_loop decreases_loop
-same-length-9 c = search needs
+same-length-9 c = search rules
 
 same-length-10 : tie.Need-same-length-10 invariant_loop decreases_loop
-same-length-10 c = search needs
+same-length-10 c = search rules
 
 same-length-11 : tie.Need-same-length-11 invariant_loop decreases_loop
-same-length-11 c = search needs
+same-length-11 c = search rules
 
 same-length-12 : tie.Need-same-length-12 invariant_loop decreases_loop
-same-length-12 c = search needs
+same-length-12 c = search rules
 
 returns-2 : tie.Need-returns-2 invariant_loop decreases_loop
 returns-2 c = tt

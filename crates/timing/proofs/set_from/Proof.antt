@@ -1,17 +1,17 @@
 -- `timing::set_from` meets its contract. Assumes nothing.
-use Rattle.types.proofs.Prelude.{ap, ◌∙◌, needs}
+use Rattle.types.proofs.Prelude.{ap, ◌∙◌, rules}
 use Rattle.types.specs.{Answer.number_of, Done.Done, declared.answer.Answer.Answer}
 use Rattle.timing.proofs.set_from.Statement.{statement}
 use Rattle.timing.proofs.set_from.Tie as tie
 
 set-requires : tie.Need-set-requires
-set-requires c κs = search needs
+set-requires c κs = search rules
 
 number-requires : tie.Need-number-requires
-number-requires c κs = search needs
+number-requires c κs = search rules
 
 same_length : tie.Need-same-length
-same_length c = search needs
+same_length c = search rules
 
 returns : tie.Need-returns
 returns c =

@@ -1,5 +1,5 @@
 -- `edges::print::bytes` meets its contract. Assumes nothing.
-use Rattle.types.proofs.Prelude.{◌≤◌, ◌-◌, arith, length, needs}
+use Rattle.types.proofs.Prelude.{◌≤◌, ◌-◌, arith, length, rules}
 use Rattle.edges.proofs.print.bytes.Statement.{statement}
 use Rattle.edges.proofs.print.bytes.Tie as tie
 
@@ -10,40 +10,40 @@ abbrev decreases_loop : tie.decreases-loop
 decreases_loop bytes i₀ t4 i = length bytes - i
 
 slice-aggregate-write-all : tie.Need-slice-aggregate-write-all invariant_loop decreases_loop
-slice-aggregate-write-all c = search needs
+slice-aggregate-write-all c = search rules
 
 write-all-requires : tie.Need-write-all-requires invariant_loop decreases_loop
-write-all-requires c κs = search needs
+write-all-requires c κs = search rules
 
 loop-holds : tie.Need-loop-init invariant_loop decreases_loop
-loop-holds c = search needs
+loop-holds c = search rules
 
 shared-slice-read-print-hex : tie.Need-shared-slice-read-print-hex invariant_loop decreases_loop
-shared-slice-read-print-hex c = search needs
+shared-slice-read-print-hex c = search rules
 
 cast-print-hex : tie.Need-overflow-cast-print-hex invariant_loop decreases_loop
 cast-print-hex c = omega (arith, c.shared-slice-known2.given c.before.before.loop.i)
 
 print-hex-requires : tie.Need-print-hex-requires invariant_loop decreases_loop
-print-hex-requires c κs = search needs
+print-hex-requires c κs = search rules
 
 add-i : tie.Need-overflow-add-i invariant_loop decreases_loop
-add-i c = search needs
+add-i c = search rules
 
 loop-less : tie.Need-loop-smaller invariant_loop decreases_loop
-loop-less c = search needs
+loop-less c = search rules
 
 loop-again : tie.Need-loop-preserved invariant_loop decreases_loop
-loop-again c = search needs
+loop-again c = search rules
 
 slice-aggregate-write-all-2 : tie.Need-slice-aggregate-write-all-2 invariant_loop decreases_loop
-slice-aggregate-write-all-2 c = search needs
+slice-aggregate-write-all-2 c = search rules
 
 write-all-requires-2 : tie.Need-write-all-requires-2 invariant_loop decreases_loop
-write-all-requires-2 c κs = search needs
+write-all-requires-2 c κs = search rules
 
 returns : tie.Need-returns invariant_loop decreases_loop
-returns c = search needs
+returns c = search rules
 
 pub bytes-spec : {M : Type 1} → statement M
 bytes-spec =

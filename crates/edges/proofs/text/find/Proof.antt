@@ -1,5 +1,5 @@
 -- `edges::text::find` meets its contract. Assumes nothing.
-use Rattle.types.proofs.Prelude.{◌≤◌, ◌-◌, length, needs}
+use Rattle.types.proofs.Prelude.{◌≤◌, ◌-◌, length, rules}
 use Rattle.edges.proofs.text.find.Statement.{statement}
 use Rattle.edges.proofs.text.find.Tie as tie
 
@@ -10,25 +10,25 @@ abbrev decreases_loop : tie.decreases-loop
 decreases_loop s from b i₀ i = length s - i
 
 loop-holds : tie.Need-loop-init invariant_loop decreases_loop
-loop-holds c = search needs
+loop-holds c = search rules
 
 shared-slice-read-if1 : tie.Need-shared-slice-read-if1 invariant_loop decreases_loop
-shared-slice-read-if1 c = search needs
+shared-slice-read-if1 c = search rules
 
 returns : tie.Need-returns invariant_loop decreases_loop
-returns c = search needs
+returns c = search rules
 
 add-i : tie.Need-overflow-add-i invariant_loop decreases_loop
-add-i c = search needs
+add-i c = search rules
 
 loop-less : tie.Need-loop-smaller invariant_loop decreases_loop
-loop-less c = search needs
+loop-less c = search rules
 
 loop-again : tie.Need-loop-preserved invariant_loop decreases_loop
-loop-again c = search needs
+loop-again c = search rules
 
 returns-2 : tie.Need-returns-2 invariant_loop decreases_loop
-returns-2 c = search needs
+returns-2 c = search rules
 
 pub find_spec : {M : Type 1} → statement M
 find_spec =

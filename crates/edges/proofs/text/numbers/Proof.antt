@@ -1,5 +1,5 @@
 -- `edges::text::numbers` meets its contract. Assumes nothing.
-use Rattle.types.proofs.Prelude.{◌≤◌, ◌-◌, ◌≡◌, length, needs}
+use Rattle.types.proofs.Prelude.{◌≤◌, ◌-◌, ◌≡◌, length, rules}
 use Rattle.edges.proofs.text.numbers.Statement.{statement}
 use Rattle.edges.proofs.text.numbers.Tie as tie
 
@@ -10,82 +10,82 @@ abbrev decreases_loop : tie.decreases-loop
 decreases_loop s word args₀ low₀ count₀ at₀ args low count at = length s - at
 
 loop-holds : tie.Need-loop-init invariant_loop decreases_loop
-loop-holds c = search needs
+loop-holds c = search rules
 
 add_start : tie.Need-overflow-add-start invariant_loop decreases_loop
-add_start c = search needs
+add_start c = search rules
 
 find-requires : tie.Need-find-requires invariant_loop decreases_loop
-find-requires c κs = search needs
+find-requires c κs = search rules
 
 sub-hex : tie.Need-overflow-sub-hex invariant_loop decreases_loop
-sub-hex c = search needs
+sub-hex c = search rules
 
 part-hex-start : tie.Need-slice-bounds-hex-start invariant_loop decreases_loop
-part-hex-start c = search needs
+part-hex-start c = search rules
 
 part-hex-end : tie.Need-slice-bounds-hex-end invariant_loop decreases_loop
-part-hex-end c = search needs
+part-hex-end c = search rules
 
 hex-requires : tie.Need-hex-requires invariant_loop decreases_loop
-hex-requires c κs = search needs
+hex-requires c κs = search rules
 
 enum-known-n : tie.Need-enum-known-n invariant_loop decreases_loop
-enum-known-n c = search needs
+enum-known-n c = search rules
 
 enum_told : tie.Need-enum-told invariant_loop decreases_loop
-enum_told c = search needs
+enum_told c = search rules
 
 same_length : tie.Need-same-length invariant_loop decreases_loop
-same_length c = search needs
+same_length c = search rules
 
 returns : tie.Need-returns invariant_loop decreases_loop
-returns c = search needs
+returns c = search rules
 
 same-length-2 : tie.Need-same-length-2 invariant_loop decreases_loop
-same-length-2 c = search needs
+same-length-2 c = search rules
 
 returns-2 : tie.Need-returns-2 invariant_loop decreases_loop
-returns-2 c = search needs
+returns-2 c = search rules
 
 same-length-3 : tie.Need-same-length-3 invariant_loop decreases_loop
-same-length-3 c = search needs
+same-length-3 c = search rules
 
 returns-3 : tie.Need-returns-3 invariant_loop decreases_loop
-returns-3 c = search needs
+returns-3 c = search rules
 
 mul-args : tie.Need-overflow-mul-args invariant_loop decreases_loop
-mul-args c = search needs
+mul-args c = search rules
 
 element-write-args : tie.Need-element-write-args invariant_loop decreases_loop
-element-write-args c = search needs
+element-write-args c = search rules
 
 byte-requires : tie.Need-byte-requires invariant_loop decreases_loop
-byte-requires c κs = search needs
+byte-requires c κs = search rules
 
 slice-write-low : tie.Need-slice-write-low invariant_loop decreases_loop
-slice-write-low c = search needs
+slice-write-low c = search rules
 
 add-count : tie.Need-overflow-add-count invariant_loop decreases_loop
-add-count c = search needs
+add-count c = search rules
 
 loop-less : tie.Need-loop-smaller invariant_loop decreases_loop
-loop-less c = search needs
+loop-less c = search rules
 
 loop-again : tie.Need-loop-preserved invariant_loop decreases_loop
-loop-again c = (search needs, search needs, search needs, search needs)
+loop-again c = (search rules, search rules, search rules, search rules)
 
 mul-result : tie.Need-overflow-mul-result invariant_loop decreases_loop
-mul-result c = search needs
+mul-result c = search rules
 
 add-result : tie.Need-overflow-add-result invariant_loop decreases_loop
-add-result c = search needs
+add-result c = search rules
 
 same-length-4 : tie.Need-same-length-4 invariant_loop decreases_loop
-same-length-4 c = search needs
+same-length-4 c = search rules
 
 returns-4 : tie.Need-returns-4 invariant_loop decreases_loop
-returns-4 c = search needs
+returns-4 c = search rules
 
 pub numbers-spec : {M : Type 1} → statement M
 numbers-spec =

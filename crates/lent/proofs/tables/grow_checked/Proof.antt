@@ -1,5 +1,5 @@
 -- `lent::tables::grow_checked` meets its contract. Assumes nothing.
-use Rattle.types.proofs.{Prelude.refl, Prelude.lt-ltb, Prelude.le-ltb, Prelude.not-true, Prelude.not-false, Prelude.needs, Dones.done_as}
+use Rattle.types.proofs.{Prelude.refl, Prelude.lt-ltb, Prelude.le-ltb, Prelude.not-true, Prelude.not-false, Prelude.rules, Dones.done_as}
 use Rattle.lent.proofs.GrowthLaws.{exit_19, exit_16, exit_grown}
 use Rattle.lent.proofs.tables.grow_checked.Statement.{statement}
 use Rattle.lent.proofs.tables.grow_checked.Tie as tie

@@ -1,5 +1,5 @@
 -- `lines::answer_line::write_answer_line` meets its contract. Assumes nothing.
-use Rattle.types.proofs.Prelude.{cases, needs}
+use Rattle.types.proofs.Prelude.{cases, rules}
 use Rattle.lines.proofs.Writing.{room_for}
 use Rattle.lines.specs.AnswerLine.{answered_of}
 use Rattle.lines.proofs.answer_line.write_answer_line.Statement.{statement}
@@ -10,10 +10,10 @@ unfolding answered_of
 returns c = search cases
 
 put-answer-requires : tie.Need-put-answer-requires
-put-answer-requires c κs = search needs
+put-answer-requires c κs = search rules
 
 same_length : tie.Need-same-length
-same_length c = search needs
+same_length c = search rules
 
 returns-2 : tie.Need-returns-2
 returns-2 c = search room_for

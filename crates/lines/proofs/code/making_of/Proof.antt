@@ -1,5 +1,5 @@
 -- `lines::code::making_of` meets its contract. Assumes nothing.
-use Rattle.types.proofs.Prelude.{lt-ltb, le-ltb, needs}
+use Rattle.types.proofs.Prelude.{lt-ltb, le-ltb, rules}
 use Rattle.lines.proofs.CodeLaws.{taken_none, taken_rest}
 use Rattle.lines.proofs.code.making_of.Statement.{statement}
 use Rattle.lines.proofs.code.making_of.Tie as tie
@@ -8,10 +8,10 @@ returns : tie.Need-returns
 returns c = taken_none _ _ _ _ _ (le-ltb _ _ c.if1.true)
 
 cast-t6 : tie.Need-overflow-cast-t6
-cast-t6 c = search needs
+cast-t6 c = search rules
 
 taken-requires : tie.Need-taken-requires
-taken-requires c κs = search needs
+taken-requires c κs = search rules
 
 returns-2 : tie.Need-returns-2
 returns-2 c = taken_rest _ _ _ _ _ (lt-ltb _ _ c.before.if1.false) c.taken.ensures

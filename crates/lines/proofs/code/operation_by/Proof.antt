@@ -1,5 +1,5 @@
 -- `lines::code::operation_by` meets its contract. Assumes nothing.
-use Rattle.types.proofs.Prelude.{refl, needs}
+use Rattle.types.proofs.Prelude.{refl, rules}
 use Rattle.types.specs.Pick.{pick}
 use Rattle.lines.specs.Code.{by_code}
 use Rattle.lines.proofs.CodeLaws.{by_code_lem, by_none}
@@ -7,85 +7,85 @@ use Rattle.lines.proofs.code.operation_by.Statement.{statement}
 use Rattle.lines.proofs.code.operation_by.Tie as tie
 
 element-copy-out-a : tie.Need-element-copy-out-a
-element-copy-out-a c = search needs
+element-copy-out-a c = search rules
 
 element-copy-out-b : tie.Need-element-copy-out-b
-element-copy-out-b c = search needs
+element-copy-out-b c = search rules
 
 element-copy-out-c : tie.Need-element-copy-out-c
-element-copy-out-c c = search needs
+element-copy-out-c c = search rules
 
 element-copy-out-d : tie.Need-element-copy-out-d
-element-copy-out-d c = search needs
+element-copy-out-d c = search rules
 
 element-copy-out-e : tie.Need-element-copy-out-e
-element-copy-out-e c = search needs
+element-copy-out-e c = search rules
 
 element-copy-out-f : tie.Need-element-copy-out-f
-element-copy-out-f c = search needs
+element-copy-out-f c = search rules
 
 making-of-requires : tie.Need-making-of-requires
-making-of-requires c κs = search needs
+making-of-requires c κs = search rules
 
 on-fuel-requires : tie.Need-on-fuel-requires
-on-fuel-requires c κs = search needs
+on-fuel-requires c κs = search rules
 
 on-fuel-requires-2 : tie.Need-on-fuel-requires-2
-on-fuel-requires-2 c κs = search needs
+on-fuel-requires-2 c κs = search rules
 
 on-fuel-requires-3 : tie.Need-on-fuel-requires-3
-on-fuel-requires-3 c κs = search needs
+on-fuel-requires-3 c κs = search rules
 
 on-fuel-requires-4 : tie.Need-on-fuel-requires-4
-on-fuel-requires-4 c κs = search needs
+on-fuel-requires-4 c κs = search rules
 
 new-memory-of-requires : tie.Need-new-memory-of-requires
-new-memory-of-requires c κs = search needs
+new-memory-of-requires c κs = search rules
 
 on-memory-requires : tie.Need-on-memory-requires
-on-memory-requires c κs = search needs
+on-memory-requires c κs = search rules
 
 on-memory-requires-2 : tie.Need-on-memory-requires-2
-on-memory-requires-2 c κs = search needs
+on-memory-requires-2 c κs = search rules
 
 load-of-requires : tie.Need-load-of-requires
-load-of-requires c κs = search needs
+load-of-requires c κs = search rules
 
 store-of-requires : tie.Need-store-of-requires
-store-of-requires c κs = search needs
+store-of-requires c κs = search rules
 
 new-table-of-requires : tie.Need-new-table-of-requires
-new-table-of-requires c κs = search needs
+new-table-of-requires c κs = search rules
 
 grow-table-of-requires : tie.Need-grow-table-of-requires
-grow-table-of-requires c κs = search needs
+grow-table-of-requires c κs = search rules
 
 on-table-requires : tie.Need-on-table-requires
-on-table-requires c κs = search needs
+on-table-requires c κs = search rules
 
 on-table-requires-2 : tie.Need-on-table-requires-2
-on-table-requires-2 c κs = search needs
+on-table-requires-2 c κs = search rules
 
 set-of-requires : tie.Need-set-of-requires
-set-of-requires c κs = search needs
+set-of-requires c κs = search rules
 
 fill-of-requires : tie.Need-fill-of-requires
-fill-of-requires c κs = search needs
+fill-of-requires c κs = search rules
 
 copy-of-requires : tie.Need-copy-of-requires
-copy-of-requires c κs = search needs
+copy-of-requires c κs = search rules
 
 init-of-requires : tie.Need-init-of-requires
-init-of-requires c κs = search needs
+init-of-requires c κs = search rules
 
 drop-of-requires : tie.Need-drop-of-requires
-drop-of-requires c κs = search needs
+drop-of-requires c κs = search rules
 
 segment-of-requires : tie.Need-segment-of-requires
-segment-of-requires c κs = search needs
+segment-of-requires c κs = search rules
 
 link-check-of-requires : tie.Need-link-check-of-requires
-link-check-of-requires c κs = search needs
+link-check-of-requires c κs = search rules
 
 returns : tie.Need-returns
 unfolding by_code pick

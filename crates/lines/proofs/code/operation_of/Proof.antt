@@ -1,11 +1,11 @@
 -- `lines::code::operation_of` meets its contract. Assumes nothing.
-use Rattle.types.proofs.Prelude.{cases, needs}
+use Rattle.types.proofs.Prelude.{cases, rules}
 use Rattle.lines.specs.{Code.operation_of, stages.Codes.meant}
 use Rattle.lines.proofs.code.operation_of.Statement.{statement}
 use Rattle.lines.proofs.code.operation_of.Tie as tie
 
 operation-by-requires : tie.Need-operation-by-requires
-operation-by-requires c κs = search needs
+operation-by-requires c κs = search rules
 
 returns : tie.Need-returns
 unfolding operation_of meant

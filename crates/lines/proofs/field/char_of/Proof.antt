@@ -1,18 +1,18 @@
 -- `lines::field::char_of` meets its contract. Assumes nothing.
-use Rattle.types.proofs.Prelude.{needs, cases}
+use Rattle.types.proofs.Prelude.{rules, cases}
 use Rattle.lines.specs.Hex.{char_of}
 use Rattle.lines.proofs.field.char_of.Statement.{statement}
 use Rattle.lines.proofs.field.char_of.Tie as tie
 
 add-result : tie.Need-overflow-add-result
-add-result c = search needs
+add-result c = search rules
 
 returns : tie.Need-returns
 unfolding char_of
 returns c = search cases
 
 add-result-2 : tie.Need-overflow-add-result-2
-add-result-2 c = search needs
+add-result-2 c = search rules
 
 returns-2 : tie.Need-returns-2
 unfolding char_of

@@ -1,5 +1,5 @@
 -- `lines::field::hex` meets its contract. Assumes nothing.
-use Rattle.types.proofs.Prelude.{◌≡◌, ◌≤◌, ◌<◌, ◌+◌, ◌-◌, ◌^◌, arith, needs, drop}
+use Rattle.types.proofs.Prelude.{◌≡◌, ◌≤◌, ◌<◌, ◌+◌, ◌-◌, ◌^◌, arith, rules, drop}
 use Rattle.lines.specs.Hex.{hex_from}
 use Rattle.lines.proofs.HexLaws.{hex_on, hex_bad, hex_end, hex_start, grows, room}
 use Rattle.lines.proofs.field.hex.Statement.{statement}
@@ -21,7 +21,7 @@ shared-slice-read-digit : tie.Need-shared-slice-read-digit invariant_loop decrea
 shared-slice-read-digit c = omega arith
 
 digit-requires : tie.Need-digit-requires invariant_loop decreases_loop
-digit-requires c κs = search needs
+digit-requires c κs = search rules
 
 returns : tie.Need-returns invariant_loop decreases_loop
 returns c = search hex_bad

@@ -1,5 +1,5 @@
 -- `lines::fields::limit_ranges` meets its contract. Assumes nothing.
-use Rattle.types.proofs.Prelude.{cases, needs}
+use Rattle.types.proofs.Prelude.{cases, rules}
 use Rattle.lines.specs.Fields.{limit_ranges}
 use Rattle.lines.proofs.fields.limit_ranges.Statement.{statement}
 use Rattle.lines.proofs.fields.limit_ranges.Tie as tie
@@ -9,7 +9,7 @@ unfolding limit_ranges
 returns c = search cases
 
 absent-as-zero-requires : tie.Need-absent-as-zero-requires
-absent-as-zero-requires c κs = search needs
+absent-as-zero-requires c κs = search rules
 
 returns-2 : tie.Need-returns-2
 unfolding limit_ranges

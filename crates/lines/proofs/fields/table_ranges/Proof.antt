@@ -1,5 +1,5 @@
 -- `lines::fields::table_ranges` meets its contract. Assumes nothing.
-use Rattle.types.proofs.Prelude.{cases, needs}
+use Rattle.types.proofs.Prelude.{cases, rules}
 use Rattle.lines.proofs.fields.table_ranges.Statement.{statement}
 use Rattle.lines.proofs.fields.table_ranges.Tie as tie
 
@@ -10,7 +10,7 @@ returns-2 : tie.Need-returns-2
 returns-2 c = search cases
 
 limit-ranges-requires : tie.Need-limit-ranges-requires
-limit-ranges-requires c κs = search needs
+limit-ranges-requires c κs = search rules
 
 returns-3 : tie.Need-returns-3
 returns-3 c = search cases

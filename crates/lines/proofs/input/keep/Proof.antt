@@ -1,5 +1,5 @@
 -- `lines::input::keep` meets its contract. Assumes nothing.
-use Rattle.types.proofs.Prelude.{◌+◌, ◌-◌, ◌≤◌, ◌≡◌, refl, sym, arith, length, take, needs}
+use Rattle.types.proofs.Prelude.{◌+◌, ◌-◌, ◌≤◌, ◌≡◌, refl, sym, arith, length, take, rules}
 use Rattle.types.specs.Span.{over}
 use Rattle.types.proofs.Spans.{over_nil}
 use Rattle.lines.proofs.Hosts.{left_of, keep_more, keep_turn, keep_end, keep_short}
@@ -17,31 +17,31 @@ loop-holds : tie.Need-loop-init invariant_loop decreases_loop
 loop-holds c = (refl, omega arith, omega arith, sym (over_nil _ 0))
 
 same_length : tie.Need-same-length invariant_loop decreases_loop
-same_length c = search needs
+same_length c = search rules
 
 returns : tie.Need-returns invariant_loop decreases_loop
 returns c = search keep_short
 
 slice-read-input : tie.Need-slice-read-input invariant_loop decreases_loop
-slice-read-input c = search needs
+slice-read-input c = search rules
 
 slice-write-input : tie.Need-slice-write-input invariant_loop decreases_loop
-slice-write-input c = search needs
+slice-write-input c = search rules
 
 add-to : tie.Need-overflow-add-to invariant_loop decreases_loop
-add-to c = search needs
+add-to c = search rules
 
 add_at : tie.Need-overflow-add-at invariant_loop decreases_loop
-add_at c = search needs
+add_at c = search rules
 
 loop-less : tie.Need-loop-smaller invariant_loop decreases_loop
-loop-less c = search needs
+loop-less c = search rules
 
 loop-again : tie.Need-loop-preserved invariant_loop decreases_loop
-loop-again c = (search needs, omega arith, search keep_more, search keep_turn)
+loop-again c = (search rules, omega arith, search keep_more, search keep_turn)
 
 same-length-2 : tie.Need-same-length-2 invariant_loop decreases_loop
-same-length-2 c = search needs
+same-length-2 c = search rules
 
 returns-2 : tie.Need-returns-2 invariant_loop decreases_loop
 returns-2 c = search keep_end

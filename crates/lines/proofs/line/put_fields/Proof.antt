@@ -1,5 +1,5 @@
 -- `lines::line::put_fields` meets its contract. Assumes nothing.
-use Rattle.types.proofs.Prelude.{◌≡◌, refl, ◌≤◌, ◌+◌, ◌-◌, ◌*◌, arith, needs, length, take, length-set}
+use Rattle.types.proofs.Prelude.{◌≡◌, refl, ◌≤◌, ◌+◌, ◌-◌, ◌*◌, arith, rules, length, take, length-set}
 use Rattle.types.specs.Span.{over}
 use Rattle.lines.specs.Line.{fields_text}
 use Rattle.lines.proofs.Writing.{fields_none, fields_put, fields_all}
@@ -16,28 +16,28 @@ loop-holds : tie.Need-loop-init invariant_loop decreases_loop
 loop-holds c = (omega arith, refl, refl, search fields_none)
 
 slice-write-out : tie.Need-slice-write-out invariant_loop decreases_loop
-slice-write-out c = search needs
+slice-write-out c = search rules
 
 add-put-hex : tie.Need-overflow-add-put-hex invariant_loop decreases_loop
-add-put-hex c = search needs
+add-put-hex c = search rules
 
 mul-put-hex : tie.Need-overflow-mul-put-hex invariant_loop decreases_loop
-mul-put-hex c = search needs
+mul-put-hex c = search rules
 
 array-read-put-hex : tie.Need-array-read-put-hex invariant_loop decreases_loop
-array-read-put-hex c = search needs
+array-read-put-hex c = search rules
 
 put-hex-requires : tie.Need-put-hex-requires invariant_loop decreases_loop
 put-hex-requires c κs = simp length-set (omega arith)
 
 add-i : tie.Need-overflow-add-i invariant_loop decreases_loop
-add-i c = search needs
+add-i c = search rules
 
 add-to : tie.Need-overflow-add-to invariant_loop decreases_loop
-add-to c = search needs
+add-to c = search rules
 
 loop-less : tie.Need-loop-smaller invariant_loop decreases_loop
-loop-less c = search needs
+loop-less c = search rules
 
 loop-again : tie.Need-loop-preserved invariant_loop decreases_loop
 loop-again c = (
@@ -48,12 +48,12 @@ loop-again c = (
       let a = c.before.before.before.before.before.before.before.before.args in
       let pre = c.before.before.before.before.before.before.before.before.requires in
       let more = c.before.before.before.before.loop-test.true in
-      fields_put a.out.now x.out _ a.line.list x.i x.to a.line.count _ more pre.0 (search needs) x.invariant.1 pre.1 refl x.invariant.3
+      fields_put a.out.now x.out _ a.line.list x.i x.to a.line.count _ more pre.0 (search rules) x.invariant.1 pre.1 refl x.invariant.3
       c.before.before.put-hex.ensures),
 )
 
 same_length : tie.Need-same-length invariant_loop decreases_loop
-same_length c = search needs
+same_length c = search rules
 
 returns : tie.Need-returns invariant_loop decreases_loop
 returns c = search fields_all

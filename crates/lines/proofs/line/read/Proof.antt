@@ -1,5 +1,5 @@
 -- `lines::line::read` meets its contract. Assumes nothing.
-use Rattle.types.proofs.Prelude.{refl, needs}
+use Rattle.types.proofs.Prelude.{refl, rules}
 use Rattle.lines.specs.stages.Digits.{digit_table}
 use Rattle.lines.proofs.line.read.Statement.{statement}
 use Rattle.lines.proofs.line.read.Tie as tie
@@ -9,7 +9,7 @@ unfolding digit_table
 read-by-table-requires c κs = refl
 
 returns : tie.Need-returns
-returns c = search needs
+returns c = search rules
 
 pub read_spec : {M : Type 1} → statement M
 read_spec = tie.close (tie.spec read-by-table-requires returns)

@@ -1,4 +1,4 @@
-use Rattle.types.proofs.Prelude.{◌≡◌, refl, ◌≤◌, ◌+◌, ◌-◌, arith, needs, length, drop}
+use Rattle.types.proofs.Prelude.{◌≡◌, refl, ◌≤◌, ◌+◌, ◌-◌, arith, rules, length, drop}
 use Rattle.lines.specs.Pieces.{lf_at}
 use Rattle.lines.proofs.LineEnds.{lf_on, lf_here, lf_none}
 use Rattle.lines.proofs.session.find_lf.Statement.{statement}
@@ -14,16 +14,16 @@ loop-holds : tie.Need-loop-init invariant_loop decreases_loop
 loop-holds c = (omega arith, refl)
 
 shared-slice-read-if1 : tie.Need-shared-slice-read-if1 invariant_loop decreases_loop
-shared-slice-read-if1 c = search needs
+shared-slice-read-if1 c = search rules
 
 returns : tie.Need-returns invariant_loop decreases_loop
 returns c = search lf_here
 
 add-i : tie.Need-overflow-add-i invariant_loop decreases_loop
-add-i c = search needs
+add-i c = search rules
 
 loop-less : tie.Need-loop-smaller invariant_loop decreases_loop
-loop-less c = search needs
+loop-less c = search rules
 
 loop-again : tie.Need-loop-preserved invariant_loop decreases_loop
 loop-again c = (omega arith, search lf_on)

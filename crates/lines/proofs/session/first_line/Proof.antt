@@ -1,5 +1,5 @@
 -- `lines::session::first_line` meets its contract. Assumes nothing.
-use Rattle.types.proofs.Prelude.{refl, ap, ◌∙◌, arith, now, true, ◌-◌, ◌/◌, length, needs}
+use Rattle.types.proofs.Prelude.{refl, ap, ◌∙◌, arith, now, true, ◌-◌, ◌/◌, length, rules}
 use Rattle.machine.specs.Words.{machine_from}
 use Rattle.types.specs.Raw.{raw_bytes}
 use Rattle.lines.specs.{AnswerLine.answer_bytes, stages.Runs.held_on, declared.session.Progress.Progress}
@@ -8,10 +8,10 @@ use Rattle.lines.proofs.session.first_line.Statement.{statement}
 use Rattle.lines.proofs.session.first_line.Tie as tie
 
 sub-if1 : tie.Need-overflow-sub-if1
-sub-if1 c = search needs
+sub-if1 c = search rules
 
 stopped-requires : tie.Need-stopped-requires
-stopped-requires c κs = search needs
+stopped-requires c κs = search rules
 
 returns : tie.Need-returns
 returns c =
@@ -26,10 +26,10 @@ returns c =
     }
 
 find-lf-requires : tie.Need-find-lf-requires
-find-lf-requires c κs = search needs
+find-lf-requires c κs = search rules
 
 stopped-requires-2 : tie.Need-stopped-requires-2
-stopped-requires-2 c κs = search needs
+stopped-requires-2 c κs = search rules
 
 returns-2 : tie.Need-returns-2
 returns-2 c =
@@ -45,28 +45,28 @@ returns-2 c =
     }
 
 sub-read-by-table : tie.Need-overflow-sub-read-by-table
-sub-read-by-table c = search needs
+sub-read-by-table c = search rules
 
 part-read-by-table-start : tie.Need-slice-bounds-read-by-table-start
-part-read-by-table-start c = search needs
+part-read-by-table-start c = search rules
 
 part-read-by-table-end : tie.Need-slice-bounds-read-by-table-end
-part-read-by-table-end c = search needs
+part-read-by-table-end c = search rules
 
 read-by-table-requires : tie.Need-read-by-table-requires
-read-by-table-requires c κs = search needs
+read-by-table-requires c κs = search rules
 
 operation-of-requires : tie.Need-operation-of-requires
-operation-of-requires c κs = search needs
+operation-of-requires c κs = search rules
 
 turn-requires : tie.Need-turn-requires
 turn-requires c κs = c.before.before.before.before.before.before.before.before.before.before.before.before.before.before.before.before.requires.3
 
 fuel-of-requires : tie.Need-fuel-of-requires
-fuel-of-requires c κs = search needs
+fuel-of-requires c κs = search rules
 
 put-answer-requires : tie.Need-put-answer-requires
-put-answer-requires c κs = search needs
+put-answer-requires c κs = search rules
 
 add-more-lines : tie.Need-overflow-add-more-lines
 add-more-lines c = omega (arith, c.before.before.before.before.before.before.before.before.before.before.before.before.before.before.before.before.before.before.before.before.before.before.before.before.before.before.before.if2.false, c.before.before.before.before.before.before.before.before.before.before.before.before.before.before.before.before.before.before.before.before.before.before.before.before.before.before.before.before.before.before.before.before.before.before.before.before.well-formed.1.1.1.1.1.0.0)

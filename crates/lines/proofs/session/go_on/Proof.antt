@@ -1,5 +1,5 @@
 -- `lines::session::go_on` meets its contract. Assumes nothing.
-use Rattle.types.proofs.Prelude.{arith, needs}
+use Rattle.types.proofs.Prelude.{arith, rules}
 use Rattle.lines.proofs.Runs.{go_closed}
 use Rattle.lines.proofs.session.go_on.Statement.{statement}
 use Rattle.lines.proofs.session.go_on.Tie as tie
@@ -11,19 +11,19 @@ close-requires : tie.Need-close-requires
 close-requires c κs = c.before.before.before.before.before.before.before.before.before.before.whole-lines.ensures.used
 
 same_length : tie.Need-same-length
-same_length c = search needs
+same_length c = search rules
 
 same-length-2 : tie.Need-same-length-2
-same-length-2 c = search needs
+same-length-2 c = search rules
 
 same-length-3 : tie.Need-same-length-3
-same-length-3 c = search needs
+same-length-3 c = search rules
 
 same-length-4 : tie.Need-same-length-4
-same-length-4 c = search needs
+same-length-4 c = search rules
 
 same-length-5 : tie.Need-same-length-5
-same-length-5 c = search needs
+same-length-5 c = search rules
 
 returns : tie.Need-returns
 returns c = go_closed _ _ _ _ _ c.before.before.before.before.before.before.before.before.before.before.before.whole-lines.ensures c.close.ensures

@@ -1,5 +1,5 @@
 -- `lines::session::more_lines` meets its contract. Assumes nothing.
-use Rattle.types.proofs.Prelude.{◌≡◌, refl, ap, ◌∙◌, arith, now, false, ◌≤◌, ◌+◌, ◌-◌, ◌*◌, ◌/◌, length, drop, needs}
+use Rattle.types.proofs.Prelude.{◌≡◌, refl, ap, ◌∙◌, arith, now, false, ◌≤◌, ◌+◌, ◌-◌, ◌*◌, ◌/◌, length, drop, rules}
 use Rattle.machine.specs.{Words.machine_from, Machine.buffers, Words.row_length}
 use mathlib.Core.Logic.{⊎_elim}
 use Rattle.types.specs.Raw.{raw_bytes}
@@ -34,19 +34,19 @@ stopped-requires : tie.Need-stopped-requires invariant_loop decreases_loop
 stopped-requires c κs = tt
 
 same_length : tie.Need-same-length invariant_loop decreases_loop
-same_length c = search needs
+same_length c = search rules
 
 same-length-2 : tie.Need-same-length-2 invariant_loop decreases_loop
-same-length-2 c = search needs
+same-length-2 c = search rules
 
 same-length-3 : tie.Need-same-length-3 invariant_loop decreases_loop
-same-length-3 c = search needs
+same-length-3 c = search rules
 
 same-length-4 : tie.Need-same-length-4 invariant_loop decreases_loop
-same-length-4 c = search needs
+same-length-4 c = search rules
 
 same-length-5 : tie.Need-same-length-5 invariant_loop decreases_loop
-same-length-5 c = search needs
+same-length-5 c = search rules
 
 returns : tie.Need-returns invariant_loop decreases_loop
 returns c =
@@ -68,25 +68,25 @@ part-read-by-table-end : tie.Need-slice-bounds-read-by-table-end invariant_loop 
 part-read-by-table-end c = omega arith
 
 read-by-table-requires : tie.Need-read-by-table-requires invariant_loop decreases_loop
-read-by-table-requires c κs = search needs
+read-by-table-requires c κs = search rules
 
 operation-of-requires : tie.Need-operation-of-requires invariant_loop decreases_loop
-operation-of-requires c κs = search needs
+operation-of-requires c κs = search rules
 
 enum-known-said : tie.Need-enum-known-said invariant_loop decreases_loop
-enum-known-said c = search needs
+enum-known-said c = search rules
 
 proceed-requires : tie.Need-proceed-requires invariant_loop decreases_loop
-proceed-requires c κs = search needs
+proceed-requires c κs = search rules
 
 fuel-of-requires : tie.Need-fuel-of-requires invariant_loop decreases_loop
-fuel-of-requires c κs = search needs
+fuel-of-requires c κs = search rules
 
 put-answer-requires : tie.Need-put-answer-requires invariant_loop decreases_loop
 put-answer-requires c κs = omega (arith, c.before.before.before.before.before.before.before.before.before.before.before.before.before.before.before.before.before.before.before.before.before.before.before.before.before.loop.invariant.1, c.before.before.before.before.before.before.before.before.before.before.before.before.before.before.before.before.before.before.before.before.before.before.before.before.loop-test.true)
 
 fuel-of-requires-2 : tie.Need-fuel-of-requires-2 invariant_loop decreases_loop
-fuel-of-requires-2 c κs = search needs
+fuel-of-requires-2 c κs = search rules
 
 refused-requires : tie.Need-refused-requires invariant_loop decreases_loop
 refused-requires c κs = tt
@@ -155,19 +155,19 @@ stopped-requires-2 : tie.Need-stopped-requires-2 invariant_loop decreases_loop
 stopped-requires-2 c κs = tt
 
 same-length-6 : tie.Need-same-length-6 invariant_loop decreases_loop
-same-length-6 c = search needs
+same-length-6 c = search rules
 
 same-length-7 : tie.Need-same-length-7 invariant_loop decreases_loop
-same-length-7 c = search needs
+same-length-7 c = search rules
 
 same-length-8 : tie.Need-same-length-8 invariant_loop decreases_loop
-same-length-8 c = search needs
+same-length-8 c = search rules
 
 same-length-9 : tie.Need-same-length-9 invariant_loop decreases_loop
-same-length-9 c = search needs
+same-length-9 c = search rules
 
 same-length-10 : tie.Need-same-length-10 invariant_loop decreases_loop
-same-length-10 c = search needs
+same-length-10 c = search rules
 
 returns-2 : tie.Need-returns-2 invariant_loop decreases_loop
 returns-2 c =

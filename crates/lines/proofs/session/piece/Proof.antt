@@ -1,5 +1,5 @@
 -- `lines::session::piece` meets its contract. Assumes nothing.
-use Rattle.types.proofs.Prelude.{refl, sym, ◌∙◌, now, not-true, not-false, both_1, both_2, needs}
+use Rattle.types.proofs.Prelude.{refl, sym, ◌∙◌, now, not-true, not-false, both_1, both_2, rules}
 use Rattle.machine.specs.Machine.{buffers}
 use Rattle.lines.specs.stages.Digits.{digit_table}
 use Rattle.lines.proofs.{Runs.piece_stuck, Runs.piece_goes, Carried.form_ready}
@@ -7,10 +7,10 @@ use Rattle.lines.proofs.session.piece.Statement.{statement}
 use Rattle.lines.proofs.session.piece.Tie as tie
 
 is-ready-requires : tie.Need-is-ready-requires
-is-ready-requires c κs = search needs
+is-ready-requires c κs = search rules
 
 same_length : tie.Need-same-length
-same_length c = search needs
+same_length c = search rules
 
 returns : tie.Need-returns
 returns c =
@@ -25,19 +25,19 @@ lines-requires c κs =
     (refl, form_ready (now a.words) (buffers (now a.bytes) (now a.cells) (now a.items)) (both_1 _ _ t) (both_2 _ _ t))
 
 same-length-2 : tie.Need-same-length-2
-same-length-2 c = search needs
+same-length-2 c = search rules
 
 same-length-3 : tie.Need-same-length-3
-same-length-3 c = search needs
+same-length-3 c = search rules
 
 same-length-4 : tie.Need-same-length-4
-same-length-4 c = search needs
+same-length-4 c = search rules
 
 same-length-5 : tie.Need-same-length-5
-same-length-5 c = search needs
+same-length-5 c = search rules
 
 same-length-6 : tie.Need-same-length-6
-same-length-6 c = search needs
+same-length-6 c = search rules
 
 returns-2 : tie.Need-returns-2
 returns-2 c =

@@ -1,5 +1,5 @@
 -- `lines::session::skip_on` meets its contract. Assumes nothing.
-use Rattle.types.proofs.Prelude.{refl, ap, ◌∙◌, arith, now, true, length, List, ℕ, needs}
+use Rattle.types.proofs.Prelude.{refl, ap, ◌∙◌, arith, now, true, length, List, ℕ, rules}
 use Rattle.machine.specs.{Words.machine_from, Machine.buffers}
 use Rattle.types.specs.{Raw.raw_bytes, Span.over, declared.answer.Answer.Answer}
 use Rattle.lines.specs.{stages.Runs.held_on, AnswerLine.answer_line}
@@ -15,7 +15,7 @@ returns c =
     ∙ skip_short (now a.words) raw_bytes (held_on (machine_from (now a.words)) a.session.first (now a.bytes) (now a.cells) (now a.items)) (now a.input) (now a.out) c.if1.true
 
 find-lf-requires : tie.Need-find-lf-requires
-find-lf-requires c κs = search needs
+find-lf-requires c κs = search rules
 
 returns-2 : tie.Need-returns-2
 returns-2 c =
@@ -25,16 +25,16 @@ returns-2 c =
     ∙ skip_none (now a.words) raw_bytes (held_on (machine_from (now a.words)) a.session.first (now a.bytes) (now a.cells) (now a.items)) _ (now a.input) (now a.out) c.before.before.if1.false c.before.find-lf.ensures c.if2.true
 
 refused-requires : tie.Need-refused-requires
-refused-requires c κs = search needs
+refused-requires c κs = search rules
 
 fuel-of-requires : tie.Need-fuel-of-requires
-fuel-of-requires c κs = search needs
+fuel-of-requires c κs = search rules
 
 put-answer-requires : tie.Need-put-answer-requires
-put-answer-requires c κs = search needs
+put-answer-requires c κs = search rules
 
 add-whole-lines : tie.Need-overflow-add-whole-lines
-add-whole-lines c = search needs
+add-whole-lines c = search rules
 
 whole-lines-requires : tie.Need-whole-lines-requires
 whole-lines-requires c κs = (c.before.before.before.before.before.before.before.before.before.before.before.before.before.before.before.before.before.before.before.before.before.requires.0, omega (arith, c.before.before.before.before.before.before.before.before.before.before.before.before.if2.false), omega (arith, c.before.before.before.before.before.before.before.before.before.before.before.before.before.before.if1.false, c.before.before.before.before.before.before.out.given), c.before.before.before.before.before.before.before.before.before.before.before.before.before.before.before.before.before.before.before.before.before.requires.1)
@@ -43,19 +43,19 @@ close-requires : tie.Need-close-requires
 close-requires c κs = c.before.before.before.before.before.before.before.before.before.before.whole-lines.ensures.used
 
 same_length : tie.Need-same-length
-same_length c = search needs
+same_length c = search rules
 
 same-length-2 : tie.Need-same-length-2
-same-length-2 c = search needs
+same-length-2 c = search rules
 
 same-length-3 : tie.Need-same-length-3
-same-length-3 c = search needs
+same-length-3 c = search rules
 
 same-length-4 : tie.Need-same-length-4
-same-length-4 c = search needs
+same-length-4 c = search rules
 
 same-length-5 : tie.Need-same-length-5
-same-length-5 c = search needs
+same-length-5 c = search rules
 
 returns-3 : tie.Need-returns-3
 returns-3 c =

@@ -1,5 +1,5 @@
 -- `lines::session::turn` meets its contract. Assumes nothing.
-use Rattle.types.proofs.Prelude.{refl, now, arith, true, needs}
+use Rattle.types.proofs.Prelude.{refl, now, arith, true, rules}
 use Rattle.machine.specs.{Words.machine_from, Machine.buffers}
 use Rattle.lines.proofs.Runs.{turn_does, turn_makes, turn_none}
 use Rattle.lines.proofs.Carried.{proceed_ready, proceed_behind, proceed_step, fresh_ready, fresh_behind, fresh_says}
@@ -7,34 +7,34 @@ use Rattle.lines.proofs.session.turn.Statement.{statement}
 use Rattle.lines.proofs.session.turn.Tie as tie
 
 enum-known-said : tie.Need-enum-known-said
-enum-known-said c = search needs
+enum-known-said c = search rules
 
 proceed-requires : tie.Need-proceed-requires
-proceed-requires c κs = search needs
+proceed-requires c κs = search rules
 
 enum-known-said-2 : tie.Need-enum-known-said-2
-enum-known-said-2 c = search needs
+enum-known-said-2 c = search rules
 
 make-requires : tie.Need-make-requires
-make-requires c κs = search needs
+make-requires c κs = search rules
 
 enum_told : tie.Need-enum-told
-enum_told c = search needs
+enum_told c = search rules
 
 refused-requires : tie.Need-refused-requires
-refused-requires c κs = search needs
+refused-requires c κs = search rules
 
 same_length : tie.Need-same-length
-same_length c = search needs
+same_length c = search rules
 
 same-length-2 : tie.Need-same-length-2
-same-length-2 c = search needs
+same-length-2 c = search rules
 
 same-length-3 : tie.Need-same-length-3
-same-length-3 c = search needs
+same-length-3 c = search rules
 
 same-length-4 : tie.Need-same-length-4
-same-length-4 c = search needs
+same-length-4 c = search rules
 
 returns : tie.Need-returns
 returns c =
@@ -48,7 +48,7 @@ returns c =
     }
 
 same-length-5 : tie.Need-same-length-5
-same-length-5 c = search needs
+same-length-5 c = search rules
 
 returns-2 : tie.Need-returns-2
 returns-2 c =

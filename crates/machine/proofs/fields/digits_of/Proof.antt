@@ -1,5 +1,5 @@
 -- `machine::fields::digits_of` meets its contract. Assumes nothing.
-use Rattle.types.proofs.Prelude.{◌≡◌, refl, ◌∙◌, ◌++◌, length, drop, length-set, ◌-◌, ◌%◌, ◌≤◌, arith, needs}
+use Rattle.types.proofs.Prelude.{◌≡◌, refl, ◌∙◌, ◌++◌, length, drop, length-set, ◌-◌, ◌%◌, ◌≤◌, arith, rules}
 use Rattle.machine.proofs.Digits.{digit_more, digits_end, nothing_after}
 use Rattle.machine.specs.Operation.{digits_of}
 use Rattle.machine.proofs.fields.digits_of.Statement.{statement}
@@ -16,16 +16,16 @@ loop-holds c =
     (omega arith, refl, nothing_after (digits_of 16 c.args.field))
 
 sub-i : tie.Need-overflow-sub-i invariant_loop decreases_loop
-sub-i c = search needs
+sub-i c = search rules
 
 cast-row : tie.Need-overflow-cast-row invariant_loop decreases_loop
-cast-row c = search needs
+cast-row c = search rules
 
 array-write-row : tie.Need-array-write-row invariant_loop decreases_loop
-array-write-row c = search needs
+array-write-row c = search rules
 
 loop-less : tie.Need-loop-smaller invariant_loop decreases_loop
-loop-less c = search needs
+loop-less c = search rules
 
 loop-again : tie.Need-loop-preserved invariant_loop decreases_loop
 loop-again c =

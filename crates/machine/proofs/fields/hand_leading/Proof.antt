@@ -1,33 +1,33 @@
 -- `machine::fields::hand_leading` meets its contract. Assumes nothing.
-use Rattle.types.proofs.Prelude.{ℕ, ◌-◌, length, take, arith, ◌≡◌, sym, ap, ◌∙◌, needs}
+use Rattle.types.proofs.Prelude.{ℕ, ◌-◌, length, take, arith, ◌≡◌, sym, ap, ◌∙◌, rules}
 use Rattle.machine.proofs.Digits.{take_all}
 use Rattle.types.specs.Limiter.{hand_over}
 use Rattle.machine.proofs.fields.hand_leading.Statement.{statement}
 use Rattle.machine.proofs.fields.hand_leading.Tie as tie
 
 slice-aggregate-hand-over : tie.Need-slice-aggregate-hand-over
-slice-aggregate-hand-over c = search needs
+slice-aggregate-hand-over c = search rules
 
 hand-over-requires : tie.Need-hand-over-requires
-hand-over-requires c κs = search needs
+hand-over-requires c κs = search rules
 
 returns : tie.Need-returns
 returns c =
     let a = c.before.before.before.args in
-    let long : length a.t2 ≡ 16 = search needs in
+    let long : length a.t2 ≡ 16 = search rules in
     c.hand-over.ensures ∙ ap (hand_over a.limiter) (sym (take_all a.t2 a.count (omega (arith, c.before.before.if1.true))))
 
 sub-hand-over : tie.Need-overflow-sub-hand-over
-sub-hand-over c = search needs
+sub-hand-over c = search rules
 
 part-hand-over-start : tie.Need-slice-bounds-hand-over-start
-part-hand-over-start c = search needs
+part-hand-over-start c = search rules
 
 part-hand-over-end : tie.Need-slice-bounds-hand-over-end
-part-hand-over-end c = search needs
+part-hand-over-end c = search rules
 
 hand-over-requires-2 : tie.Need-hand-over-requires-2
-hand-over-requires-2 c κs = search needs
+hand-over-requires-2 c κs = search rules
 
 returns-2 : tie.Need-returns-2
 returns-2 c =

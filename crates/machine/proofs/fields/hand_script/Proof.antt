@@ -1,14 +1,14 @@
 -- `machine::fields::hand_script` meets its contract. Assumes nothing.
-use Rattle.types.proofs.Prelude.{ap, ◌∙◌, take, ℕ, List, needs}
+use Rattle.types.proofs.Prelude.{ap, ◌∙◌, take, ℕ, List, rules}
 use Rattle.types.specs.Limiter.{hand_over}
 use Rattle.machine.proofs.fields.hand_script.Statement.{statement}
 use Rattle.machine.proofs.fields.hand_script.Tie as tie
 
 digits-of-requires : tie.Need-digits-of-requires
-digits-of-requires c κs = search needs
+digits-of-requires c κs = search rules
 
 hand-leading-requires : tie.Need-hand-leading-requires
-hand-leading-requires c κs = search needs
+hand-leading-requires c κs = search rules
 
 returns : tie.Need-returns
 returns c =

@@ -1,5 +1,5 @@
 -- `machine::fields::leading` meets its contract. Assumes nothing.
-use Rattle.types.proofs.Prelude.{◌+◌, now, ◌≡◌, refl, ap, ◌∙◌, length, drop, ℕ, ◌-◌, ◌≤◌, arith, needs}
+use Rattle.types.proofs.Prelude.{◌+◌, now, ◌≡◌, refl, ap, ◌∙◌, length, drop, ℕ, ◌-◌, ◌≤◌, arith, rules}
 use Rattle.machine.proofs.Digits.{leading_bad, leading_more, leading_end}
 use Rattle.machine.specs.Operation.{leading}
 use Rattle.machine.proofs.fields.leading.Statement.{statement}
@@ -18,7 +18,7 @@ most-requires : tie.Need-most-requires invariant_loop decreases_loop
 most-requires c κs = tt
 
 shared-slice-read-if1 : tie.Need-shared-slice-read-if1 invariant_loop decreases_loop
-shared-slice-read-if1 c = search needs
+shared-slice-read-if1 c = search rules
 
 returns : tie.Need-returns invariant_loop decreases_loop
 returns c =
@@ -29,10 +29,10 @@ one-less-requires : tie.Need-one-less-requires invariant_loop decreases_loop
 one-less-requires c κs = tt
 
 add-i : tie.Need-overflow-add-i invariant_loop decreases_loop
-add-i c = search needs
+add-i c = search rules
 
 loop-less : tie.Need-loop-smaller invariant_loop decreases_loop
-loop-less c = search needs
+loop-less c = search rules
 
 loop-again : tie.Need-loop-preserved invariant_loop decreases_loop
 loop-again c =

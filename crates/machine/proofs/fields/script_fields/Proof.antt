@@ -1,5 +1,5 @@
 -- `machine::fields::script_fields` meets its contract. Assumes nothing.
-use Rattle.types.proofs.Prelude.{sym, ap, ◌∙◌, both_then, cases, le-leb, needs}
+use Rattle.types.proofs.Prelude.{sym, ap, ◌∙◌, both_then, cases, le-leb, rules}
 use Rattle.machine.specs.Operation.{script_fields, leading}
 use Rattle.machine.proofs.fields.script_fields.Statement.{statement}
 use Rattle.machine.proofs.fields.script_fields.Tie as tie
@@ -9,13 +9,13 @@ unfolding script_fields
 returns c = search cases
 
 digits-of-requires : tie.Need-digits-of-requires
-digits-of-requires c κs = search needs
+digits-of-requires c κs = search rules
 
 slice-aggregate-leading : tie.Need-slice-aggregate-leading
-slice-aggregate-leading c = search needs
+slice-aggregate-leading c = search rules
 
 leading-requires : tie.Need-leading-requires
-leading-requires c κs = search needs
+leading-requires c κs = search rules
 
 returns-2 : tie.Need-returns-2
 unfolding script_fields

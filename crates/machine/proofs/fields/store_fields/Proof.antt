@@ -1,11 +1,11 @@
 -- `machine::fields::store_fields` meets its contract. Assumes nothing.
-use Rattle.types.proofs.Prelude.{cases, needs}
+use Rattle.types.proofs.Prelude.{cases, rules}
 use Rattle.machine.specs.Operation.{store_fields}
 use Rattle.machine.proofs.fields.store_fields.Statement.{statement}
 use Rattle.machine.proofs.fields.store_fields.Tie as tie
 
 narrow-store-requires : tie.Need-narrow-store-requires
-narrow-store-requires c κs = search needs
+narrow-store-requires c κs = search rules
 
 returns : tie.Need-returns
 unfolding store_fields

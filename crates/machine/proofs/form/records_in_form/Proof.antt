@@ -1,5 +1,5 @@
 -- `machine::form::records_in_form` meets its contract. Assumes nothing.
-use Rattle.types.proofs.Prelude.{◌+◌, ◌*◌, ◌≡◌, refl, sym, ◌∙◌, arith, needs}
+use Rattle.types.proofs.Prelude.{◌+◌, ◌*◌, ◌≡◌, refl, sym, ◌∙◌, arith, rules}
 use Rattle.machine.specs.Words.{record_length, all_at, record_in_form}
 use Rattle.types.specs.Pick.{both}
 use Rattle.machine.proofs.Places.{all_next, all_none}
@@ -18,16 +18,16 @@ unfolding both
 loop-holds c = (omega arith, refl)
 
 record-in-form-requires : tie.Need-record-in-form-requires invariant_loop decreases_loop
-record-in-form-requires c κs = search needs
+record-in-form-requires c κs = search rules
 
 add_at : tie.Need-overflow-add-at invariant_loop decreases_loop
-add_at c = search needs
+add_at c = search rules
 
 sub-left : tie.Need-overflow-sub-left invariant_loop decreases_loop
-sub-left c = search needs
+sub-left c = search rules
 
 loop-less : tie.Need-loop-smaller invariant_loop decreases_loop
-loop-less c = search needs
+loop-less c = search rules
 
 loop-again : tie.Need-loop-preserved invariant_loop decreases_loop
 unfolding both

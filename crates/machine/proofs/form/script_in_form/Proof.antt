@@ -1,5 +1,5 @@
 -- `machine::form::script_in_form` meets its contract. Assumes nothing.
-use Rattle.types.proofs.Prelude.{◌≡◌, refl, sym, ◌∙◌, now, arith, ◌+◌, ◌≤◌, needs}
+use Rattle.types.proofs.Prelude.{◌≡◌, refl, sym, ◌∙◌, now, arith, ◌+◌, ◌≤◌, rules}
 use Rattle.machine.specs.Words.{all_at, answer_at, script_at, row_length}
 use Rattle.types.specs.Pick.{both}
 use Rattle.machine.proofs.Places.{all_next, all_none}
@@ -18,19 +18,19 @@ unfolding both
 loop-holds c = (omega arith, refl)
 
 mul-here : tie.Need-overflow-mul-here invariant_loop decreases_loop
-mul-here c = search needs
+mul-here c = search rules
 
 shared-slice-read-here : tie.Need-shared-slice-read-here invariant_loop decreases_loop
-shared-slice-read-here c = search needs
+shared-slice-read-here c = search rules
 
 add_at : tie.Need-overflow-add-at invariant_loop decreases_loop
-add_at c = search needs
+add_at c = search rules
 
 sub-left : tie.Need-overflow-sub-left invariant_loop decreases_loop
-sub-left c = search needs
+sub-left c = search rules
 
 loop-less : tie.Need-loop-smaller invariant_loop decreases_loop
-loop-less c = search needs
+loop-less c = search rules
 
 loop-again : tie.Need-loop-preserved invariant_loop decreases_loop
 unfolding both

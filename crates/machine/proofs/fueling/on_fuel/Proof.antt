@@ -1,5 +1,5 @@
 -- `machine::fueling::on_fuel` meets its contract. Assumes nothing.
-use Rattle.types.proofs.Prelude.{ap, ◌∙◌, now, needs}
+use Rattle.types.proofs.Prelude.{ap, ◌∙◌, now, rules}
 use Rattle.types.specs.{declared.fuel.Fuel.Fuel, declared.limiter.Limiter.Limiter}
 use Rattle.machine.specs.{Words.machine_from, Fueling.perform_fuel, Fueling.fueled_out, Fueling.on_fuel}
 use Rattle.machine.proofs.Laws.{along}
@@ -7,16 +7,16 @@ use Rattle.machine.proofs.fueling.on_fuel.Statement.{statement}
 use Rattle.machine.proofs.fueling.on_fuel.Tie as tie
 
 fuel-from-requires : tie.Need-fuel-from-requires
-fuel-from-requires c κs = search needs
+fuel-from-requires c κs = search rules
 
 limiter-from-requires : tie.Need-limiter-from-requires
-limiter-from-requires c κs = search needs
+limiter-from-requires c κs = search rules
 
 perform-requires : tie.Need-perform-requires
-perform-requires c κs = search needs
+perform-requires c κs = search rules
 
 fueled-out-requires : tie.Need-fueled-out-requires
-fueled-out-requires c κs = search needs
+fueled-out-requires c κs = search rules
 
 returns : tie.Need-returns
 unfolding on_fuel

@@ -1,14 +1,14 @@
 -- `machine::memories::link` meets its contract. Assumes nothing.
-use Rattle.types.proofs.Prelude.{ap, ◌∙◌, needs}
+use Rattle.types.proofs.Prelude.{ap, ◌∙◌, rules}
 use Rattle.machine.specs.Memories.{linked, link_to}
 use Rattle.machine.proofs.memories.link.Statement.{statement}
 use Rattle.machine.proofs.memories.link.Tie as tie
 
 build-requires : tie.Need-build-requires
-build-requires c κs = search needs
+build-requires c κs = search rules
 
 linked-requires : tie.Need-linked-requires
-linked-requires c κs = search needs
+linked-requires c κs = search rules
 
 returns : tie.Need-returns
 unfolding link_to

@@ -1,21 +1,21 @@
 -- `machine::memories::linked` meets its contract. Assumes nothing.
-use Rattle.types.proofs.Prelude.{refl, ap, ◌∙◌, Bool, needs}
+use Rattle.types.proofs.Prelude.{refl, ap, ◌∙◌, Bool, rules}
 use Rattle.types.specs.{Answer.accept, Pick.pick}
 use Rattle.machine.specs.Memories.{linked}
 use Rattle.machine.proofs.memories.linked.Statement.{statement}
 use Rattle.machine.proofs.memories.linked.Tie as tie
 
 enum-known-wanted : tie.Need-enum-known-wanted
-enum-known-wanted c = search needs
+enum-known-wanted c = search rules
 
 enum-known-wanted-2 : tie.Need-enum-known-wanted-2
-enum-known-wanted-2 c = search needs
+enum-known-wanted-2 c = search rules
 
 is-subtype-of-requires : tie.Need-is-subtype-of-requires
-is-subtype-of-requires c κs = search needs
+is-subtype-of-requires c κs = search rules
 
 link-number-requires : tie.Need-link-number-requires
-link-number-requires c κs = search needs
+link-number-requires c κs = search rules
 
 returns : tie.Need-returns
 unfolding linked

@@ -1,5 +1,5 @@
 -- `machine::memories::make_memory` meets its contract. Assumes nothing.
-use Rattle.types.proofs.Prelude.{ap, ◌∙◌, now, needs}
+use Rattle.types.proofs.Prelude.{ap, ◌∙◌, now, rules}
 use Rattle.machine.specs.{Words.machine_from, declared.outcome.Outcome.Outcome, Memories.memory_made}
 use Rattle.types.specs.Done.{done}
 use Rattle.memory.specs.New.{new_memory}
@@ -7,16 +7,16 @@ use Rattle.machine.proofs.memories.make_memory.Statement.{statement}
 use Rattle.machine.proofs.memories.make_memory.Tie as tie
 
 limiter-from-requires : tie.Need-limiter-from-requires
-limiter-from-requires c κs = search needs
+limiter-from-requires c κs = search rules
 
 new-memory-requires : tie.Need-new-memory-requires
-new-memory-requires c κs = search needs
+new-memory-requires c κs = search rules
 
 made-memory-requires : tie.Need-made-memory-requires
-made-memory-requires c κs = search needs
+made-memory-requires c κs = search rules
 
 same_length : tie.Need-same-length
-same_length c = search needs
+same_length c = search rules
 
 returns : tie.Need-returns
 returns c =

@@ -1,5 +1,5 @@
 -- `machine::memories::on_memory` meets its contract. Assumes nothing.
-use Rattle.types.proofs.Prelude.{◌≡◌, ap, ◌∙◌, now, arith, needs}
+use Rattle.types.proofs.Prelude.{◌≡◌, ap, ◌∙◌, now, arith, rules}
 use Rattle.machine.specs.{Words.machine_from, declared.records.Counts.Counts, declared.outcome.Outcome.Outcome}
 use Rattle.machine.specs.Memories.{perform_memory, memory_done, on_memory}
 use Rattle.types.specs.Done.{done}
@@ -9,10 +9,10 @@ use Rattle.machine.proofs.memories.on_memory.Statement.{statement}
 use Rattle.machine.proofs.memories.on_memory.Tie as tie
 
 counts-from-requires : tie.Need-counts-from-requires
-counts-from-requires c κs = search needs
+counts-from-requires c κs = search rules
 
 refuses-requires : tie.Need-refuses-requires
-refuses-requires c κs = search needs
+refuses-requires c κs = search rules
 
 returns : tie.Need-returns
 unfolding on_memory
@@ -25,13 +25,13 @@ returns c =
 memory-at-requires : tie.Need-memory-at-requires
 memory-at-requires c κs =
     let e = ap (λ (k : Counts). k.memories) c.before.before.counts-from.ensures in
-    search needs
+    search rules
 
 one-memory-requires : tie.Need-one-memory-requires
-one-memory-requires c κs = search needs
+one-memory-requires c κs = search rules
 
 same_length : tie.Need-same-length
-same_length c = search needs
+same_length c = search rules
 
 returns-2 : tie.Need-returns-2
 unfolding on_memory

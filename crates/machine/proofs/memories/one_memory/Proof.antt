@@ -1,5 +1,5 @@
 -- `machine::memories::one_memory` meets its contract. Assumes nothing.
-use Rattle.types.proofs.Prelude.{ap, ◌∙◌, now, needs}
+use Rattle.types.proofs.Prelude.{ap, ◌∙◌, now, rules}
 use Rattle.types.specs.{declared.fuel.Fuel.Fuel, declared.limiter.Limiter.Limiter, Done.done}
 use Rattle.machine.specs.{Words.machine_from, declared.outcome.Outcome.Outcome, Memories.perform_memory, Memories.memory_done}
 use Rattle.machine.proofs.Laws.{along}
@@ -7,19 +7,19 @@ use Rattle.machine.proofs.memories.one_memory.Statement.{statement}
 use Rattle.machine.proofs.memories.one_memory.Tie as tie
 
 fuel-from-requires : tie.Need-fuel-from-requires
-fuel-from-requires c κs = search needs
+fuel-from-requires c κs = search rules
 
 limiter-from-requires : tie.Need-limiter-from-requires
-limiter-from-requires c κs = search needs
+limiter-from-requires c κs = search rules
 
 perform-requires : tie.Need-perform-requires
-perform-requires c κs = search needs
+perform-requires c κs = search rules
 
 memory-out-requires : tie.Need-memory-out-requires
-memory-out-requires c κs = search needs
+memory-out-requires c κs = search rules
 
 same_length : tie.Need-same-length
-same_length c = search needs
+same_length c = search rules
 
 returns : tie.Need-returns
 returns c =

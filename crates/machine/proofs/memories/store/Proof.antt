@@ -1,5 +1,5 @@
 -- `machine::memories::store` meets its contract. Assumes nothing.
-use Rattle.types.proofs.Prelude.{ap, ◌∙◌, needs}
+use Rattle.types.proofs.Prelude.{ap, ◌∙◌, rules}
 use Rattle.types.specs.Done.{done}
 use Rattle.machine.specs.Memories.{memory_stored}
 use Rattle.memory.specs.declared.grow.GrownMemory.{GrownMemory}
@@ -7,13 +7,13 @@ use Rattle.machine.proofs.memories.store.Statement.{statement}
 use Rattle.machine.proofs.memories.store.Tie as tie
 
 store-requires : tie.Need-store-requires
-store-requires c κs = search needs
+store-requires c κs = search rules
 
 keep-requires : tie.Need-keep-requires
-keep-requires c κs = search needs
+keep-requires c κs = search rules
 
 same_length : tie.Need-same-length
-same_length c = search needs
+same_length c = search rules
 
 returns : tie.Need-returns
 returns c =

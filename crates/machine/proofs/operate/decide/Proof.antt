@@ -1,15 +1,15 @@
 -- `machine::operate::decide` meets its contract. Assumes nothing.
-use Rattle.types.proofs.Prelude.{sym, ap, ◌∙◌, now, not-true, not-false, pick_true, pick_false, needs}
+use Rattle.types.proofs.Prelude.{sym, ap, ◌∙◌, now, not-true, not-false, pick_true, pick_false, rules}
 use Rattle.machine.specs.{Words.machine_from, declared.outcome.Outcome.Outcome, Machine.buffers, Step.on_none, Step.decide}
 use Rattle.machine.proofs.Settling.{sound_inside}
 use Rattle.machine.proofs.operate.decide.Statement.{statement}
 use Rattle.machine.proofs.operate.decide.Tie as tie
 
 is-well-formed-requires : tie.Need-is-well-formed-requires
-is-well-formed-requires c κs = search needs
+is-well-formed-requires c κs = search rules
 
 refuses-requires : tie.Need-refuses-requires
-refuses-requires c κs = search needs
+refuses-requires c κs = search rules
 
 returns : tie.Need-returns
 unfolding decide
@@ -20,10 +20,10 @@ returns c =
     ap (λ (o : Outcome). on_none o b) c.refuses.ensures ∙ sym (pick_false _ _ _ (sym c.before.before.is-well-formed.ensures ∙ not-true _ c.before.if1.true))
 
 is-sound-requires : tie.Need-is-sound-requires
-is-sound-requires c κs = search needs
+is-sound-requires c κs = search rules
 
 refuses-requires-2 : tie.Need-refuses-requires-2
-refuses-requires-2 c κs = search needs
+refuses-requires-2 c κs = search rules
 
 returns-2 : tie.Need-returns-2
 unfolding decide
@@ -41,13 +41,13 @@ perform-requires c κs =
     (c.before.before.before.before.before.before.before.before.before.before.before.requires, sound_inside m (buffers (now a.bytes) (now a.cells) (now a.items)) (sym c.before.before.before.before.is-sound.ensures ∙ not-false _ c.before.before.before.if2.false))
 
 same_length : tie.Need-same-length
-same_length c = search needs
+same_length c = search rules
 
 same-length-2 : tie.Need-same-length-2
-same-length-2 c = search needs
+same-length-2 c = search rules
 
 same-length-3 : tie.Need-same-length-3
-same-length-3 c = search needs
+same-length-3 c = search rules
 
 returns-3 : tie.Need-returns-3
 unfolding decide

@@ -1,18 +1,18 @@
 -- `machine::operate::perform` meets its contract. Assumes nothing.
-use Rattle.types.proofs.Prelude.{ap, now, needs}
+use Rattle.types.proofs.Prelude.{ap, now, rules}
 use Rattle.types.specs.Done.{Done}
 use Rattle.machine.specs.{declared.outcome.Outcome.Outcome, Machine.buffers, Step.on_none, Step.on_bytes, Step.on_cells, Step.on_items, Step.perform}
 use Rattle.machine.proofs.operate.perform.Statement.{statement}
 use Rattle.machine.proofs.operate.perform.Tie as tie
 
 enum-known-op : tie.Need-enum-known-op
-enum-known-op c = search needs
+enum-known-op c = search rules
 
 on-fuel-requires : tie.Need-on-fuel-requires
-on-fuel-requires c κs = search needs
+on-fuel-requires c κs = search rules
 
 enum-known-op-2 : tie.Need-enum-known-op-2
-enum-known-op-2 c = search needs
+enum-known-op-2 c = search rules
 
 new-memory-requires : tie.Need-new-memory-requires
 new-memory-requires c κs =
@@ -20,13 +20,13 @@ new-memory-requires c κs =
     (pre.0, pre.1.memories, pre.1.byte)
 
 enum-known-op-3 : tie.Need-enum-known-op-3
-enum-known-op-3 c = search needs
+enum-known-op-3 c = search rules
 
 on-memory-requires : tie.Need-on-memory-requires
-on-memory-requires c κs = search needs
+on-memory-requires c κs = search rules
 
 enum-known-op-4 : tie.Need-enum-known-op-4
-enum-known-op-4 c = search needs
+enum-known-op-4 c = search rules
 
 new-table-requires : tie.Need-new-table-requires
 new-table-requires c κs =
@@ -34,31 +34,31 @@ new-table-requires c κs =
     (pre.0, pre.1.tables, pre.1.cell)
 
 enum-known-op-5 : tie.Need-enum-known-op-5
-enum-known-op-5 c = search needs
+enum-known-op-5 c = search rules
 
 on-table-requires : tie.Need-on-table-requires
-on-table-requires c κs = search needs
+on-table-requires c κs = search rules
 
 enum-known-op-6 : tie.Need-enum-known-op-6
-enum-known-op-6 c = search needs
+enum-known-op-6 c = search rules
 
 table-copy-requires : tie.Need-table-copy-requires
-table-copy-requires c κs = search needs
+table-copy-requires c κs = search rules
 
 enum-known-op-7 : tie.Need-enum-known-op-7
-enum-known-op-7 c = search needs
+enum-known-op-7 c = search rules
 
 table-init-requires : tie.Need-table-init-requires
-table-init-requires c κs = search needs
+table-init-requires c κs = search rules
 
 enum-known-op-8 : tie.Need-enum-known-op-8
-enum-known-op-8 c = search needs
+enum-known-op-8 c = search rules
 
 drop-segment-requires : tie.Need-drop-segment-requires
-drop-segment-requires c κs = search needs
+drop-segment-requires c κs = search rules
 
 enum-known-op-9 : tie.Need-enum-known-op-9
-enum-known-op-9 c = search needs
+enum-known-op-9 c = search rules
 
 new-segment-requires : tie.Need-new-segment-requires
 new-segment-requires c κs =
@@ -72,7 +72,7 @@ returns c =
     rw c.before.before.op.given.1 (ap (λ (d : Outcome). on_none d (buffers (now a.bytes) (now a.cells) (now a.items))) c.on-fuel.ensures)
 
 same_length : tie.Need-same-length
-same_length c = search needs
+same_length c = search rules
 
 returns-2 : tie.Need-returns-2
 unfolding perform
@@ -81,7 +81,7 @@ returns-2 c =
     rw c.before.before.before.before.before.op2.given.1 (ap (λ (d : Done Outcome). on_bytes d (buffers (now a.bytes) (now a.cells) (now a.items))) c.before.before.new-memory.ensures)
 
 same-length-2 : tie.Need-same-length-2
-same-length-2 c = search needs
+same-length-2 c = search rules
 
 returns-3 : tie.Need-returns-3
 unfolding perform
@@ -90,7 +90,7 @@ returns-3 c =
     rw c.before.before.before.before.before.op3.given.1 (ap (λ (d : Done Outcome). on_bytes d (buffers (now a.bytes) (now a.cells) (now a.items))) c.before.before.on-memory.ensures)
 
 same-length-3 : tie.Need-same-length-3
-same-length-3 c = search needs
+same-length-3 c = search rules
 
 returns-4 : tie.Need-returns-4
 unfolding perform
@@ -99,7 +99,7 @@ returns-4 c =
     rw c.before.before.before.before.before.op4.given.1 (ap (λ (d : Done Outcome). on_cells d (buffers (now a.bytes) (now a.cells) (now a.items))) c.before.before.new-table.ensures)
 
 same-length-4 : tie.Need-same-length-4
-same-length-4 c = search needs
+same-length-4 c = search rules
 
 returns-5 : tie.Need-returns-5
 unfolding perform
@@ -108,7 +108,7 @@ returns-5 c =
     rw c.before.before.before.before.before.op5.given.1 (ap (λ (d : Done Outcome). on_cells d (buffers (now a.bytes) (now a.cells) (now a.items))) c.before.before.on-table.ensures)
 
 same-length-5 : tie.Need-same-length-5
-same-length-5 c = search needs
+same-length-5 c = search rules
 
 returns-6 : tie.Need-returns-6
 unfolding perform
@@ -117,10 +117,10 @@ returns-6 c =
     rw c.before.before.before.before.before.op6.given.1 (ap (λ (d : Done Outcome). on_cells d (buffers (now a.bytes) (now a.cells) (now a.items))) c.before.before.table-copy.ensures)
 
 same-length-6 : tie.Need-same-length-6
-same-length-6 c = search needs
+same-length-6 c = search rules
 
 same-length-7 : tie.Need-same-length-7
-same-length-7 c = search needs
+same-length-7 c = search rules
 
 returns-7 : tie.Need-returns-7
 unfolding perform
@@ -135,7 +135,7 @@ returns-8 c =
     rw c.before.before.op8.given.1 (ap (λ (d : Outcome). on_none d (buffers (now a.bytes) (now a.cells) (now a.items))) c.drop-segment.ensures)
 
 same-length-8 : tie.Need-same-length-8
-same-length-8 c = search needs
+same-length-8 c = search rules
 
 returns-9 : tie.Need-returns-9
 unfolding perform

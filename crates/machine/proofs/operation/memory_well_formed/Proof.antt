@@ -1,26 +1,26 @@
 -- `machine::operation::memory_well_formed` meets its contract. Assumes nothing.
-use Rattle.types.proofs.Prelude.{refl, needs}
+use Rattle.types.proofs.Prelude.{refl, rules}
 use Rattle.machine.specs.Operation.{memory_well_formed}
 use Rattle.machine.proofs.operation.memory_well_formed.Statement.{statement}
 use Rattle.machine.proofs.operation.memory_well_formed.Tie as tie
 
 enum_told : tie.Need-enum-told
-enum_told c = search needs
+enum_told c = search rules
 
 enum-told-2 : tie.Need-enum-told-2
-enum-told-2 c = search needs
+enum-told-2 c = search rules
 
 enum-told-3 : tie.Need-enum-told-3
-enum-told-3 c = search needs
+enum-told-3 c = search rules
 
 enum-known-op : tie.Need-enum-known-op
-enum-known-op c = search needs
+enum-known-op c = search rules
 
 store-fields-requires : tie.Need-store-fields-requires
-store-fields-requires c κs = search needs
+store-fields-requires c κs = search rules
 
 enum-told-4 : tie.Need-enum-told-4
-enum-told-4 c = search needs
+enum-told-4 c = search rules
 
 returns : tie.Need-returns
 unfolding memory_well_formed

@@ -1,5 +1,5 @@
 -- `machine::outcome::keeps` meets its contract. Assumes nothing.
-use Rattle.types.proofs.Prelude.{◌∙◌, now, needs}
+use Rattle.types.proofs.Prelude.{◌∙◌, now, rules}
 use Rattle.types.specs.{declared.fuel.Fuel.Fuel, declared.limiter.Limiter.Limiter}
 use Rattle.machine.specs.{Words.machine_from, Outcome.leaves}
 use Rattle.machine.proofs.Laws.{along}
@@ -7,13 +7,13 @@ use Rattle.machine.proofs.outcome.keeps.Statement.{statement}
 use Rattle.machine.proofs.outcome.keeps.Tie as tie
 
 fuel-from-requires : tie.Need-fuel-from-requires
-fuel-from-requires c κs = search needs
+fuel-from-requires c κs = search rules
 
 limiter-from-requires : tie.Need-limiter-from-requires
-limiter-from-requires c κs = search needs
+limiter-from-requires c κs = search rules
 
 leaves-requires : tie.Need-leaves-requires
-leaves-requires c κs = search needs
+leaves-requires c κs = search rules
 
 returns : tie.Need-returns
 returns c =

@@ -1,11 +1,11 @@
 -- `machine::row::byte_inside` meets its contract. Assumes nothing.
-use Rattle.types.proofs.Prelude.{◌≡◌, sym, ap, ◌∙◌, now, arith, ℕ, ◌-◌, eq-eqb, ne_eqb, le-leb, lt-leb, pick_true, pick_false, both_left, both_then, both_true, leb, needs}
+use Rattle.types.proofs.Prelude.{◌≡◌, sym, ap, ◌∙◌, now, arith, ℕ, ◌-◌, eq-eqb, ne_eqb, le-leb, lt-leb, pick_true, pick_false, both_left, both_then, both_true, leb, rules}
 use Rattle.machine.specs.{Words.machine_from, declared.records.Counts.Counts, Machine.memory_at, Machine.next_byte, Machine.memory_end}
 use Rattle.machine.proofs.row.byte_inside.Statement.{statement}
 use Rattle.machine.proofs.row.byte_inside.Tie as tie
 
 counts-from-requires : tie.Need-counts-from-requires
-counts-from-requires c κs = search needs
+counts-from-requires c κs = search rules
 
 returns : tie.Need-returns
 returns c =
@@ -23,13 +23,13 @@ returns-2 c =
     sym (both_true _ _ (le-leb m.counts.memories 8 (omega (arith, e, c.before.if1.false))) (le-leb (next_byte m) a.bytes (omega (arith, z))))
 
 sub-memory-at : tie.Need-overflow-sub-memory-at
-sub-memory-at c = search needs
+sub-memory-at c = search rules
 
 memory-at-requires : tie.Need-memory-at-requires
-memory-at-requires c κs = search needs
+memory-at-requires c κs = search rules
 
 room-inside-requires : tie.Need-room-inside-requires
-room-inside-requires c κs = search needs
+room-inside-requires c κs = search rules
 
 returns-3 : tie.Need-returns-3
 unfolding next_byte

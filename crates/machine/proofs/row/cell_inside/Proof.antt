@@ -1,11 +1,11 @@
 -- `machine::row::cell_inside` meets its contract. Assumes nothing.
-use Rattle.types.proofs.Prelude.{◌≡◌, sym, ap, ◌∙◌, now, arith, ℕ, ◌-◌, eq-eqb, ne_eqb, le-leb, lt-leb, pick_true, pick_false, both_left, both_then, both_true, leb, needs}
+use Rattle.types.proofs.Prelude.{◌≡◌, sym, ap, ◌∙◌, now, arith, ℕ, ◌-◌, eq-eqb, ne_eqb, le-leb, lt-leb, pick_true, pick_false, both_left, both_then, both_true, leb, rules}
 use Rattle.machine.specs.{Words.machine_from, declared.records.Counts.Counts, Machine.table_at, Machine.next_cell, Machine.table_end}
 use Rattle.machine.proofs.row.cell_inside.Statement.{statement}
 use Rattle.machine.proofs.row.cell_inside.Tie as tie
 
 counts-from-requires : tie.Need-counts-from-requires
-counts-from-requires c κs = search needs
+counts-from-requires c κs = search rules
 
 returns : tie.Need-returns
 returns c =
@@ -23,13 +23,13 @@ returns-2 c =
     sym (both_true _ _ (le-leb m.counts.tables 8 (omega (arith, e, c.before.if1.false))) (le-leb (next_cell m) a.cells (omega (arith, z))))
 
 sub-table-at : tie.Need-overflow-sub-table-at
-sub-table-at c = search needs
+sub-table-at c = search rules
 
 table-at-requires : tie.Need-table-at-requires
-table-at-requires c κs = search needs
+table-at-requires c κs = search rules
 
 room-inside-requires : tie.Need-room-inside-requires
-room-inside-requires c κs = search needs
+room-inside-requires c κs = search rules
 
 returns-3 : tie.Need-returns-3
 unfolding next_cell

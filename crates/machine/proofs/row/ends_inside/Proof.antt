@@ -1,25 +1,25 @@
 -- `machine::row::ends_inside` meets its contract. Assumes nothing.
-use Rattle.types.proofs.Prelude.{sym, ◌∙◌, not-true, not-false, both_left, both_right, both_then, needs}
+use Rattle.types.proofs.Prelude.{sym, ◌∙◌, not-true, not-false, both_left, both_right, both_then, rules}
 use Rattle.machine.specs.stages.Rows.{ends_inside}
 use Rattle.machine.proofs.row.ends_inside.Statement.{statement}
 use Rattle.machine.proofs.row.ends_inside.Tie as tie
 
 byte-inside-requires : tie.Need-byte-inside-requires
-byte-inside-requires c κs = search needs
+byte-inside-requires c κs = search rules
 
 returns : tie.Need-returns
 unfolding ends_inside
 returns c = sym (both_left _ _ (sym c.before.byte_inside.ensures ∙ not-true _ c.if1.true))
 
 cell-inside-requires : tie.Need-cell-inside-requires
-cell-inside-requires c κs = search needs
+cell-inside-requires c κs = search rules
 
 returns-2 : tie.Need-returns-2
 unfolding ends_inside
 returns-2 c = sym (both_right _ _ (both_left _ _ (sym c.before.cell-inside.ensures ∙ not-true _ c.if2.true)))
 
 item-inside-requires : tie.Need-item-inside-requires
-item-inside-requires c κs = search needs
+item-inside-requires c κs = search rules
 
 returns-3 : tie.Need-returns-3
 unfolding ends_inside

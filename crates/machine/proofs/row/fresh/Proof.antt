@@ -1,5 +1,5 @@
 -- `machine::row::fresh` meets its contract. Assumes nothing.
-use Rattle.types.proofs.Prelude.{sym, ap, ◌∙◌, now, le-leb, lt-leb, pick_true, pick_false, needs}
+use Rattle.types.proofs.Prelude.{sym, ap, ◌∙◌, now, le-leb, lt-leb, pick_true, pick_false, rules}
 use Rattle.types.specs.Span.{over}
 use Rattle.machine.specs.{Words.words_of, Row.rowed, Row.fresh_row, declared.records.Machine.Machine}
 use Rattle.machine.proofs.row.fresh.Statement.{statement}
@@ -10,13 +10,13 @@ unfolding fresh_row
 returns c = sym (pick_false _ _ _ (lt-leb _ _ c.if1.true))
 
 new-requires : tie.Need-new-requires
-new-requires c κs = search needs
+new-requires c κs = search rules
 
 put-machine-requires : tie.Need-put-machine-requires
-put-machine-requires c κs = search needs
+put-machine-requires c κs = search rules
 
 same_length : tie.Need-same-length
-same_length c = search needs
+same_length c = search rules
 
 returns-2 : tie.Need-returns-2
 unfolding fresh_row

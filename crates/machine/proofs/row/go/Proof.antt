@@ -1,29 +1,29 @@
 -- `machine::row::go` meets its contract. Assumes nothing.
-use Rattle.types.proofs.Prelude.{ap, subst, ◌∙◌, List, ℕ, now, needs}
+use Rattle.types.proofs.Prelude.{ap, subst, ◌∙◌, List, ℕ, now, rules}
 use Rattle.machine.specs.{Step.Performed, Row.in_row, stages.Rows.Fits, stages.Rows.settled_row, stages.Rows.row_settled, declared.operation.Writes.Writes}
 use Rattle.machine.proofs.row.go.Statement.{statement}
 use Rattle.machine.proofs.row.go.Tie as tie
 
 perform-requires : tie.Need-perform-requires
-perform-requires c κs = search needs
+perform-requires c κs = search rules
 
 writes-requires : tie.Need-writes-requires
-writes-requires c κs = search needs
+writes-requires c κs = search rules
 
 settle-requires : tie.Need-settle-requires
-settle-requires c κs = search needs
+settle-requires c κs = search rules
 
 same_length : tie.Need-same-length
-same_length c = search needs
+same_length c = search rules
 
 same-length-2 : tie.Need-same-length-2
-same-length-2 c = search needs
+same-length-2 c = search rules
 
 same-length-3 : tie.Need-same-length-3
-same-length-3 c = search needs
+same-length-3 c = search rules
 
 same-length-4 : tie.Need-same-length-4
-same-length-4 c = search needs
+same-length-4 c = search rules
 
 returns : tie.Need-returns
 returns c =

@@ -1,11 +1,11 @@
 -- `machine::row::is_ready` meets its contract. Assumes nothing.
-use Rattle.types.proofs.Prelude.{sym, ◌∙◌, not-true, not-false, both_left, both_then, needs}
+use Rattle.types.proofs.Prelude.{sym, ◌∙◌, not-true, not-false, both_left, both_then, rules}
 use Rattle.machine.proofs.Formed.{form_long}
 use Rattle.machine.proofs.row.is_ready.Statement.{statement}
 use Rattle.machine.proofs.row.is_ready.Tie as tie
 
 in-form-requires : tie.Need-in-form-requires
-in-form-requires c κs = search needs
+in-form-requires c κs = search rules
 
 returns : tie.Need-returns
 returns c = sym (both_left _ _ (sym c.before.in-form.ensures ∙ not-true _ c.if1.true))

@@ -1,11 +1,11 @@
 -- `machine::row::item_inside` meets its contract. Assumes nothing.
-use Rattle.types.proofs.Prelude.{◌≡◌, sym, ap, ◌∙◌, now, arith, ℕ, ◌-◌, eq-eqb, ne_eqb, le-leb, lt-leb, pick_true, pick_false, both_left, both_then, both_true, leb, needs}
+use Rattle.types.proofs.Prelude.{◌≡◌, sym, ap, ◌∙◌, now, arith, ℕ, ◌-◌, eq-eqb, ne_eqb, le-leb, lt-leb, pick_true, pick_false, both_left, both_then, both_true, leb, rules}
 use Rattle.machine.specs.{Words.machine_from, declared.records.Counts.Counts, Machine.segment_at, Machine.next_item, Machine.segment_end}
 use Rattle.machine.proofs.row.item_inside.Statement.{statement}
 use Rattle.machine.proofs.row.item_inside.Tie as tie
 
 counts-from-requires : tie.Need-counts-from-requires
-counts-from-requires c κs = search needs
+counts-from-requires c κs = search rules
 
 returns : tie.Need-returns
 returns c =
@@ -23,13 +23,13 @@ returns-2 c =
     sym (both_true _ _ (le-leb m.counts.segments 8 (omega (arith, e, c.before.if1.false))) (le-leb (next_item m) a.items (omega (arith, z))))
 
 sub-segment-at : tie.Need-overflow-sub-segment-at
-sub-segment-at c = search needs
+sub-segment-at c = search rules
 
 segment-at-requires : tie.Need-segment-at-requires
-segment-at-requires c κs = search needs
+segment-at-requires c κs = search rules
 
 room-inside-requires : tie.Need-room-inside-requires
-room-inside-requires c κs = search needs
+room-inside-requires c κs = search rules
 
 returns-3 : tie.Need-returns-3
 unfolding next_item

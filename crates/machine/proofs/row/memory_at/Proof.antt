@@ -1,15 +1,15 @@
 -- `machine::row::memory_at` meets its contract. Assumes nothing.
-use Rattle.types.proofs.Prelude.{◌≡◌, sym, ap, ◌∙◌, now, arith, ◌+◌, ◌*◌, needs}
+use Rattle.types.proofs.Prelude.{◌≡◌, sym, ap, ◌∙◌, now, arith, ◌+◌, ◌*◌, rules}
 use Rattle.machine.specs.{Machine.no_memory, Words.record_length, Words.memory_from}
 use Rattle.machine.proofs.Places.{records_at}
 use Rattle.machine.proofs.row.memory_at.Statement.{statement}
 use Rattle.machine.proofs.row.memory_at.Tie as tie
 
 mul-memory-from : tie.Need-overflow-mul-memory-from
-mul-memory-from c = search needs
+mul-memory-from c = search rules
 
 memory-from-requires : tie.Need-memory-from-requires
-memory-from-requires c κs = search needs
+memory-from-requires c κs = search rules
 
 returns : tie.Need-returns
 returns c =

@@ -1,5 +1,5 @@
 -- `machine::row::memory_pages` meets its contract. Assumes nothing.
-use Rattle.types.proofs.Prelude.{◌<◌, sym, ap, ◌∙◌, arith, now, le-leb, lt-leb, lt-ltb, le-ltb, not-true, not-false, pick_true, pick_false, needs}
+use Rattle.types.proofs.Prelude.{◌<◌, sym, ap, ◌∙◌, arith, now, le-leb, lt-leb, lt-ltb, le-ltb, not-true, not-false, pick_true, pick_false, rules}
 use Rattle.types.specs.Answer.{accept}
 use Rattle.memory.specs.Memory.{pages_of}
 use Rattle.machine.specs.{Words.machine_from, Row.if_sound, Row.row_pages, declared.records.Counts.Counts}
@@ -8,17 +8,17 @@ use Rattle.machine.proofs.row.memory_pages.Statement.{statement}
 use Rattle.machine.proofs.row.memory_pages.Tie as tie
 
 refused-requires : tie.Need-refused-requires
-refused-requires c κs = search needs
+refused-requires c κs = search rules
 
 returns : tie.Need-returns
 unfolding row_pages if_sound
 returns c = c.refused.ensures ∙ sym (pick_false _ _ _ (lt-leb _ _ c.before.if1.true))
 
 is-sound-requires : tie.Need-is-sound-requires
-is-sound-requires c κs = search needs
+is-sound-requires c κs = search rules
 
 refused-requires-2 : tie.Need-refused-requires-2
-refused-requires-2 c κs = search needs
+refused-requires-2 c κs = search rules
 
 returns-2 : tie.Need-returns-2
 unfolding row_pages if_sound
@@ -27,10 +27,10 @@ returns-2 c =
     ∙ sym (pick_true _ _ _ (le-leb _ _ c.before.before.before.if1.false) ∙ pick_false _ _ _ (sym c.before.before.is-sound.ensures ∙ not-true _ c.before.if2.true))
 
 counts-from-requires : tie.Need-counts-from-requires
-counts-from-requires c κs = search needs
+counts-from-requires c κs = search rules
 
 refused-requires-3 : tie.Need-refused-requires-3
-refused-requires-3 c κs = search needs
+refused-requires-3 c κs = search rules
 
 returns-3 : tie.Need-returns-3
 unfolding row_pages if_sound
@@ -48,7 +48,7 @@ mul-record-in-form c =
     let sound = sym c.before.before.before.is-sound.ensures ∙ not-false _ c.before.before.if2.false in
     let count = ap (λ (k : Counts). k.memories) c.before.counts-from.ensures in
     let small : a.number < 8 = memory_place (machine_from (now a.words)) _ _ _ a.number sound (omega (arith, count, c.if3.false)) in
-    search needs
+    search rules
 
 record-in-form-requires : tie.Need-record-in-form-requires
 record-in-form-requires c κs =
@@ -56,10 +56,10 @@ record-in-form-requires c κs =
     let sound = sym c.before.before.before.is-sound.ensures ∙ not-false _ c.before.before.if2.false in
     let count = ap (λ (k : Counts). k.memories) c.before.counts-from.ensures in
     let small : a.number < 8 = memory_place (machine_from (now a.words)) _ _ _ a.number sound (omega (arith, count, c.if3.false)) in
-    search needs
+    search rules
 
 refused-requires-4 : tie.Need-refused-requires-4
-refused-requires-4 c κs = search needs
+refused-requires-4 c κs = search rules
 
 returns-4 : tie.Need-returns-4
 unfolding row_pages if_sound
@@ -77,10 +77,10 @@ memory-at-requires c κs =
     let sound = sym c.before.before.before.before.before.is-sound.ensures ∙ not-false _ c.before.before.before.before.if2.false in
     let count = ap (λ (k : Counts). k.memories) c.before.before.before.counts-from.ensures in
     let small : a.number < 8 = memory_place (machine_from (now a.words)) _ _ _ a.number sound (omega (arith, count, c.before.before.if3.false)) in
-    search needs
+    search rules
 
 pages-requires : tie.Need-pages-requires
-pages-requires c κs = search needs
+pages-requires c κs = search rules
 
 returns-5 : tie.Need-returns-5
 unfolding row_pages if_sound

@@ -1,11 +1,11 @@
 -- `machine::row::next_byte` meets its contract. Assumes nothing.
-use Rattle.types.proofs.Prelude.{◌≡◌, sym, ap, ◌∙◌, now, arith, ℕ, ◌-◌, eq-eqb, ne_eqb, pick_true, pick_false, needs}
+use Rattle.types.proofs.Prelude.{◌≡◌, sym, ap, ◌∙◌, now, arith, ℕ, ◌-◌, eq-eqb, ne_eqb, pick_true, pick_false, rules}
 use Rattle.machine.specs.{Words.machine_from, declared.records.Counts.Counts, Machine.memory_at, Machine.next_byte, Machine.memory_end}
 use Rattle.machine.proofs.row.next_byte.Statement.{statement}
 use Rattle.machine.proofs.row.next_byte.Tie as tie
 
 counts-from-requires : tie.Need-counts-from-requires
-counts-from-requires c κs = search needs
+counts-from-requires c κs = search rules
 
 returns : tie.Need-returns
 unfolding next_byte
@@ -16,12 +16,12 @@ returns c =
     sym (pick_true _ _ _ (eq-eqb _ _ (sym e ∙ c.if1.true)))
 
 sub-memory-at : tie.Need-overflow-sub-memory-at
-sub-memory-at c = search needs
+sub-memory-at c = search rules
 
 memory-at-requires : tie.Need-memory-at-requires
 memory-at-requires c κs =
     let e = ap (λ (k : Counts). k.memories) c.before.counts-from.ensures in
-    search needs
+    search rules
 
 add-result : tie.Need-overflow-add-result
 unfolding next_byte

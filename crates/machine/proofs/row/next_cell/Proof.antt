@@ -1,11 +1,11 @@
 -- `machine::row::next_cell` meets its contract. Assumes nothing.
-use Rattle.types.proofs.Prelude.{◌≡◌, sym, ap, ◌∙◌, now, arith, ℕ, ◌-◌, eq-eqb, ne_eqb, pick_true, pick_false, needs}
+use Rattle.types.proofs.Prelude.{◌≡◌, sym, ap, ◌∙◌, now, arith, ℕ, ◌-◌, eq-eqb, ne_eqb, pick_true, pick_false, rules}
 use Rattle.machine.specs.{Words.machine_from, declared.records.Counts.Counts, Machine.table_at, Machine.next_cell, Machine.table_end}
 use Rattle.machine.proofs.row.next_cell.Statement.{statement}
 use Rattle.machine.proofs.row.next_cell.Tie as tie
 
 counts-from-requires : tie.Need-counts-from-requires
-counts-from-requires c κs = search needs
+counts-from-requires c κs = search rules
 
 returns : tie.Need-returns
 unfolding next_cell
@@ -16,12 +16,12 @@ returns c =
     sym (pick_true _ _ _ (eq-eqb _ _ (sym e ∙ c.if1.true)))
 
 sub-table-at : tie.Need-overflow-sub-table-at
-sub-table-at c = search needs
+sub-table-at c = search rules
 
 table-at-requires : tie.Need-table-at-requires
 table-at-requires c κs =
     let e = ap (λ (k : Counts). k.tables) c.before.counts-from.ensures in
-    search needs
+    search rules
 
 add-result : tie.Need-overflow-add-result
 unfolding next_cell

@@ -1,11 +1,11 @@
 -- `machine::row::next_item` meets its contract. Assumes nothing.
-use Rattle.types.proofs.Prelude.{◌≡◌, sym, ap, ◌∙◌, now, arith, ℕ, ◌-◌, eq-eqb, ne_eqb, pick_true, pick_false, needs}
+use Rattle.types.proofs.Prelude.{◌≡◌, sym, ap, ◌∙◌, now, arith, ℕ, ◌-◌, eq-eqb, ne_eqb, pick_true, pick_false, rules}
 use Rattle.machine.specs.{Words.machine_from, declared.records.Counts.Counts, Machine.segment_at, Machine.next_item, Machine.segment_end}
 use Rattle.machine.proofs.row.next_item.Statement.{statement}
 use Rattle.machine.proofs.row.next_item.Tie as tie
 
 counts-from-requires : tie.Need-counts-from-requires
-counts-from-requires c κs = search needs
+counts-from-requires c κs = search rules
 
 returns : tie.Need-returns
 unfolding next_item
@@ -16,12 +16,12 @@ returns c =
     sym (pick_true _ _ _ (eq-eqb _ _ (sym e ∙ c.if1.true)))
 
 sub-segment-at : tie.Need-overflow-sub-segment-at
-sub-segment-at c = search needs
+sub-segment-at c = search rules
 
 segment-at-requires : tie.Need-segment-at-requires
 segment-at-requires c κs =
     let e = ap (λ (k : Counts). k.segments) c.before.counts-from.ensures in
-    search needs
+    search rules
 
 add-result : tie.Need-overflow-add-result
 unfolding next_item

@@ -1,27 +1,27 @@
 -- `machine::row::put_table` meets its contract. Assumes nothing.
-use Rattle.types.proofs.Prelude.{sym, ap, ◌∙◌, now, ◌+◌, ◌*◌, lt-ltb, le-ltb, pick_true, pick_false, needs}
+use Rattle.types.proofs.Prelude.{sym, ap, ◌∙◌, now, ◌+◌, ◌*◌, lt-ltb, le-ltb, pick_true, pick_false, rules}
 use Rattle.types.specs.Span.{over}
 use Rattle.machine.specs.stages.Rows.{changed_row}
 use Rattle.machine.proofs.row.put_table.Statement.{statement}
 use Rattle.machine.proofs.row.put_table.Tie as tie
 
 table-words-requires : tie.Need-table-words-requires
-table-words-requires c κs = search needs
+table-words-requires c κs = search rules
 
 mul-put : tie.Need-overflow-mul-put
-mul-put c = search needs
+mul-put c = search rules
 
 add-put : tie.Need-overflow-add-put
-add-put c = search needs
+add-put c = search rules
 
 slice-aggregate-put : tie.Need-slice-aggregate-put
-slice-aggregate-put c = search needs
+slice-aggregate-put c = search rules
 
 put-requires : tie.Need-put-requires
-put-requires c κs = search needs
+put-requires c κs = search rules
 
 same_length : tie.Need-same-length
-same_length c = search needs
+same_length c = search rules
 
 returns : tie.Need-returns
 unfolding changed_row

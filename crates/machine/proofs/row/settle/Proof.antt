@@ -1,5 +1,5 @@
 -- `machine::row::settle` meets its contract. Assumes nothing.
-use Rattle.types.proofs.Prelude.{ℕ, ap, ◌∙◌, List, needs}
+use Rattle.types.proofs.Prelude.{ℕ, ap, ◌∙◌, List, rules}
 use mir.Syntax.{w8}
 use borrow.Author.Rules.{length_unmapped, elem_fits_field}
 use Rattle.types.specs.Span.{over}
@@ -8,28 +8,28 @@ use Rattle.machine.proofs.row.settle.Statement.{statement}
 use Rattle.machine.proofs.row.settle.Tie as tie
 
 enum_told : tie.Need-enum-told
-enum_told c = search needs
+enum_told c = search rules
 
 put-left-requires : tie.Need-put-left-requires
-put-left-requires c κs = search needs
+put-left-requires c κs = search rules
 
 enum-told-2 : tie.Need-enum-told-2
-enum-told-2 c = search needs
+enum-told-2 c = search rules
 
 put-change-requires : tie.Need-put-change-requires
-put-change-requires c κs = search needs
+put-change-requires c κs = search rules
 
 put-standing-requires : tie.Need-put-standing-requires
-put-standing-requires c κs = search needs
+put-standing-requires c κs = search rules
 
 enum-told-3 : tie.Need-enum-told-3
-enum-told-3 c = search needs
+enum-told-3 c = search rules
 
 put-state-requires : tie.Need-put-state-requires
-put-state-requires c κs = search needs
+put-state-requires c κs = search rules
 
 same_length : tie.Need-same-length
-same_length c = search needs
+same_length c = search rules
 
 returns : tie.Need-returns
 unfolding settled_row
@@ -50,7 +50,7 @@ returns c =
     }
 
 same-length-2 : tie.Need-same-length-2
-same-length-2 c = search needs
+same-length-2 c = search rules
 
 returns-2 : tie.Need-returns-2
 unfolding settled_row
@@ -71,7 +71,7 @@ returns-2 c =
     }
 
 same-length-3 : tie.Need-same-length-3
-same-length-3 c = search needs
+same-length-3 c = search rules
 
 returns-3 : tie.Need-returns-3
 unfolding settled_row

@@ -1,5 +1,5 @@
 -- `machine::segments::add_items` meets its contract. Assumes nothing.
-use Rattle.types.proofs.Prelude.{◌≡◌, sym, ap, ◌∙◌, now, arith, ℕ, ◌-◌, ◌<◌, leb, ltb, length, pick_true, pick_false, both_1, ltb-true, needs}
+use Rattle.types.proofs.Prelude.{◌≡◌, sym, ap, ◌∙◌, now, arith, ℕ, ◌-◌, ◌<◌, leb, ltb, length, pick_true, pick_false, both_1, ltb-true, rules}
 use Rattle.machine.specs.{Words.machine_from, declared.records.Counts.Counts, declared.outcome.Outcome.Outcome}
 use Rattle.machine.specs.Segments.{segment_made, new_segment_on}
 use Rattle.types.specs.{Done.done, Pick.both}
@@ -9,16 +9,16 @@ use Rattle.machine.proofs.segments.add_items.Statement.{statement}
 use Rattle.machine.proofs.segments.add_items.Tie as tie
 
 counts-from-requires : tie.Need-counts-from-requires
-counts-from-requires c κs = search needs
+counts-from-requires c κs = search rules
 
 next-item-requires : tie.Need-next-item-requires
-next-item-requires c κs = search needs
+next-item-requires c κs = search rules
 
 sub-finds-room : tie.Need-overflow-sub-finds-room
-sub-finds-room c = search needs
+sub-finds-room c = search rules
 
 finds-room-requires : tie.Need-finds-room-requires
-finds-room-requires c κs = search needs
+finds-room-requires c κs = search rules
 
 make-segment-requires : tie.Need-make-segment-requires
 make-segment-requires c κs =
@@ -29,7 +29,7 @@ make-segment-requires c κs =
     (c.before.before.before.before.before.before.before.before.requires.0, omega (arith, h, e))
 
 same_length : tie.Need-same-length
-same_length c = search needs
+same_length c = search rules
 
 returns : tie.Need-returns
 unfolding new_segment_on
@@ -42,7 +42,7 @@ returns c =
     ∙ sym (pick_true _ _ _ (along (λ (n s : ℕ). both (ltb n 8) (leb (length (now a.given)) (length (now a.items) - s))) (sym e) (sym c.before.before.before.before.before.before.next-item.ensures) ∙ sym c.before.before.before.before.before.finds-room.ensures ∙ c.before.before.before.before.if1.true))
 
 refuses-requires : tie.Need-refuses-requires
-refuses-requires c κs = search needs
+refuses-requires c κs = search rules
 
 returns-2 : tie.Need-returns-2
 unfolding new_segment_on

@@ -1,15 +1,15 @@
 -- `machine::segments::drop_segment` meets its contract. Assumes nothing.
-use Rattle.types.proofs.Prelude.{◌≡◌, refl, ap, now, arith, needs}
+use Rattle.types.proofs.Prelude.{◌≡◌, refl, ap, now, arith, rules}
 use Rattle.machine.specs.{Words.machine_from, declared.records.Counts.Counts, Segments.drop_on}
 use Rattle.machine.proofs.Laws.{unknown, known}
 use Rattle.machine.proofs.segments.drop_segment.Statement.{statement}
 use Rattle.machine.proofs.segments.drop_segment.Tie as tie
 
 counts-from-requires : tie.Need-counts-from-requires
-counts-from-requires c κs = search needs
+counts-from-requires c κs = search rules
 
 refuses-requires : tie.Need-refuses-requires
-refuses-requires c κs = search needs
+refuses-requires c κs = search rules
 
 returns : tie.Need-returns
 unfolding drop_on
@@ -22,16 +22,16 @@ returns c =
 segment-at-requires : tie.Need-segment-at-requires
 segment-at-requires c κs =
     let e = ap (λ (k : Counts). k.segments) c.before.before.counts-from.ensures in
-    search needs
+    search rules
 
 drop-items-requires : tie.Need-drop-items-requires
-drop-items-requires c κs = search needs
+drop-items-requires c κs = search rules
 
 fuel-from-requires : tie.Need-fuel-from-requires
-fuel-from-requires c κs = search needs
+fuel-from-requires c κs = search rules
 
 limiter-from-requires : tie.Need-limiter-from-requires
-limiter-from-requires c κs = search needs
+limiter-from-requires c κs = search rules
 
 returns-2 : tie.Need-returns-2
 unfolding drop_on

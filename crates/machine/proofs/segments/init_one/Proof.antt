@@ -1,5 +1,5 @@
 -- `machine::segments::init_one` meets its contract. Assumes nothing.
-use Rattle.types.proofs.Prelude.{ap, ◌∙◌, now, needs}
+use Rattle.types.proofs.Prelude.{ap, ◌∙◌, now, rules}
 use Rattle.machine.specs.{Words.machine_from, declared.outcome.Outcome.Outcome, Tables.spanned_done}
 use Rattle.types.specs.{Done.done, Raw.raw_bytes}
 use Rattle.table.specs.Init.{init_table}
@@ -7,16 +7,16 @@ use Rattle.machine.proofs.segments.init_one.Statement.{statement}
 use Rattle.machine.proofs.segments.init_one.Tie as tie
 
 fuel-from-requires : tie.Need-fuel-from-requires
-fuel-from-requires c κs = search needs
+fuel-from-requires c κs = search rules
 
 init-requires : tie.Need-init-requires
-init-requires c κs = search needs
+init-requires c κs = search rules
 
 spanned-requires : tie.Need-spanned-requires
-spanned-requires c κs = search needs
+spanned-requires c κs = search rules
 
 same_length : tie.Need-same-length
-same_length c = search needs
+same_length c = search rules
 
 returns : tie.Need-returns
 returns c =

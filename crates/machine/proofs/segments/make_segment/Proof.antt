@@ -1,18 +1,18 @@
 -- `machine::segments::make_segment` meets its contract. Assumes nothing.
-use Rattle.types.proofs.Prelude.{ap, ◌∙◌, now, needs}
+use Rattle.types.proofs.Prelude.{ap, ◌∙◌, now, rules}
 use Rattle.machine.specs.{Words.machine_from, declared.outcome.Outcome.Outcome, Segments.segment_made}
 use Rattle.types.specs.Done.{done}
 use Rattle.machine.proofs.segments.make_segment.Statement.{statement}
 use Rattle.machine.proofs.segments.make_segment.Tie as tie
 
 new-requires : tie.Need-new-requires
-new-requires c κs = search needs
+new-requires c κs = search rules
 
 made-segment-requires : tie.Need-made-segment-requires
-made-segment-requires c κs = search needs
+made-segment-requires c κs = search rules
 
 same_length : tie.Need-same-length
-same_length c = search needs
+same_length c = search rules
 
 returns : tie.Need-returns
 returns c =

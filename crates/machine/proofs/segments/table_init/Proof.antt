@@ -1,5 +1,5 @@
 -- `machine::segments::table_init` meets its contract. Assumes nothing.
-use Rattle.types.proofs.Prelude.{◌≡◌, sym, ap, ◌∙◌, now, arith, pick_true, pick_false, both_left, both_right, both_true, lt-ltb, le-ltb, needs}
+use Rattle.types.proofs.Prelude.{◌≡◌, sym, ap, ◌∙◌, now, arith, pick_true, pick_false, both_left, both_right, both_true, lt-ltb, le-ltb, rules}
 use Rattle.machine.specs.{Words.machine_from, declared.records.Counts.Counts, declared.outcome.Outcome.Outcome, Machine.table_at, Tables.spanned_done}
 use Rattle.machine.specs.Segments.{init_on}
 use Rattle.types.specs.{Done.done, Raw.raw_bytes}
@@ -8,10 +8,10 @@ use Rattle.machine.proofs.segments.table_init.Statement.{statement}
 use Rattle.machine.proofs.segments.table_init.Tie as tie
 
 counts-from-requires : tie.Need-counts-from-requires
-counts-from-requires c κs = search needs
+counts-from-requires c κs = search rules
 
 refuses-requires : tie.Need-refuses-requires
-refuses-requires c κs = search needs
+refuses-requires c κs = search rules
 
 returns : tie.Need-returns
 unfolding init_on
@@ -23,7 +23,7 @@ returns c =
     ap (λ (o : Outcome). done o (now a.cells)) c.refuses.ensures ∙ sym (pick_false _ _ _ (both_left _ _ (le-ltb a.number m.counts.tables (omega (arith, e, c.before.if1.true)))))
 
 refuses-requires-2 : tie.Need-refuses-requires-2
-refuses-requires-2 c κs = search needs
+refuses-requires-2 c κs = search rules
 
 returns-2 : tie.Need-returns-2
 unfolding init_on
@@ -37,18 +37,18 @@ returns-2 c =
 table-at-requires : tie.Need-table-at-requires
 table-at-requires c κs =
     let e = ap (λ (k : Counts). k.tables) c.before.before.before.before.counts-from.ensures in
-    search needs
+    search rules
 
 segment-at-requires : tie.Need-segment-at-requires
 segment-at-requires c κs =
     let e = ap (λ (k : Counts). k.segments) c.before.before.before.before.before.counts-from.ensures in
-    search needs
+    search rules
 
 init-one-requires : tie.Need-init-one-requires
-init-one-requires c κs = search needs
+init-one-requires c κs = search rules
 
 same_length : tie.Need-same-length
-same_length c = search needs
+same_length c = search rules
 
 returns-3 : tie.Need-returns-3
 unfolding init_on

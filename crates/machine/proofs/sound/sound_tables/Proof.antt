@@ -1,5 +1,5 @@
 -- `machine::sound::sound_tables` meets its contract. Assumes nothing.
-use Rattle.types.proofs.Prelude.{refl, sym, ap, subst, ◌∙◌, now, arith, ◌+◌, ◌-◌, ◌≤◌, not-false, not-true, needs}
+use Rattle.types.proofs.Prelude.{refl, sym, ap, subst, ◌∙◌, now, arith, ◌+◌, ◌-◌, ◌≤◌, not-false, not-true, rules}
 use Rattle.machine.specs.{Words.machine_from, declared.records.Counts.Counts, Machine.no_table, Machine.table_end, Sound.sound_tables}
 use Rattle.machine.specs.Words.{record_length, tables_at, table_from}
 use Rattle.table.specs.{Table.sound_table, declared.table.Table.Table}
@@ -16,7 +16,7 @@ abbrev decreases_loop : tie.decreases-loop
 decreases_loop words len count from₀ i₀ from i = count - i
 
 counts-from-requires : tie.Need-counts-from-requires invariant_loop decreases_loop
-counts-from-requires c κs = search needs
+counts-from-requires c κs = search rules
 
 returns : tie.Need-returns invariant_loop decreases_loop
 unfolding sound_tables
@@ -30,7 +30,7 @@ loop-holds : tie.Need-loop-init invariant_loop decreases_loop
 loop-holds c = (omega arith, refl)
 
 table-at-requires : tie.Need-table-at-requires invariant_loop decreases_loop
-table-at-requires c κs = search needs
+table-at-requires c κs = search rules
 
 returns-2 : tie.Need-returns-2 invariant_loop decreases_loop
 unfolding sound_tables
@@ -45,7 +45,7 @@ returns-2 c =
     starts_elsewhere (λ (r : Table). sound_table r a.len) (λ (r : Table). r.start) table_end no_table m.counts.tables m.tables long l.from l.i (omega (arith, k, c.before.before.before.before.before.if1.false)) inv (omega (arith, k, c.before.before.before.loop-test.true)) (λ z. c.if2.true (ap (λ (x : Table). x.start) r ∙ z))
 
 is-sound-requires : tie.Need-is-sound-requires invariant_loop decreases_loop
-is-sound-requires c κs = search needs
+is-sound-requires c κs = search rules
 
 returns-3 : tie.Need-returns-3 invariant_loop decreases_loop
 unfolding sound_tables
@@ -65,10 +65,10 @@ add-from c =
     omega (arith, sound_room_lem _ _ h)
 
 add-i : tie.Need-overflow-add-i invariant_loop decreases_loop
-add-i c = search needs
+add-i c = search rules
 
 loop-less : tie.Need-loop-smaller invariant_loop decreases_loop
-loop-less c = search needs
+loop-less c = search rules
 
 loop-again : tie.Need-loop-preserved invariant_loop decreases_loop
 loop-again c =

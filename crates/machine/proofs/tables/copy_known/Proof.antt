@@ -1,5 +1,5 @@
 -- `machine::tables::copy_known` meets its contract. Assumes nothing.
-use Rattle.types.proofs.Prelude.{ap, ◌∙◌, now, needs}
+use Rattle.types.proofs.Prelude.{ap, ◌∙◌, now, rules}
 use Rattle.machine.specs.{Words.machine_from, Machine.table_at, declared.outcome.Outcome.Outcome, Tables.spanned_done}
 use Rattle.types.specs.{Done.done, Raw.raw_bytes}
 use Rattle.table.specs.{declared.table.Table.Table, Copy.copy_table}
@@ -7,22 +7,22 @@ use Rattle.machine.proofs.tables.copy_known.Statement.{statement}
 use Rattle.machine.proofs.tables.copy_known.Tie as tie
 
 table-at-requires : tie.Need-table-at-requires
-table-at-requires c κs = search needs
+table-at-requires c κs = search rules
 
 table-at-requires-2 : tie.Need-table-at-requires-2
-table-at-requires-2 c κs = search needs
+table-at-requires-2 c κs = search rules
 
 fuel-from-requires : tie.Need-fuel-from-requires
-fuel-from-requires c κs = search needs
+fuel-from-requires c κs = search rules
 
 copy-requires : tie.Need-copy-requires
-copy-requires c κs = search needs
+copy-requires c κs = search rules
 
 spanned-requires : tie.Need-spanned-requires
-spanned-requires c κs = search needs
+spanned-requires c κs = search rules
 
 same_length : tie.Need-same-length
-same_length c = search needs
+same_length c = search rules
 
 returns : tie.Need-returns
 returns c =

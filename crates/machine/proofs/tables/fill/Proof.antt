@@ -1,5 +1,5 @@
 -- `machine::tables::fill` meets its contract. Assumes nothing.
-use Rattle.types.proofs.Prelude.{ap, ◌∙◌, needs}
+use Rattle.types.proofs.Prelude.{ap, ◌∙◌, rules}
 use Rattle.types.specs.Done.{done}
 use Rattle.table.specs.declared.grow.GrownTable.{GrownTable}
 use Rattle.machine.specs.Tables.{table_spanned}
@@ -7,13 +7,13 @@ use Rattle.machine.proofs.tables.fill.Statement.{statement}
 use Rattle.machine.proofs.tables.fill.Tie as tie
 
 fill-requires : tie.Need-fill-requires
-fill-requires c κs = search needs
+fill-requires c κs = search rules
 
 keep-requires : tie.Need-keep-requires
-keep-requires c κs = search needs
+keep-requires c κs = search rules
 
 same_length : tie.Need-same-length
-same_length c = search needs
+same_length c = search rules
 
 returns : tie.Need-returns
 returns c =

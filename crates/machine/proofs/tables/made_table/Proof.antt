@@ -1,23 +1,23 @@
 -- `machine::tables::made_table` meets its contract. Assumes nothing.
-use Rattle.types.proofs.Prelude.{◌≡◌, ap, now, arith, needs}
+use Rattle.types.proofs.Prelude.{◌≡◌, ap, now, arith, rules}
 use Rattle.machine.specs.{Words.machine_from, declared.records.Counts.Counts, Tables.made_table}
 use Rattle.machine.proofs.tables.made_table.Statement.{statement}
 use Rattle.machine.proofs.tables.made_table.Tie as tie
 
 counts-from-requires : tie.Need-counts-from-requires
-counts-from-requires c κs = search needs
+counts-from-requires c κs = search rules
 
 fuel-from-requires : tie.Need-fuel-from-requires
-fuel-from-requires c κs = search needs
+fuel-from-requires c κs = search rules
 
 enum-known-made : tie.Need-enum-known-made
-enum-known-made c = search needs
+enum-known-made c = search rules
 
 leaves-requires : tie.Need-leaves-requires
-leaves-requires c κs = search needs
+leaves-requires c κs = search rules
 
 enum-known-made-2 : tie.Need-enum-known-made-2
-enum-known-made-2 c = search needs
+enum-known-made-2 c = search rules
 
 add-t14 : tie.Need-overflow-add-t14
 add-t14 c =

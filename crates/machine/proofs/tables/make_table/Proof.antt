@@ -1,5 +1,5 @@
 -- `machine::tables::make_table` meets its contract. Assumes nothing.
-use Rattle.types.proofs.Prelude.{ap, ◌∙◌, now, needs}
+use Rattle.types.proofs.Prelude.{ap, ◌∙◌, now, rules}
 use Rattle.machine.specs.{Words.machine_from, declared.outcome.Outcome.Outcome, Tables.table_made}
 use Rattle.types.specs.Done.{done}
 use Rattle.table.specs.New.{new_table}
@@ -7,16 +7,16 @@ use Rattle.machine.proofs.tables.make_table.Statement.{statement}
 use Rattle.machine.proofs.tables.make_table.Tie as tie
 
 limiter-from-requires : tie.Need-limiter-from-requires
-limiter-from-requires c κs = search needs
+limiter-from-requires c κs = search rules
 
 new-table-requires : tie.Need-new-table-requires
-new-table-requires c κs = search needs
+new-table-requires c κs = search rules
 
 made-table-requires : tie.Need-made-table-requires
-made-table-requires c κs = search needs
+made-table-requires c κs = search rules
 
 same_length : tie.Need-same-length
-same_length c = search needs
+same_length c = search rules
 
 returns : tie.Need-returns
 returns c =

@@ -1,5 +1,5 @@
 -- `machine::tables::new_table` meets its contract. Assumes nothing.
-use Rattle.types.proofs.Prelude.{◌≡◌, sym, ap, ◌∙◌, now, arith, ℕ, ◌-◌, ◌<◌, leb, ltb, length, pick_true, pick_false, both_1, ltb-true, needs}
+use Rattle.types.proofs.Prelude.{◌≡◌, sym, ap, ◌∙◌, now, arith, ℕ, ◌-◌, ◌<◌, leb, ltb, length, pick_true, pick_false, both_1, ltb-true, rules}
 use Rattle.machine.specs.{Words.machine_from, declared.records.Counts.Counts, declared.outcome.Outcome.Outcome, Tables.table_made, Tables.new_table_on}
 use Rattle.types.specs.{Done.done, Pick.both}
 use Rattle.machine.proofs.Laws.{along}
@@ -8,16 +8,16 @@ use Rattle.machine.proofs.tables.new_table.Statement.{statement}
 use Rattle.machine.proofs.tables.new_table.Tie as tie
 
 counts-from-requires : tie.Need-counts-from-requires
-counts-from-requires c κs = search needs
+counts-from-requires c κs = search rules
 
 next-cell-requires : tie.Need-next-cell-requires
-next-cell-requires c κs = search needs
+next-cell-requires c κs = search rules
 
 sub-finds-room : tie.Need-overflow-sub-finds-room
-sub-finds-room c = search needs
+sub-finds-room c = search rules
 
 finds-room-requires : tie.Need-finds-room-requires
-finds-room-requires c κs = search needs
+finds-room-requires c κs = search rules
 
 make-table-requires : tie.Need-make-table-requires
 make-table-requires c κs =
@@ -28,7 +28,7 @@ make-table-requires c κs =
     (c.before.before.before.before.before.before.before.requires.0, omega (arith, h, e))
 
 same_length : tie.Need-same-length
-same_length c = search needs
+same_length c = search rules
 
 returns : tie.Need-returns
 unfolding new_table_on
@@ -41,7 +41,7 @@ returns c =
     ∙ sym (pick_true _ _ _ (along (λ (n s : ℕ). both (ltb n 8) (leb a.room (length (now a.cells) - s))) (sym e) (sym c.before.before.before.before.before.before.next-cell.ensures) ∙ sym c.before.before.before.before.before.finds-room.ensures ∙ c.before.before.before.before.if1.true))
 
 refuses-requires : tie.Need-refuses-requires
-refuses-requires c κs = search needs
+refuses-requires c κs = search rules
 
 returns-2 : tie.Need-returns-2
 unfolding new_table_on

@@ -1,5 +1,5 @@
 -- `machine::tables::on_table` meets its contract. Assumes nothing.
-use Rattle.types.proofs.Prelude.{◌≡◌, ap, ◌∙◌, now, arith, needs}
+use Rattle.types.proofs.Prelude.{◌≡◌, ap, ◌∙◌, now, arith, rules}
 use Rattle.machine.specs.{Words.machine_from, declared.records.Counts.Counts, declared.outcome.Outcome.Outcome}
 use Rattle.machine.specs.Tables.{perform_table, table_done, on_table}
 use Rattle.types.specs.{Done.done, Raw.raw_bytes}
@@ -9,10 +9,10 @@ use Rattle.machine.proofs.tables.on_table.Statement.{statement}
 use Rattle.machine.proofs.tables.on_table.Tie as tie
 
 counts-from-requires : tie.Need-counts-from-requires
-counts-from-requires c κs = search needs
+counts-from-requires c κs = search rules
 
 refuses-requires : tie.Need-refuses-requires
-refuses-requires c κs = search needs
+refuses-requires c κs = search rules
 
 returns : tie.Need-returns
 unfolding on_table
@@ -25,13 +25,13 @@ returns c =
 table-at-requires : tie.Need-table-at-requires
 table-at-requires c κs =
     let e = ap (λ (k : Counts). k.tables) c.before.before.counts-from.ensures in
-    search needs
+    search rules
 
 one-table-requires : tie.Need-one-table-requires
-one-table-requires c κs = search needs
+one-table-requires c κs = search rules
 
 same_length : tie.Need-same-length
-same_length c = search needs
+same_length c = search rules
 
 returns-2 : tie.Need-returns-2
 unfolding on_table

@@ -1,5 +1,5 @@
 -- `machine::tables::one_table` meets its contract. Assumes nothing.
-use Rattle.types.proofs.Prelude.{ap, ◌∙◌, now, needs}
+use Rattle.types.proofs.Prelude.{ap, ◌∙◌, now, rules}
 use Rattle.types.specs.{declared.fuel.Fuel.Fuel, declared.limiter.Limiter.Limiter, Done.done, Raw.raw_bytes}
 use Rattle.machine.specs.{Words.machine_from, declared.outcome.Outcome.Outcome, Tables.perform_table, Tables.table_done}
 use Rattle.machine.proofs.Laws.{along}
@@ -7,19 +7,19 @@ use Rattle.machine.proofs.tables.one_table.Statement.{statement}
 use Rattle.machine.proofs.tables.one_table.Tie as tie
 
 fuel-from-requires : tie.Need-fuel-from-requires
-fuel-from-requires c κs = search needs
+fuel-from-requires c κs = search rules
 
 limiter-from-requires : tie.Need-limiter-from-requires
-limiter-from-requires c κs = search needs
+limiter-from-requires c κs = search rules
 
 perform-requires : tie.Need-perform-requires
-perform-requires c κs = search needs
+perform-requires c κs = search rules
 
 table-out-requires : tie.Need-table-out-requires
-table-out-requires c κs = search needs
+table-out-requires c κs = search rules
 
 same_length : tie.Need-same-length
-same_length c = search needs
+same_length c = search rules
 
 returns : tie.Need-returns
 returns c =

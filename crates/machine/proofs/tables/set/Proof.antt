@@ -1,5 +1,5 @@
 -- `machine::tables::set` meets its contract. Assumes nothing.
-use Rattle.types.proofs.Prelude.{ap, ◌∙◌, needs}
+use Rattle.types.proofs.Prelude.{ap, ◌∙◌, rules}
 use Rattle.types.specs.Done.{done}
 use Rattle.table.specs.declared.grow.GrownTable.{GrownTable}
 use Rattle.machine.specs.Tables.{table_stored}
@@ -7,13 +7,13 @@ use Rattle.machine.proofs.tables.set.Statement.{statement}
 use Rattle.machine.proofs.tables.set.Tie as tie
 
 set-requires : tie.Need-set-requires
-set-requires c κs = search needs
+set-requires c κs = search rules
 
 keep-requires : tie.Need-keep-requires
-keep-requires c κs = search needs
+keep-requires c κs = search rules
 
 same_length : tie.Need-same-length
-same_length c = search needs
+same_length c = search rules
 
 returns : tie.Need-returns
 returns c =

@@ -1,14 +1,14 @@
 -- `machine::tables::spanned` meets its contract. Assumes nothing.
-use Rattle.types.proofs.Prelude.{ap, ◌∙◌, now, needs}
+use Rattle.types.proofs.Prelude.{ap, ◌∙◌, now, rules}
 use Rattle.machine.specs.{Words.machine_from, Outcome.leaves}
 use Rattle.machine.proofs.tables.spanned.Statement.{statement}
 use Rattle.machine.proofs.tables.spanned.Tie as tie
 
 limiter-from-requires : tie.Need-limiter-from-requires
-limiter-from-requires c κs = search needs
+limiter-from-requires c κs = search rules
 
 leaves-requires : tie.Need-leaves-requires
-leaves-requires c κs = search needs
+leaves-requires c κs = search rules
 
 returns : tie.Need-returns
 returns c =

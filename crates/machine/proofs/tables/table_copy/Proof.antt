@@ -1,15 +1,15 @@
 -- `machine::tables::table_copy` meets its contract. Assumes nothing.
-use Rattle.types.proofs.Prelude.{◌≡◌, sym, ap, ◌∙◌, now, arith, pick_true, pick_false, both_left, both_right, both_true, lt-ltb, le-ltb, needs}
+use Rattle.types.proofs.Prelude.{◌≡◌, sym, ap, ◌∙◌, now, arith, pick_true, pick_false, both_left, both_right, both_true, lt-ltb, le-ltb, rules}
 use Rattle.machine.specs.{Words.machine_from, declared.records.Counts.Counts, declared.outcome.Outcome.Outcome, Tables.copy_on}
 use Rattle.types.specs.Done.{done}
 use Rattle.machine.proofs.tables.table_copy.Statement.{statement}
 use Rattle.machine.proofs.tables.table_copy.Tie as tie
 
 counts-from-requires : tie.Need-counts-from-requires
-counts-from-requires c κs = search needs
+counts-from-requires c κs = search rules
 
 refuses-requires : tie.Need-refuses-requires
-refuses-requires c κs = search needs
+refuses-requires c κs = search rules
 
 returns : tie.Need-returns
 unfolding copy_on
@@ -20,7 +20,7 @@ returns c =
     ap (λ (o : Outcome). done o (now a.cells)) c.refuses.ensures ∙ sym (pick_false _ _ _ (both_left _ _ (le-ltb a.into m.counts.tables (omega (arith, e, c.before.if1.true)))))
 
 refuses-requires-2 : tie.Need-refuses-requires-2
-refuses-requires-2 c κs = search needs
+refuses-requires-2 c κs = search rules
 
 returns-2 : tie.Need-returns-2
 unfolding copy_on
@@ -33,10 +33,10 @@ returns-2 c =
 copy-known-requires : tie.Need-copy-known-requires
 copy-known-requires c κs =
     let e = ap (λ (k : Counts). k.tables) c.before.before.before.counts-from.ensures in
-    search needs
+    search rules
 
 same_length : tie.Need-same-length
-same_length c = search needs
+same_length c = search rules
 
 returns-3 : tie.Need-returns-3
 unfolding copy_on

@@ -1,5 +1,5 @@
 -- `machine::words::put` meets its contract. Assumes nothing.
-use Rattle.types.proofs.Prelude.{◌-◌, ◌≤◌, needs, length, length-set, take, ◌≡◌, refl, arith}
+use Rattle.types.proofs.Prelude.{◌-◌, ◌≤◌, rules, length, length-set, take, ◌≡◌, refl, arith}
 use Rattle.machine.proofs.Rows.{put_none, put_turn, put_done}
 use Rattle.types.specs.Span.{over}
 use Rattle.machine.proofs.words.put.Statement.{statement}
@@ -15,25 +15,25 @@ loop-holds : tie.Need-loop-init invariant_loop decreases_loop
 loop-holds c = (put_none _ c.args.row.now c.args.at, omega arith, refl)
 
 mul_words : tie.Need-overflow-mul-words invariant_loop decreases_loop
-mul_words c = search needs
+mul_words c = search rules
 
 shared-slice-read-words : tie.Need-shared-slice-read-words invariant_loop decreases_loop
-shared-slice-read-words c = search needs
+shared-slice-read-words c = search rules
 
 add_words : tie.Need-overflow-add-words invariant_loop decreases_loop
-add_words c = search needs
+add_words c = search rules
 
 mul-words-2 : tie.Need-overflow-mul-words-2 invariant_loop decreases_loop
-mul-words-2 c = search needs
+mul-words-2 c = search rules
 
 slice-write-words : tie.Need-slice-write-words invariant_loop decreases_loop
-slice-write-words c = search needs
+slice-write-words c = search rules
 
 add-i : tie.Need-overflow-add-i invariant_loop decreases_loop
-add-i c = search needs
+add-i c = search rules
 
 loop-less : tie.Need-loop-smaller invariant_loop decreases_loop
-loop-less c = search needs
+loop-less c = search rules
 
 loop-again : tie.Need-loop-preserved invariant_loop decreases_loop
 loop-again c =

@@ -1,5 +1,5 @@
 -- `machine::words::put_bytes` meets its contract. Assumes nothing.
-use Rattle.types.proofs.Prelude.{◌-◌, ◌≤◌, needs, length, length-set, take, ◌≡◌, refl, arith}
+use Rattle.types.proofs.Prelude.{◌-◌, ◌≤◌, rules, length, length-set, take, ◌≡◌, refl, arith}
 use Rattle.machine.proofs.Rows.{put_none, put_turn, put_done}
 use Rattle.types.specs.Span.{over}
 use Rattle.machine.proofs.words.put_bytes.Statement.{statement}
@@ -15,25 +15,25 @@ loop-holds : tie.Need-loop-init invariant_loop decreases_loop
 loop-holds c = (put_none _ c.before.before.args.row.now c.before.before.args.at, omega arith, refl)
 
 shared-slice-read-byte-word : tie.Need-shared-slice-read-byte-word invariant_loop decreases_loop
-shared-slice-read-byte-word c = search needs
+shared-slice-read-byte-word c = search rules
 
 byte-word-requires : tie.Need-byte-word-requires invariant_loop decreases_loop
-byte-word-requires c κs = search needs
+byte-word-requires c κs = search rules
 
 add_words : tie.Need-overflow-add-words invariant_loop decreases_loop
-add_words c = search needs
+add_words c = search rules
 
 mul_words : tie.Need-overflow-mul-words invariant_loop decreases_loop
-mul_words c = search needs
+mul_words c = search rules
 
 slice-write-words : tie.Need-slice-write-words invariant_loop decreases_loop
-slice-write-words c = search needs
+slice-write-words c = search rules
 
 add-i : tie.Need-overflow-add-i invariant_loop decreases_loop
-add-i c = search needs
+add-i c = search rules
 
 loop-less : tie.Need-loop-smaller invariant_loop decreases_loop
-loop-less c = search needs
+loop-less c = search rules
 
 loop-again : tie.Need-loop-preserved invariant_loop decreases_loop
 loop-again c =

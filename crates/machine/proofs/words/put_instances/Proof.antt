@@ -1,21 +1,21 @@
 -- `machine::words::put_instances` meets its contract. Assumes nothing.
-use Rattle.types.proofs.Prelude.{◌++◌, refl, arith, needs}
+use Rattle.types.proofs.Prelude.{◌++◌, refl, arith, rules}
 use Rattle.machine.specs.Words.{rows_of, memory_words, table_words, segment_words}
 use Rattle.machine.proofs.Rows.{then_both, length_both}
 use Rattle.machine.proofs.words.put_instances.Statement.{statement}
 use Rattle.machine.proofs.words.put_instances.Tie as tie
 
 put-memories-requires : tie.Need-put-memories-requires
-put-memories-requires c κs = search needs
+put-memories-requires c κs = search rules
 
 put-tables-requires : tie.Need-put-tables-requires
-put-tables-requires c κs = search needs
+put-tables-requires c κs = search rules
 
 put-segments-requires : tie.Need-put-segments-requires
-put-segments-requires c κs = search needs
+put-segments-requires c κs = search rules
 
 same_length : tie.Need-same-length
-same_length c = search needs
+same_length c = search rules
 
 returns : tie.Need-returns
 returns c =

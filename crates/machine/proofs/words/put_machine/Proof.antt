@@ -1,18 +1,18 @@
 -- `machine::words::put_machine` meets its contract. Assumes nothing.
-use Rattle.types.proofs.Prelude.{refl, arith, needs}
+use Rattle.types.proofs.Prelude.{refl, arith, rules}
 use Rattle.machine.specs.Words.{instance_words, state_words, words_of}
 use Rattle.machine.proofs.Rows.{then_over, length_both}
 use Rattle.machine.proofs.words.put_machine.Statement.{statement}
 use Rattle.machine.proofs.words.put_machine.Tie as tie
 
 put-instances-requires : tie.Need-put-instances-requires
-put-instances-requires c κs = search needs
+put-instances-requires c κs = search rules
 
 put-state-requires : tie.Need-put-state-requires
-put-state-requires c κs = search needs
+put-state-requires c κs = search rules
 
 same_length : tie.Need-same-length
-same_length c = search needs
+same_length c = search rules
 
 returns : tie.Need-returns
 unfolding words_of

@@ -1,5 +1,5 @@
 -- `machine::words::put_memories` meets its contract. Assumes nothing.
-use Rattle.types.proofs.Prelude.{◌-◌, ◌≤◌, needs, length, take, ◌≡◌, refl, ◌∙◌, arith}
+use Rattle.types.proofs.Prelude.{◌-◌, ◌≤◌, rules, length, take, ◌≡◌, refl, ◌∙◌, arith}
 use Rattle.machine.specs.{Machine.no_memory, Words.memory_words, Words.rows_of}
 use Rattle.machine.proofs.{Rows.rows_none, Rows.rows_turn, Rows.rows_done, Rows.rows_length, Lengths.length_memory}
 use Rattle.types.specs.Span.{over}
@@ -21,31 +21,31 @@ loop-holds c = (
 )
 
 mul-memory-words : tie.Need-overflow-mul-memory-words invariant_loop decreases_loop
-mul-memory-words c = search needs
+mul-memory-words c = search rules
 
 array-copy-out-memory-words : tie.Need-array-copy-out-memory-words invariant_loop decreases_loop
-array-copy-out-memory-words c = search needs
+array-copy-out-memory-words c = search rules
 
 memory-words-requires : tie.Need-memory-words-requires invariant_loop decreases_loop
-memory-words-requires c κs = search needs
+memory-words-requires c κs = search rules
 
 mul-put : tie.Need-overflow-mul-put invariant_loop decreases_loop
-mul-put c = search needs
+mul-put c = search rules
 
 add-put : tie.Need-overflow-add-put invariant_loop decreases_loop
-add-put c = search needs
+add-put c = search rules
 
 slice-aggregate-put : tie.Need-slice-aggregate-put invariant_loop decreases_loop
-slice-aggregate-put c = search needs
+slice-aggregate-put c = search rules
 
 put-requires : tie.Need-put-requires invariant_loop decreases_loop
-put-requires c κs = search needs
+put-requires c κs = search rules
 
 add-i : tie.Need-overflow-add-i invariant_loop decreases_loop
-add-i c = search needs
+add-i c = search rules
 
 loop-less : tie.Need-loop-smaller invariant_loop decreases_loop
-loop-less c = search needs
+loop-less c = search rules
 
 loop-again : tie.Need-loop-preserved invariant_loop decreases_loop
 loop-again c =

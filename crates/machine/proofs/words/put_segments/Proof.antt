@@ -1,5 +1,5 @@
 -- `machine::words::put_segments` meets its contract. Assumes nothing.
-use Rattle.types.proofs.Prelude.{◌-◌, ◌≤◌, needs, length, take, ◌≡◌, refl, ◌∙◌, arith}
+use Rattle.types.proofs.Prelude.{◌-◌, ◌≤◌, rules, length, take, ◌≡◌, refl, ◌∙◌, arith}
 use Rattle.machine.specs.{Machine.no_segment, Words.segment_words, Words.rows_of}
 use Rattle.machine.proofs.{Rows.rows_none, Rows.rows_turn, Rows.rows_done, Rows.rows_length, Lengths.length_segment}
 use Rattle.types.specs.Span.{over}
@@ -21,31 +21,31 @@ loop-holds c = (
 )
 
 mul-segment-words : tie.Need-overflow-mul-segment-words invariant_loop decreases_loop
-mul-segment-words c = search needs
+mul-segment-words c = search rules
 
 array-copy-out-segment-words : tie.Need-array-copy-out-segment-words invariant_loop decreases_loop
-array-copy-out-segment-words c = search needs
+array-copy-out-segment-words c = search rules
 
 segment-words-requires : tie.Need-segment-words-requires invariant_loop decreases_loop
-segment-words-requires c κs = search needs
+segment-words-requires c κs = search rules
 
 mul-put : tie.Need-overflow-mul-put invariant_loop decreases_loop
-mul-put c = search needs
+mul-put c = search rules
 
 add-put : tie.Need-overflow-add-put invariant_loop decreases_loop
-add-put c = search needs
+add-put c = search rules
 
 slice-aggregate-put : tie.Need-slice-aggregate-put invariant_loop decreases_loop
-slice-aggregate-put c = search needs
+slice-aggregate-put c = search rules
 
 put-requires : tie.Need-put-requires invariant_loop decreases_loop
-put-requires c κs = search needs
+put-requires c κs = search rules
 
 add-i : tie.Need-overflow-add-i invariant_loop decreases_loop
-add-i c = search needs
+add-i c = search rules
 
 loop-less : tie.Need-loop-smaller invariant_loop decreases_loop
-loop-less c = search needs
+loop-less c = search rules
 
 loop-again : tie.Need-loop-preserved invariant_loop decreases_loop
 loop-again c =

@@ -1,39 +1,39 @@
 -- `machine::words::put_standing` meets its contract. Assumes nothing.
-use Rattle.types.proofs.Prelude.{refl, ap, ◌∙◌, arith, needs}
+use Rattle.types.proofs.Prelude.{refl, ap, ◌∙◌, arith, rules}
 use Rattle.types.specs.Span.{over}
 use Rattle.machine.proofs.{Rows.then_both, Lengths.length_count, Lengths.length_fuel}
 use Rattle.machine.proofs.words.put_standing.Statement.{statement}
 use Rattle.machine.proofs.words.put_standing.Tie as tie
 
 count-words-requires : tie.Need-count-words-requires
-count-words-requires c κs = search needs
+count-words-requires c κs = search rules
 
 fuel-words-requires : tie.Need-fuel-words-requires
-fuel-words-requires c κs = search needs
+fuel-words-requires c κs = search rules
 
 place-words-requires : tie.Need-place-words-requires
-place-words-requires c κs = search needs
+place-words-requires c κs = search rules
 
 slice-aggregate-put : tie.Need-slice-aggregate-put
-slice-aggregate-put c = search needs
+slice-aggregate-put c = search rules
 
 put-requires : tie.Need-put-requires
-put-requires c κs = search needs
+put-requires c κs = search rules
 
 slice-aggregate-put-2 : tie.Need-slice-aggregate-put-2
-slice-aggregate-put-2 c = search needs
+slice-aggregate-put-2 c = search rules
 
 put-requires-2 : tie.Need-put-requires-2
-put-requires-2 c κs = search needs
+put-requires-2 c κs = search rules
 
 slice-aggregate-put-3 : tie.Need-slice-aggregate-put-3
-slice-aggregate-put-3 c = search needs
+slice-aggregate-put-3 c = search rules
 
 put-requires-3 : tie.Need-put-requires-3
-put-requires-3 c κs = search needs
+put-requires-3 c κs = search rules
 
 same_length : tie.Need-same-length
-same_length c = search needs
+same_length c = search rules
 
 returns : tie.Need-returns
 returns c =

@@ -1,5 +1,5 @@
 -- `machine::words::put_state` meets its contract. Assumes nothing.
-use Rattle.types.proofs.Prelude.{◌≡◌, refl, sym, ◌∙◌, arith, length, needs}
+use Rattle.types.proofs.Prelude.{◌≡◌, refl, sym, ◌∙◌, arith, length, rules}
 use lib.ListN.{length-map}
 use Rattle.machine.specs.Words.{standing_words}
 use Rattle.machine.proofs.{Lengths.length_standing, Rows.then_over, Rows.length_both}
@@ -7,10 +7,10 @@ use Rattle.machine.proofs.words.put_state.Statement.{statement}
 use Rattle.machine.proofs.words.put_state.Tie as tie
 
 put-standing-requires : tie.Need-put-standing-requires
-put-standing-requires c κs = search needs
+put-standing-requires c κs = search rules
 
 slice-aggregate-put-bytes : tie.Need-slice-aggregate-put-bytes
-slice-aggregate-put-bytes c = search needs
+slice-aggregate-put-bytes c = search rules
 
 put-bytes-requires : tie.Need-put-bytes-requires
 put-bytes-requires c κs =
@@ -19,7 +19,7 @@ put-bytes-requires c κs =
     omega (arith, long, c.before.before.before.before.before.before.before.before.requires, c.before.before.before.before.put-standing.auto.0)
 
 same_length : tie.Need-same-length
-same_length c = search needs
+same_length c = search rules
 
 returns : tie.Need-returns
 returns c =

@@ -1,5 +1,5 @@
 -- `machine::words::row_of` meets its contract. Assumes nothing.
-use Rattle.types.proofs.Prelude.{ℕ, sym, ap, ◌∙◌, length, length-replicate, needs}
+use Rattle.types.proofs.Prelude.{ℕ, sym, ap, ◌∙◌, length, length-replicate, rules}
 use mir.Syntax.{w8}
 use lib.ListN.{length-map}
 use borrow.Author.Rules.{length_unmapped, elem_fits_field}
@@ -9,13 +9,13 @@ use Rattle.machine.proofs.words.row_of.Statement.{statement}
 use Rattle.machine.proofs.words.row_of.Tie as tie
 
 blank-requires : tie.Need-blank-requires
-blank-requires c κs = search needs
+blank-requires c κs = search rules
 
 slice-aggregate-put-machine : tie.Need-slice-aggregate-put-machine
-slice-aggregate-put-machine c = search needs
+slice-aggregate-put-machine c = search rules
 
 put-machine-requires : tie.Need-put-machine-requires
-put-machine-requires c κs = search needs
+put-machine-requires c κs = search rules
 
 returns : tie.Need-returns
 returns c =

@@ -1,5 +1,5 @@
 -- `machine::words::script_from` meets its contract. Assumes nothing.
-use Rattle.types.proofs.Prelude.{ℕ, ◌+◌, ◌-◌, ◌*◌, ◌≤◌, ◌<◌, needs, drop, get_or, length, replicate, set, take, take_all, List, ◌++◌, append-nil, ◌≡◌, refl, sym}
+use Rattle.types.proofs.Prelude.{ℕ, ◌+◌, ◌-◌, ◌*◌, ◌≤◌, ◌<◌, rules, drop, get_or, length, replicate, set, take, take_all, List, ◌++◌, append-nil, ◌≡◌, refl, sym}
 use Rattle.types.proofs.{Prelude.ap, Prelude.◌∙◌, Prelude.arith, Scripts.row_more}
 use Rattle.machine.specs.Words.{script_at, answer_from, records_from, limiter_from}
 use Rattle.machine.proofs.Places.{records_at, records_length}
@@ -34,25 +34,25 @@ loop-holds : tie.Need-loop-init invariant_loop decreases_loop
 loop-holds c = (omega arith, refl)
 
 add-answer-from : tie.Need-overflow-add-answer-from invariant_loop decreases_loop
-add-answer-from c = search needs
+add-answer-from c = search rules
 
 mul-answer-from : tie.Need-overflow-mul-answer-from invariant_loop decreases_loop
-mul-answer-from c = search needs
+mul-answer-from c = search rules
 
 shared-slice-read-answer-from : tie.Need-shared-slice-read-answer-from invariant_loop decreases_loop
-shared-slice-read-answer-from c = search needs
+shared-slice-read-answer-from c = search rules
 
 answer-from-requires : tie.Need-answer-from-requires invariant_loop decreases_loop
-answer-from-requires c κs = search needs
+answer-from-requires c κs = search rules
 
 array-write-script : tie.Need-array-write-script invariant_loop decreases_loop
-array-write-script c = search needs
+array-write-script c = search rules
 
 add-i : tie.Need-overflow-add-i invariant_loop decreases_loop
-add-i c = search needs
+add-i c = search rules
 
 loop-less : tie.Need-loop-smaller invariant_loop decreases_loop
-loop-less c = search needs
+loop-less c = search rules
 
 loop-again : tie.Need-loop-preserved invariant_loop decreases_loop
 loop-again c =

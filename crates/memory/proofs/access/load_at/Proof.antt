@@ -1,18 +1,18 @@
 -- `memory::access::load_at` meets its contract. Assumes nothing.
-use Rattle.types.proofs.Prelude.{needs, ◌≡◌}
+use Rattle.types.proofs.Prelude.{rules, ◌≡◌}
 use Rattle.memory.proofs.Accesses.{address_found}
 use Rattle.memory.specs.Access.{address_of, load_at, load_width, width_bytes}
 use Rattle.memory.proofs.access.load_at.Statement.{statement}
 use Rattle.memory.proofs.access.load_at.Tie as tie
 
 width-requires : tie.Need-width-requires
-width-requires c κs = search needs
+width-requires c κs = search rules
 
 bytes-requires : tie.Need-bytes-requires
-bytes-requires c κs = search needs
+bytes-requires c κs = search rules
 
 locate-requires : tie.Need-locate-requires
-locate-requires c κs = search needs
+locate-requires c κs = search rules
 
 load-found-requires : tie.Need-load-found-requires
 load-found-requires c κs =

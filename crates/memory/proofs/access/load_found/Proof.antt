@@ -1,14 +1,14 @@
 -- `memory::access::load_found` meets its contract. Assumes nothing.
-use Rattle.types.proofs.Prelude.{needs, refl, arith}
+use Rattle.types.proofs.Prelude.{rules, refl, arith}
 use Rattle.memory.specs.Access.{load_found}
 use Rattle.memory.proofs.access.load_found.Statement.{statement}
 use Rattle.memory.proofs.access.load_found.Tie as tie
 
 enum_told : tie.Need-enum-told
-enum_told c = search needs
+enum_told c = search rules
 
 enum-known-found : tie.Need-enum-known-found
-enum-known-found c = search needs
+enum-known-found c = search rules
 
 add-load-value : tie.Need-overflow-add-load-value
 add-load-value c = record { fits = omega (arith, c.before.before.before.before.requires c.before.found.given.0.0 c.before.found.given.1) }

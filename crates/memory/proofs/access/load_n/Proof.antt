@@ -1,5 +1,5 @@
 -- `memory::access::load_n` meets its contract. Assumes nothing.
-use Rattle.types.proofs.Prelude.{◌*◌, ◌+◌, ◌-◌, ◌<◌, ◌^◌, ◌≤◌, needs, ◌≡◌, arith}
+use Rattle.types.proofs.Prelude.{◌*◌, ◌+◌, ◌-◌, ◌<◌, ◌^◌, ◌≤◌, rules, ◌≡◌, arith}
 use Rattle.memory.proofs.Bytes.{load_all, load_more, load_none, load_room, load_small, load_zero}
 use Rattle.memory.specs.LittleEndian.{le_value}
 use Rattle.types.specs.Span.{cut}
@@ -16,7 +16,7 @@ loop-holds : tie.Need-loop-init invariant_loop decreases_loop
 loop-holds c = (load_none _ _ _, load_zero _, omega arith)
 
 sub-i : tie.Need-overflow-sub-i invariant_loop decreases_loop
-sub-i c = search needs
+sub-i c = search rules
 
 mul-r : tie.Need-overflow-mul-r invariant_loop decreases_loop
 mul-r c =
@@ -26,13 +26,13 @@ mul-r c =
     omega arith
 
 add_wide : tie.Need-overflow-add-wide invariant_loop decreases_loop
-add_wide c = search needs
+add_wide c = search rules
 
 shared-slice-read-wide : tie.Need-shared-slice-read-wide invariant_loop decreases_loop
-shared-slice-read-wide c = search needs
+shared-slice-read-wide c = search rules
 
 wide-requires : tie.Need-wide-requires invariant_loop decreases_loop
-wide-requires c κs = search needs
+wide-requires c κs = search rules
 
 add_r : tie.Need-overflow-add-r invariant_loop decreases_loop
 add_r c =
@@ -42,7 +42,7 @@ add_r c =
     omega arith
 
 loop-less : tie.Need-loop-smaller invariant_loop decreases_loop
-loop-less c = search needs
+loop-less c = search rules
 
 loop-again : tie.Need-loop-preserved invariant_loop decreases_loop
 loop-again c =

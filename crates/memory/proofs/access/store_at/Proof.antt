@@ -1,18 +1,18 @@
 -- `memory::access::store_at` meets its contract. Assumes nothing.
-use Rattle.types.proofs.Prelude.{needs, ◌≡◌}
+use Rattle.types.proofs.Prelude.{rules, ◌≡◌}
 use Rattle.memory.proofs.Accesses.{address_found}
 use Rattle.memory.specs.Access.{address_of, store_at, store_width, width_bytes}
 use Rattle.memory.proofs.access.store_at.Statement.{statement}
 use Rattle.memory.proofs.access.store_at.Tie as tie
 
 width-requires : tie.Need-width-requires
-width-requires c κs = search needs
+width-requires c κs = search rules
 
 bytes-requires : tie.Need-bytes-requires
-bytes-requires c κs = search needs
+bytes-requires c κs = search rules
 
 locate-requires : tie.Need-locate-requires
-locate-requires c κs = search needs
+locate-requires c κs = search rules
 
 store-found-requires : tie.Need-store-found-requires
 store-found-requires c κs =
@@ -22,7 +22,7 @@ store-found-requires c κs =
     address_found _ _ _ _ _ _ _ e s.requires
 
 same_length : tie.Need-same-length
-same_length c = search needs
+same_length c = search rules
 
 returns : tie.Need-returns
 unfolding store_at

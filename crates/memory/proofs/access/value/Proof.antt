@@ -1,5 +1,5 @@
 -- `memory::access::value` meets its contract. Assumes nothing.
-use Rattle.types.proofs.Prelude.{needs, ap, refl, arith}
+use Rattle.types.proofs.Prelude.{rules, ap, refl, arith}
 use Rattle.memory.proofs.Values.{narrow_fits, of_kind, plain, plain_fits, signed_32, signed_64, signs}
 use Rattle.memory.specs.Access.{extend}
 use mir.Syntax.{w16, w32, w64, w8}
@@ -9,7 +9,7 @@ use Rattle.memory.proofs.access.value.Statement.{statement}
 use Rattle.memory.proofs.access.value.Tie as tie
 
 enum_told : tie.Need-enum-told
-enum_told c = search needs
+enum_told c = search rules
 
 signed-requires : tie.Need-signed-requires
 signed-requires c κs = signs _ I32 _ c.enum_told.given.1 c.before.before.requires w32 refl (omega arith) (omega arith)
@@ -18,28 +18,28 @@ cast-t5 : tie.Need-overflow-cast-t5
 cast-t5 c = narrow_fits _ I32 _ c.before.enum_told.given.1 c.before.before.before.requires w32 refl (omega arith) (omega arith) _ c.signed.ensures
 
 enum-told-2 : tie.Need-enum-told-2
-enum-told-2 c = search needs
+enum-told-2 c = search rules
 
 signed64-requires : tie.Need-signed64-requires
-signed64-requires c κs = search needs
+signed64-requires c κs = search rules
 
 enum-told-3 : tie.Need-enum-told-3
-enum-told-3 c = search needs
+enum-told-3 c = search rules
 
 cast-from-f32-bits : tie.Need-overflow-cast-from-f32-bits
 cast-from-f32-bits c = record { fits = of_kind _ F32 _ c.enum-told3.given.1 c.before.before.requires }
 
 from-f32-bits-requires : tie.Need-from-f32-bits-requires
-from-f32-bits-requires c κs = search needs
+from-f32-bits-requires c κs = search rules
 
 enum-told-4 : tie.Need-enum-told-4
-enum-told-4 c = search needs
+enum-told-4 c = search rules
 
 from-f64-bits-requires : tie.Need-from-f64-bits-requires
-from-f64-bits-requires c κs = search needs
+from-f64-bits-requires c κs = search rules
 
 enum-told-5 : tie.Need-enum-told-5
-enum-told-5 c = search needs
+enum-told-5 c = search rules
 
 signed-requires-2 : tie.Need-signed-requires-2
 signed-requires-2 c κs = signs _ I32From8S _ c.enum-told5.given.1 c.before.before.requires w8 refl (omega arith) (omega arith)
@@ -48,13 +48,13 @@ cast-t9 : tie.Need-overflow-cast-t9
 cast-t9 c = narrow_fits _ I32From8S _ c.before.enum-told5.given.1 c.before.before.before.requires w8 refl (omega arith) (omega arith) _ c.signed2.ensures
 
 enum-told-6 : tie.Need-enum-told-6
-enum-told-6 c = search needs
+enum-told-6 c = search rules
 
 cast-t10 : tie.Need-overflow-cast-t10
 cast-t10 c = plain_fits _ I32From8U _ c.enum-told6.given.1 c.before.before.requires w32 (omega arith)
 
 enum-told-7 : tie.Need-enum-told-7
-enum-told-7 c = search needs
+enum-told-7 c = search rules
 
 signed-requires-3 : tie.Need-signed-requires-3
 signed-requires-3 c κs = signs _ I32From16S _ c.enum-told7.given.1 c.before.before.requires w16 refl (omega arith) (omega arith)
@@ -63,43 +63,43 @@ cast-t12 : tie.Need-overflow-cast-t12
 cast-t12 c = narrow_fits _ I32From16S _ c.before.enum-told7.given.1 c.before.before.before.requires w16 refl (omega arith) (omega arith) _ c.signed3.ensures
 
 enum-told-8 : tie.Need-enum-told-8
-enum-told-8 c = search needs
+enum-told-8 c = search rules
 
 cast-t13 : tie.Need-overflow-cast-t13
 cast-t13 c = plain_fits _ I32From16U _ c.enum-told8.given.1 c.before.before.requires w32 (omega arith)
 
 enum-told-9 : tie.Need-enum-told-9
-enum-told-9 c = search needs
+enum-told-9 c = search rules
 
 signed-requires-4 : tie.Need-signed-requires-4
 signed-requires-4 c κs = signs _ I64From8S _ c.enum-told9.given.1 c.before.before.requires w8 refl (omega arith) (omega arith)
 
 enum-told-10 : tie.Need-enum-told-10
-enum-told-10 c = search needs
+enum-told-10 c = search rules
 
 cast-t15 : tie.Need-overflow-cast-t15
 cast-t15 c = plain_fits _ I64From8U _ c.enum-told10.given.1 c.before.before.requires w64 (omega arith)
 
 enum-told-11 : tie.Need-enum-told-11
-enum-told-11 c = search needs
+enum-told-11 c = search rules
 
 signed-requires-5 : tie.Need-signed-requires-5
 signed-requires-5 c κs = signs _ I64From16S _ c.enum-told11.given.1 c.before.before.requires w16 refl (omega arith) (omega arith)
 
 enum-told-12 : tie.Need-enum-told-12
-enum-told-12 c = search needs
+enum-told-12 c = search rules
 
 cast-t17 : tie.Need-overflow-cast-t17
 cast-t17 c = plain_fits _ I64From16U _ c.enum-told12.given.1 c.before.before.requires w64 (omega arith)
 
 enum-told-13 : tie.Need-enum-told-13
-enum-told-13 c = search needs
+enum-told-13 c = search rules
 
 signed-requires-6 : tie.Need-signed-requires-6
 signed-requires-6 c κs = signs _ I64From32S _ c.enum-told13.given.1 c.before.before.requires w32 refl (omega arith) (omega arith)
 
 enum-told-14 : tie.Need-enum-told-14
-enum-told-14 c = search needs
+enum-told-14 c = search rules
 
 cast-t19 : tie.Need-overflow-cast-t19
 cast-t19 c = plain_fits _ I64From32U _ c.enum-told14.given.1 c.before.before.requires w64 (omega arith)
@@ -110,7 +110,7 @@ returns c = signed_32 _ I32 _ c.before.enum_told.given.1 c.before.before.before.
 
 returns-2 : tie.Need-returns-2
 unfolding extend
-returns-2 c = rw c.before.enum-told2.given.1 (ap value.I64 (search needs))
+returns-2 c = rw c.before.enum-told2.given.1 (ap value.I64 (search rules))
 
 returns-3 : tie.Need-returns-3
 unfolding extend

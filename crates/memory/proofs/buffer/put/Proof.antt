@@ -1,5 +1,5 @@
 -- `memory::buffer::put` meets its contract. Assumes nothing.
-use Rattle.types.proofs.Prelude.{◌-◌, ◌≤◌, needs, length, length-set, take, ◌≡◌, refl, arith}
+use Rattle.types.proofs.Prelude.{◌-◌, ◌≤◌, rules, length, length-set, take, ◌≡◌, refl, arith}
 use Rattle.types.proofs.Moves.{put_all, put_none, put_turn}
 use Rattle.types.specs.Span.{over}
 use Rattle.memory.proofs.buffer.put.Statement.{statement}
@@ -15,16 +15,16 @@ loop-holds : tie.Need-loop-init invariant_loop decreases_loop
 loop-holds c = (put_none _ c.args.source.now, omega arith, refl)
 
 shared-slice-read-part : tie.Need-shared-slice-read-part invariant_loop decreases_loop
-shared-slice-read-part c = search needs
+shared-slice-read-part c = search rules
 
 slice-write-part : tie.Need-slice-write-part invariant_loop decreases_loop
-slice-write-part c = search needs
+slice-write-part c = search rules
 
 add-i : tie.Need-overflow-add-i invariant_loop decreases_loop
-add-i c = search needs
+add-i c = search rules
 
 loop-less : tie.Need-loop-smaller invariant_loop decreases_loop
-loop-less c = search needs
+loop-less c = search rules
 
 loop-again : tie.Need-loop-preserved invariant_loop decreases_loop
 loop-again c =

@@ -1,5 +1,5 @@
 -- `memory::buffer::put_number` meets its contract. Assumes nothing.
-use Rattle.types.proofs.Prelude.{◌-◌, ◌≤◌, needs, length, length-set, take, ◌++◌, ◌≡◌, refl, arith}
+use Rattle.types.proofs.Prelude.{◌-◌, ◌≤◌, rules, length, length-set, take, ◌++◌, ◌≡◌, refl, arith}
 use Rattle.memory.proofs.Bytes.{store_all, store_more, store_none}
 use Rattle.memory.specs.LittleEndian.{le_bytes}
 use Rattle.memory.proofs.buffer.put_number.Statement.{statement}
@@ -15,16 +15,16 @@ loop-holds : tie.Need-loop-init invariant_loop decreases_loop
 loop-holds c = (store_none _ _, omega arith, refl)
 
 cast-part : tie.Need-overflow-cast-part invariant_loop decreases_loop
-cast-part c = search needs
+cast-part c = search rules
 
 slice-write-part : tie.Need-slice-write-part invariant_loop decreases_loop
-slice-write-part c = search needs
+slice-write-part c = search rules
 
 add-i : tie.Need-overflow-add-i invariant_loop decreases_loop
-add-i c = search needs
+add-i c = search rules
 
 loop-less : tie.Need-loop-smaller invariant_loop decreases_loop
-loop-less c = search needs
+loop-less c = search rules
 
 loop-again : tie.Need-loop-preserved invariant_loop decreases_loop
 loop-again c =

@@ -1,14 +1,14 @@
 -- `memory::grow::reach_pages` meets its contract. Assumes nothing.
-use Rattle.types.proofs.Prelude.{known_test, needs}
+use Rattle.types.proofs.Prelude.{known_test, rules}
 use Rattle.memory.proofs.Growths.{reach_none, reach_some}
 use Rattle.memory.proofs.grow.reach_pages.Statement.{statement}
 use Rattle.memory.proofs.grow.reach_pages.Tie as tie
 
 may-have-requires : tie.Need-may-have-requires
-may-have-requires c κs = search needs
+may-have-requires c κs = search rules
 
 byte-size-requires : tie.Need-byte-size-requires
-byte-size-requires c κs = search needs
+byte-size-requires c κs = search rules
 
 returns : tie.Need-returns
 returns c = search (reach_some, known_test)

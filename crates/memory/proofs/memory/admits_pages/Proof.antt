@@ -1,13 +1,13 @@
 -- `memory::memory::admits_pages` meets its contract. Assumes nothing.
-use Rattle.types.proofs.Prelude.{cases, needs}
+use Rattle.types.proofs.Prelude.{cases, rules}
 use Rattle.memory.proofs.memory.admits_pages.Statement.{statement}
 use Rattle.memory.proofs.memory.admits_pages.Tie as tie
 
 within-bound-requires : tie.Need-within-bound-requires
-within-bound-requires c κs = search needs
+within-bound-requires c κs = search rules
 
 admits-requires : tie.Need-admits-requires
-admits-requires c κs = search needs
+admits-requires c κs = search rules
 
 returns : tie.Need-returns
 returns c = search cases

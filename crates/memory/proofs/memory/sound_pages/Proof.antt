@@ -1,5 +1,5 @@
 -- `memory::memory::sound_pages` meets its contract. Assumes nothing.
-use Rattle.types.proofs.Prelude.{known_test, needs, not-true, not-false}
+use Rattle.types.proofs.Prelude.{known_test, rules, not-true, not-false}
 use Rattle.types.proofs.Held.{held_below, held_past, held_free, held_above, held_by}
 use Rattle.memory.proofs.memory.sound_pages.Statement.{statement}
 use Rattle.memory.proofs.memory.sound_pages.Tie as tie
@@ -8,7 +8,7 @@ returns : tie.Need-returns
 returns c = search held_below
 
 within-bound-requires : tie.Need-within-bound-requires
-within-bound-requires c κs = search needs
+within-bound-requires c κs = search rules
 
 returns-2 : tie.Need-returns-2
 returns-2 c = search (held_past, known_test, not-true)
@@ -20,7 +20,7 @@ returns-4 : tie.Need-returns-4
 returns-4 c = search (held_above, not-false)
 
 within-bound-requires-2 : tie.Need-within-bound-requires-2
-within-bound-requires-2 c κs = search needs
+within-bound-requires-2 c κs = search rules
 
 returns-5 : tie.Need-returns-5
 returns-5 c = search (held_by, known_test, not-false)

@@ -1,27 +1,27 @@
 -- `memory::new::by_type` meets its contract. Assumes nothing.
-use Rattle.types.proofs.{Prelude.refl, Prelude.needs, Dones.done_as}
+use Rattle.types.proofs.{Prelude.refl, Prelude.rules, Dones.done_as}
 use Rattle.memory.specs.stages.New.{by_type}
 use Rattle.memory.proofs.new.by_type.Statement.{statement}
 use Rattle.memory.proofs.new.by_type.Tie as tie
 
 enum-known-built : tie.Need-enum-known-built
-enum-known-built c = search needs
+enum-known-built c = search rules
 
 no-memory-requires : tie.Need-no-memory-requires
-no-memory-requires c κs = search needs
+no-memory-requires c κs = search rules
 
 enum-known-built-2 : tie.Need-enum-known-built-2
-enum-known-built-2 c = search needs
+enum-known-built-2 c = search rules
 
 make-typed-requires : tie.Need-make-typed-requires
-make-typed-requires c κs = search needs
+make-typed-requires c κs = search rules
 
 returns : tie.Need-returns
 unfolding by_type
 returns c = rw c.before.before.built.given.1 (done_as c.no-memory.ensures refl)
 
 same_length : tie.Need-same-length
-same_length c = search needs
+same_length c = search rules
 
 returns-2 : tie.Need-returns-2
 unfolding by_type

@@ -1,17 +1,17 @@
 -- `memory::new::make_by` meets its contract. Assumes nothing.
-use Rattle.types.proofs.{Prelude.refl, Prelude.needs, Dones.done_as}
+use Rattle.types.proofs.{Prelude.refl, Prelude.rules, Dones.done_as}
 use Rattle.memory.specs.stages.New.{made_by}
 use Rattle.memory.proofs.new.make_by.Statement.{statement}
 use Rattle.memory.proofs.new.make_by.Tie as tie
 
 enum-known-permit : tie.Need-enum-known-permit
-enum-known-permit c = search needs
+enum-known-permit c = search rules
 
 no-memory-requires : tie.Need-no-memory-requires
-no-memory-requires c κs = search needs
+no-memory-requires c κs = search rules
 
 enum_told : tie.Need-enum-told
-enum_told c = search needs
+enum_told c = search rules
 
 make-requires : tie.Need-make-requires
 make-requires c κs = c.before.before.before.before.requires c.before.enum_told.given.1
@@ -21,7 +21,7 @@ unfolding made_by
 returns c = rw c.before.before.permit.given.1 (done_as c.no-memory.ensures refl)
 
 same_length : tie.Need-same-length
-same_length c = search needs
+same_length c = search rules
 
 returns-2 : tie.Need-returns-2
 unfolding made_by

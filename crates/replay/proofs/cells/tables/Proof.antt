@@ -1,5 +1,5 @@
 -- `replay::cells::tables` meets its contract. Assumes nothing.
-use Rattle.types.proofs.Prelude.{◌-◌, ◌≤◌, needs}
+use Rattle.types.proofs.Prelude.{◌-◌, ◌≤◌, rules}
 use Rattle.replay.proofs.cells.tables.Statement.{statement}
 use Rattle.replay.proofs.cells.tables.Tie as tie
 
@@ -10,31 +10,31 @@ abbrev decreases_loop : tie.decreases-loop
 decreases_loop cells machine count i₀ i = 8 - i
 
 loop-holds : tie.Need-loop-init invariant_loop decreases_loop
-loop-holds c = search needs
+loop-holds c = search rules
 
 returns : tie.Need-returns invariant_loop decreases_loop
 returns c = tt
 
 mul-table : tie.Need-overflow-mul-table invariant_loop decreases_loop
-mul-table c = search needs
+mul-table c = search rules
 
 element-copy-out-table : tie.Need-element-copy-out-table invariant_loop decreases_loop
-element-copy-out-table c = search needs
+element-copy-out-table c = search rules
 
 table-requires : tie.Need-table-requires invariant_loop decreases_loop
-table-requires c κs = search needs
+table-requires c κs = search rules
 
 returns-2 : tie.Need-returns-2 invariant_loop decreases_loop
 returns-2 c = tt
 
 add-i : tie.Need-overflow-add-i invariant_loop decreases_loop
-add-i c = search needs
+add-i c = search rules
 
 loop-less : tie.Need-loop-smaller invariant_loop decreases_loop
-loop-less c = search needs
+loop-less c = search rules
 
 loop-again : tie.Need-loop-preserved invariant_loop decreases_loop
-loop-again c = search needs
+loop-again c = search rules
 
 returns-3 : tie.Need-returns-3 invariant_loop decreases_loop
 returns-3 c = tt

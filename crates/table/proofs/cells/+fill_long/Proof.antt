@@ -1,5 +1,5 @@
 -- `table::cells::fill_long` meets its contract. The measure is the number of cells. Assumes nothing.
-use Rattle.types.proofs.Prelude.{ℕ, ◌-◌, ◌/◌, ◌<◌, needs, arith}
+use Rattle.types.proofs.Prelude.{ℕ, ◌-◌, ◌/◌, ◌<◌, rules, arith}
 use Rattle.table.proofs.{Puts.fill_on, cells.+fill_long.statement, cells.+fill_long.Tie.close}
 use borrow.{Fn.Kinds.In, Fn.PlainCycle.Measures, Fn.PlainCycle.is, Fn.PlainCycle.falls, Fn.PlainCycle.and}
 use Rattle.table.proofs.cells.fill_long.Reads as fill_long
@@ -18,28 +18,28 @@ fill_long_below t =
     and 1 fill_long_kinds.ps (falls 1 fill_long_kinds.ps ◌<◌ μ_fill_long t) fill_long.Pre
 
 fill_long_fill_row_requires : (t : ℕ) → fill_long_lts.Need-fill-row-requires (fill_row_reads.Asked, fill_row_reads.Learnt, fill_long_below t, fill_long.Post) (fill_long_at t) fill_long.Post
-fill_long_fill_row_requires t c κs = search needs
+fill_long_fill_row_requires t c κs = search rules
 
 fill_long_fill_long_requires : (t : ℕ) → fill_long_lts.Need-fill-long-requires (fill_row_reads.Asked, fill_row_reads.Learnt, fill_long_below t, fill_long.Post) (fill_long_at t) fill_long.Post
-fill_long_fill_long_requires t c κs = search needs
+fill_long_fill_long_requires t c κs = search rules
 
 fill_long_add_fill_long : (t : ℕ) → fill_long_lts.Need-overflow-add-fill-long (fill_row_reads.Asked, fill_row_reads.Learnt, fill_long_below t, fill_long.Post) (fill_long_at t) fill_long.Post
-fill_long_add_fill_long t c = search needs
+fill_long_add_fill_long t c = search rules
 
 fill_long_sub_fill_long : (t : ℕ) → fill_long_lts.Need-overflow-sub-fill-long (fill_row_reads.Asked, fill_row_reads.Learnt, fill_long_below t, fill_long.Post) (fill_long_at t) fill_long.Post
-fill_long_sub_fill_long t c = search needs
+fill_long_sub_fill_long t c = search rules
 
 fill_long_fill_long_requires_2 : (t : ℕ) → fill_long_lts.Need-fill-long-requires-2 (fill_row_reads.Asked, fill_row_reads.Learnt, fill_long_below t, fill_long.Post) (fill_long_at t) fill_long.Post
-fill_long_fill_long_requires_2 t c κs = search needs
+fill_long_fill_long_requires_2 t c κs = search rules
 
 fill_long_same_length : (t : ℕ) → fill_long_lts.Need-same-length (fill_row_reads.Asked, fill_row_reads.Learnt, fill_long_below t, fill_long.Post) (fill_long_at t) fill_long.Post
-fill_long_same_length t c = search needs
+fill_long_same_length t c = search rules
 
 fill_long_returns : (t : ℕ) → fill_long_lts.Need-returns (fill_row_reads.Asked, fill_row_reads.Learnt, fill_long_below t, fill_long.Post) (fill_long_at t) fill_long.Post
 fill_long_returns t c = c.before.before.fill-row.ensures
 
 fill_long_same_length_2 : (t : ℕ) → fill_long_lts.Need-same-length-2 (fill_row_reads.Asked, fill_row_reads.Learnt, fill_long_below t, fill_long.Post) (fill_long_at t) fill_long.Post
-fill_long_same_length_2 t c = search needs
+fill_long_same_length_2 t c = search rules
 
 fill_long_returns_2 : (t : ℕ) → fill_long_lts.Need-returns-2 (fill_row_reads.Asked, fill_row_reads.Learnt, fill_long_below t, fill_long.Post) (fill_long_at t) fill_long.Post
 fill_long_returns_2 t c =

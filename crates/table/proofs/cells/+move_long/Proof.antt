@@ -1,5 +1,5 @@
 -- `table::cells::move_long` meets its contract. The measure is the number of cells. Assumes nothing.
-use Rattle.types.proofs.{Prelude.ℕ, Prelude.◌-◌, Prelude.◌/◌, Prelude.◌<◌, Prelude.needs, Prelude.arith, Moves.back_end, Moves.forth_on}
+use Rattle.types.proofs.{Prelude.ℕ, Prelude.◌-◌, Prelude.◌/◌, Prelude.◌<◌, Prelude.rules, Prelude.arith, Moves.back_end, Moves.forth_on}
 use borrow.{Fn.Kinds.In, Fn.PlainCycle.Measures, Fn.PlainCycle.is, Fn.PlainCycle.falls, Fn.PlainCycle.and}
 use Rattle.table.proofs.{cells.+move_long.statement, cells.+move_long.Tie.close}
 use Rattle.table.proofs.cells.move_long.Reads as move_long
@@ -18,46 +18,46 @@ move_long_below t =
     and 1 move_long_kinds.ps (falls 1 move_long_kinds.ps ◌<◌ μ_move_long t) move_long.Pre
 
 move_long_move_some_requires : (t : ℕ) → move_long_lts.Need-move-some-requires (move_some_reads.Asked, move_some_reads.Learnt, move_long_below t, move_long.Post) (move_long_at t) move_long.Post
-move_long_move_some_requires t c κs = search needs
+move_long_move_some_requires t c κs = search rules
 
 move_long_move_long_requires : (t : ℕ) → move_long_lts.Need-move-long-requires (move_some_reads.Asked, move_some_reads.Learnt, move_long_below t, move_long.Post) (move_long_at t) move_long.Post
-move_long_move_long_requires t c κs = search needs
+move_long_move_long_requires t c κs = search rules
 
 move_long_add_move_long : (t : ℕ) → move_long_lts.Need-overflow-add-move-long (move_some_reads.Asked, move_some_reads.Learnt, move_long_below t, move_long.Post) (move_long_at t) move_long.Post
-move_long_add_move_long t c = search needs
+move_long_add_move_long t c = search rules
 
 move_long_add_move_long_2 : (t : ℕ) → move_long_lts.Need-overflow-add-move-long-2 (move_some_reads.Asked, move_some_reads.Learnt, move_long_below t, move_long.Post) (move_long_at t) move_long.Post
-move_long_add_move_long_2 t c = search needs
+move_long_add_move_long_2 t c = search rules
 
 move_long_sub_move_long : (t : ℕ) → move_long_lts.Need-overflow-sub-move-long (move_some_reads.Asked, move_some_reads.Learnt, move_long_below t, move_long.Post) (move_long_at t) move_long.Post
-move_long_sub_move_long t c = search needs
+move_long_sub_move_long t c = search rules
 
 move_long_move_long_requires_2 : (t : ℕ) → move_long_lts.Need-move-long-requires-2 (move_some_reads.Asked, move_some_reads.Learnt, move_long_below t, move_long.Post) (move_long_at t) move_long.Post
-move_long_move_long_requires_2 t c κs = search needs
+move_long_move_long_requires_2 t c κs = search rules
 
 move_long_add_move_long_3 : (t : ℕ) → move_long_lts.Need-overflow-add-move-long-3 (move_some_reads.Asked, move_some_reads.Learnt, move_long_below t, move_long.Post) (move_long_at t) move_long.Post
-move_long_add_move_long_3 t c = search needs
+move_long_add_move_long_3 t c = search rules
 
 move_long_add_move_long_4 : (t : ℕ) → move_long_lts.Need-overflow-add-move-long-4 (move_some_reads.Asked, move_some_reads.Learnt, move_long_below t, move_long.Post) (move_long_at t) move_long.Post
-move_long_add_move_long_4 t c = search needs
+move_long_add_move_long_4 t c = search rules
 
 move_long_sub_move_long_2 : (t : ℕ) → move_long_lts.Need-overflow-sub-move-long-2 (move_some_reads.Asked, move_some_reads.Learnt, move_long_below t, move_long.Post) (move_long_at t) move_long.Post
-move_long_sub_move_long_2 t c = search needs
+move_long_sub_move_long_2 t c = search rules
 
 move_long_move_long_requires_3 : (t : ℕ) → move_long_lts.Need-move-long-requires-3 (move_some_reads.Asked, move_some_reads.Learnt, move_long_below t, move_long.Post) (move_long_at t) move_long.Post
-move_long_move_long_requires_3 t c κs = search needs
+move_long_move_long_requires_3 t c κs = search rules
 
 move_long_move_long_requires_4 : (t : ℕ) → move_long_lts.Need-move-long-requires-4 (move_some_reads.Asked, move_some_reads.Learnt, move_long_below t, move_long.Post) (move_long_at t) move_long.Post
-move_long_move_long_requires_4 t c κs = search needs
+move_long_move_long_requires_4 t c κs = search rules
 
 move_long_same_length : (t : ℕ) → move_long_lts.Need-same-length (move_some_reads.Asked, move_some_reads.Learnt, move_long_below t, move_long.Post) (move_long_at t) move_long.Post
-move_long_same_length t c = search needs
+move_long_same_length t c = search rules
 
 move_long_returns : (t : ℕ) → move_long_lts.Need-returns (move_some_reads.Asked, move_some_reads.Learnt, move_long_below t, move_long.Post) (move_long_at t) move_long.Post
 move_long_returns t c = c.before.before.Move-some.ensures
 
 move_long_same_length_2 : (t : ℕ) → move_long_lts.Need-same-length-2 (move_some_reads.Asked, move_some_reads.Learnt, move_long_below t, move_long.Post) (move_long_at t) move_long.Post
-move_long_same_length_2 t c = search needs
+move_long_same_length_2 t c = search rules
 
 move_long_returns_2 : (t : ℕ) → move_long_lts.Need-returns-2 (move_some_reads.Asked, move_some_reads.Learnt, move_long_below t, move_long.Post) (move_long_at t) move_long.Post
 move_long_returns_2 t c =
@@ -66,7 +66,7 @@ move_long_returns_2 t c =
     forth_on _ _ _ a.to a.from (a.n / 2) (a.n - a.n / 2) a.n (omega arith) s.requires.1 (omega arith) c.before.before.before.before.before.before.move-long.ensures c.before.before.move-long2.ensures
 
 move_long_same_length_3 : (t : ℕ) → move_long_lts.Need-same-length-3 (move_some_reads.Asked, move_some_reads.Learnt, move_long_below t, move_long.Post) (move_long_at t) move_long.Post
-move_long_same_length_3 t c = search needs
+move_long_same_length_3 t c = search rules
 
 move_long_returns_3 : (t : ℕ) → move_long_lts.Need-returns-3 (move_some_reads.Asked, move_some_reads.Learnt, move_long_below t, move_long.Post) (move_long_at t) move_long.Post
 move_long_returns_3 t c =

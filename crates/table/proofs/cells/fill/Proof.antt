@@ -1,5 +1,5 @@
 -- `table::cells::fill` meets its contract. Assumes nothing.
-use Rattle.types.proofs.Prelude.{◌-◌, ◌<◌, ◌≤◌, ℕ, needs, drop, length, length-set, replicate, set, List, ◌++◌, append-nil, ◌∙◌, ◌≡◌, ap, refl, arith}
+use Rattle.types.proofs.Prelude.{◌-◌, ◌<◌, ◌≤◌, ℕ, rules, drop, length, length-set, replicate, set, List, ◌++◌, append-nil, ◌∙◌, ◌≡◌, ap, refl, arith}
 use borrow.Author.Fill.{fill_more}
 use lib.Seq.{drop-length}
 use Rattle.table.proofs.cells.fill.Statement.{statement}
@@ -15,16 +15,16 @@ loop-holds : tie.Need-loop-init invariant_loop decreases_loop
 loop-holds c = (refl, omega arith, refl)
 
 mul-part : tie.Need-overflow-mul-part invariant_loop decreases_loop
-mul-part c = search needs
+mul-part c = search rules
 
 slice-write-part : tie.Need-slice-write-part invariant_loop decreases_loop
-slice-write-part c = search needs
+slice-write-part c = search rules
 
 add-i : tie.Need-overflow-add-i invariant_loop decreases_loop
-add-i c = search needs
+add-i c = search rules
 
 loop-less : tie.Need-loop-smaller invariant_loop decreases_loop
-loop-less c = search needs
+loop-less c = search rules
 
 loop-again : tie.Need-loop-preserved invariant_loop decreases_loop
 loop-again c =

@@ -1,27 +1,27 @@
 -- `table::new::by_type` meets its contract. Assumes nothing.
-use Rattle.types.proofs.{Prelude.needs, Prelude.refl, Dones.done_as}
+use Rattle.types.proofs.{Prelude.rules, Prelude.refl, Dones.done_as}
 use Rattle.table.specs.stages.New.{by_type}
 use Rattle.table.proofs.new.by_type.Statement.{statement}
 use Rattle.table.proofs.new.by_type.Tie as tie
 
 enum-known-built : tie.Need-enum-known-built
-enum-known-built c = search needs
+enum-known-built c = search rules
 
 no-table-requires : tie.Need-no-table-requires
-no-table-requires c κs = search needs
+no-table-requires c κs = search rules
 
 enum-known-built-2 : tie.Need-enum-known-built-2
-enum-known-built-2 c = search needs
+enum-known-built-2 c = search rules
 
 by-kind-requires : tie.Need-by-kind-requires
-by-kind-requires c κs = search needs
+by-kind-requires c κs = search rules
 
 returns : tie.Need-returns
 unfolding by_type
 returns c = rw c.before.before.built.given.1 (done_as c.no_table.ensures refl)
 
 same_length : tie.Need-same-length
-same_length c = search needs
+same_length c = search rules
 
 returns-2 : tie.Need-returns-2
 unfolding by_type

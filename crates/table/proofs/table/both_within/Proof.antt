@@ -1,13 +1,13 @@
 -- `table::table::both_within` meets its contract. Assumes nothing.
-use Rattle.types.proofs.Prelude.{cases, needs}
+use Rattle.types.proofs.Prelude.{cases, rules}
 use Rattle.table.proofs.table.both_within.Statement.{statement}
 use Rattle.table.proofs.table.both_within.Tie as tie
 
 within-requires : tie.Need-within-requires
-within-requires c κs = search needs
+within-requires c κs = search rules
 
 within-requires-2 : tie.Need-within-requires-2
-within-requires-2 c κs = search needs
+within-requires-2 c κs = search rules
 
 returns : tie.Need-returns
 returns c = search cases

@@ -1,5 +1,5 @@
 -- `table::table::sound_buffer` meets its contract. Assumes nothing.
-use Rattle.types.proofs.Prelude.{cases, needs}
+use Rattle.types.proofs.Prelude.{cases, rules}
 use Rattle.table.specs.Table.{sound_buffer}
 use Rattle.table.proofs.table.sound_buffer.Statement.{statement}
 use Rattle.table.proofs.table.sound_buffer.Tie as tie
@@ -9,7 +9,7 @@ unfolding sound_buffer
 returns c = search cases
 
 within-requires : tie.Need-within-requires
-within-requires c κs = search needs
+within-requires c κs = search rules
 
 returns-2 : tie.Need-returns-2
 unfolding sound_buffer

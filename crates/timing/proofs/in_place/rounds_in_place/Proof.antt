@@ -1,5 +1,5 @@
 -- `timing::in_place::rounds_in_place` meets its contract. Assumes nothing.
-use Rattle.types.proofs.Prelude.{sym, ap, ◌∙◌, now, needs}
+use Rattle.types.proofs.Prelude.{sym, ap, ◌∙◌, now, rules}
 use Rattle.types.specs.declared.fuel.Fuel.{Fuel}
 use Rattle.machine.specs.Row.{fuel_of}
 use Rattle.timing.specs.InPlace.{Rowing, rowing, timed_in}
@@ -7,25 +7,25 @@ use Rattle.timing.proofs.in_place.rounds_in_place.Statement.{statement}
 use Rattle.timing.proofs.in_place.rounds_in_place.Tie as tie
 
 read-line-requires : tie.Need-read-line-requires
-read-line-requires c κs = search needs
+read-line-requires c κs = search rules
 
 timed-by-requires : tie.Need-timed-by-requires
-timed-by-requires c κs = search needs
+timed-by-requires c κs = search rules
 
 fuel-of-requires : tie.Need-fuel-of-requires
-fuel-of-requires c κs = search needs
+fuel-of-requires c κs = search rules
 
 same_length : tie.Need-same-length
-same_length c = search needs
+same_length c = search rules
 
 same-length-2 : tie.Need-same-length-2
-same-length-2 c = search needs
+same-length-2 c = search rules
 
 same-length-3 : tie.Need-same-length-3
-same-length-3 c = search needs
+same-length-3 c = search rules
 
 same-length-4 : tie.Need-same-length-4
-same-length-4 c = search needs
+same-length-4 c = search rules
 
 returns : tie.Need-returns
 returns c =

@@ -1,32 +1,32 @@
 -- `timing::in_place::timed_by` meets its contract. Assumes nothing.
-use Rattle.types.proofs.Prelude.{refl, needs}
+use Rattle.types.proofs.Prelude.{refl, rules}
 use Rattle.timing.specs.InPlace.{timed_in}
 use Rattle.timing.proofs.in_place.timed_by.Statement.{statement}
 use Rattle.timing.proofs.in_place.timed_by.Tie as tie
 
 enum-known-parsed : tie.Need-enum-known-parsed
-enum-known-parsed c = search needs
+enum-known-parsed c = search rules
 
 repeat-requires : tie.Need-repeat-requires
-repeat-requires c κs = search needs
+repeat-requires c κs = search rules
 
 enum_told : tie.Need-enum-told
-enum_told c = search needs
+enum_told c = search rules
 
 enum-told-2 : tie.Need-enum-told-2
-enum-told-2 c = search needs
+enum-told-2 c = search rules
 
 same_length : tie.Need-same-length
-same_length c = search needs
+same_length c = search rules
 
 same-length-2 : tie.Need-same-length-2
-same-length-2 c = search needs
+same-length-2 c = search rules
 
 same-length-3 : tie.Need-same-length-3
-same-length-3 c = search needs
+same-length-3 c = search rules
 
 same-length-4 : tie.Need-same-length-4
-same-length-4 c = search needs
+same-length-4 c = search rules
 
 returns : tie.Need-returns
 unfolding timed_in

@@ -1,17 +1,17 @@
 -- `timing::text::echo` meets its contract. Assumes nothing.
-use Rattle.types.proofs.Prelude.{refl, needs}
+use Rattle.types.proofs.Prelude.{refl, rules}
 use Rattle.timing.specs.Text.{echo_of}
 use Rattle.timing.proofs.text.echo.Statement.{statement}
 use Rattle.timing.proofs.text.echo.Tie as tie
 
 enum_told : tie.Need-enum-told
-enum_told c = search needs
+enum_told c = search rules
 
 enum-told-2 : tie.Need-enum-told-2
-enum-told-2 c = search needs
+enum-told-2 c = search rules
 
 enum-told-3 : tie.Need-enum-told-3
-enum-told-3 c = search needs
+enum-told-3 c = search rules
 
 returns : tie.Need-returns
 unfolding echo_of

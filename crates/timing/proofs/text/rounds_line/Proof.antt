@@ -1,5 +1,5 @@
 -- `timing::text::rounds_line` meets its contract. Assumes nothing.
-use Rattle.types.proofs.Prelude.{ap, ◌∙◌, true, needs}
+use Rattle.types.proofs.Prelude.{ap, ◌∙◌, true, rules}
 use Rattle.types.specs.Fuel.{new_fuel}
 use Rattle.timing.specs.Text.{echo_of}
 use Rattle.timing.proofs.Written.{answered_as}
@@ -7,22 +7,22 @@ use Rattle.timing.proofs.text.rounds_line.Statement.{statement}
 use Rattle.timing.proofs.text.rounds_line.Tie as tie
 
 read-line-requires : tie.Need-read-line-requires
-read-line-requires c κs = search needs
+read-line-requires c κs = search rules
 
 echo-requires : tie.Need-echo-requires
-echo-requires c κs = search needs
+echo-requires c κs = search rules
 
 default-costs-requires : tie.Need-default-costs-requires
-default-costs-requires c κs = search needs
+default-costs-requires c κs = search rules
 
 new-requires : tie.Need-new-requires
-new-requires c κs = search needs
+new-requires c κs = search rules
 
 write-answer-line-requires : tie.Need-write-answer-line-requires
-write-answer-line-requires c κs = search needs
+write-answer-line-requires c κs = search rules
 
 same_length : tie.Need-same-length
-same_length c = search needs
+same_length c = search rules
 
 returns : tie.Need-returns
 returns c =

@@ -1,5 +1,5 @@
 -- `timing::text::rounds_session` meets its contract. Assumes nothing.
-use Rattle.types.proofs.Prelude.{sym, ap, ◌∙◌, now, true, List, ℕ, replicate, needs}
+use Rattle.types.proofs.Prelude.{sym, ap, ◌∙◌, now, true, List, ℕ, replicate, rules}
 use Rattle.types.specs.{Fuel.default_costs, declared.fuel.FuelCosts.FuelCosts}
 use Rattle.machine.specs.{Machine.buffers, Row.Rowed, Row.fresh_row}
 use Rattle.lines.specs.{Progress.Progressed, Progress.piece_in, declared.session.Session.Session}
@@ -8,37 +8,37 @@ use Rattle.timing.proofs.text.rounds_session.Statement.{statement}
 use Rattle.timing.proofs.text.rounds_session.Tie as tie
 
 blank-requires : tie.Need-blank-requires
-blank-requires c κs = search needs
+blank-requires c κs = search rules
 
 slice-aggregate-fresh : tie.Need-slice-aggregate-fresh
-slice-aggregate-fresh c = search needs
+slice-aggregate-fresh c = search rules
 
 default-costs-requires : tie.Need-default-costs-requires
-default-costs-requires c κs = search needs
+default-costs-requires c κs = search rules
 
 fresh-requires : tie.Need-fresh-requires
-fresh-requires c κs = search needs
+fresh-requires c κs = search rules
 
 new-requires : tie.Need-new-requires
-new-requires c κs = search needs
+new-requires c κs = search rules
 
 slice-aggregate-piece : tie.Need-slice-aggregate-piece
-slice-aggregate-piece c = search needs
+slice-aggregate-piece c = search rules
 
 piece-requires : tie.Need-piece-requires
-piece-requires c κs = search needs
+piece-requires c κs = search rules
 
 same_length : tie.Need-same-length
-same_length c = search needs
+same_length c = search rules
 
 same-length-2 : tie.Need-same-length-2
-same-length-2 c = search needs
+same-length-2 c = search rules
 
 same-length-3 : tie.Need-same-length-3
-same-length-3 c = search needs
+same-length-3 c = search rules
 
 same-length-4 : tie.Need-same-length-4
-same-length-4 c = search needs
+same-length-4 c = search rules
 
 returns : tie.Need-returns
 unfolding session_on

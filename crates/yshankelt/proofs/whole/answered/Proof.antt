@@ -1,5 +1,5 @@
 -- `yshankelt::whole::answered` meets its contract. Assumes nothing.
-use Rattle.types.proofs.Prelude.{ap, now, needs}
+use Rattle.types.proofs.Prelude.{ap, now, rules}
 use Rattle.types.specs.declared.answer.Answer.{Answer}
 use Rattle.machine.specs.Row.{in_row}
 use Rattle.yshankelt.specs.Whole.{answered}
@@ -7,34 +7,34 @@ use Rattle.yshankelt.proofs.whole.answered.Statement.{statement}
 use Rattle.yshankelt.proofs.whole.answered.Tie as tie
 
 enum-known-said : tie.Need-enum-known-said
-enum-known-said c = search needs
+enum-known-said c = search rules
 
 operate-requires : tie.Need-operate-requires
-operate-requires c κs = search needs
+operate-requires c κs = search rules
 
 enum_told : tie.Need-enum-told
-enum_told c = search needs
+enum_told c = search rules
 
 malformed-requires : tie.Need-malformed-requires
-malformed-requires c κs = search needs
+malformed-requires c κs = search rules
 
 enum-told-2 : tie.Need-enum-told-2
-enum-told-2 c = search needs
+enum-told-2 c = search rules
 
 malformed-requires-2 : tie.Need-malformed-requires-2
-malformed-requires-2 c κs = search needs
+malformed-requires-2 c κs = search rules
 
 same_length : tie.Need-same-length
-same_length c = search needs
+same_length c = search rules
 
 same-length-2 : tie.Need-same-length-2
-same-length-2 c = search needs
+same-length-2 c = search rules
 
 same-length-3 : tie.Need-same-length-3
-same-length-3 c = search needs
+same-length-3 c = search rules
 
 same-length-4 : tie.Need-same-length-4
-same-length-4 c = search needs
+same-length-4 c = search rules
 
 returns : tie.Need-returns
 unfolding answered

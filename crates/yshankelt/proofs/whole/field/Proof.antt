@@ -1,17 +1,17 @@
 -- `yshankelt::whole::field` meets its contract. Assumes nothing.
-use Rattle.types.proofs.Prelude.{now, sym, needs}
+use Rattle.types.proofs.Prelude.{now, sym, rules}
 use lib.ListN.{get_or-eq_default}
 use Rattle.yshankelt.proofs.whole.field.Statement.{statement}
 use Rattle.yshankelt.proofs.whole.field.Tie as tie
 
 mul-result : tie.Need-overflow-mul-result
-mul-result c = search needs
+mul-result c = search rules
 
 shared-slice-read-result : tie.Need-shared-slice-read-result
-shared-slice-read-result c = search needs
+shared-slice-read-result c = search rules
 
 returns : tie.Need-returns
-returns c = search needs
+returns c = search rules
 
 returns-2 : tie.Need-returns-2
 returns-2 c =

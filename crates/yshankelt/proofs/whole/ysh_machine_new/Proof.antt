@@ -1,17 +1,17 @@
 -- `yshankelt::whole::ysh_machine_new` meets its contract. Assumes nothing.
-use Rattle.types.proofs.Prelude.{ap, ◌∙◌, now, needs}
+use Rattle.types.proofs.Prelude.{ap, ◌∙◌, now, rules}
 use Rattle.machine.specs.Row.{fresh_row}
 use Rattle.yshankelt.proofs.whole.ysh_machine_new.Statement.{statement}
 use Rattle.yshankelt.proofs.whole.ysh_machine_new.Tie as tie
 
 costs-requires : tie.Need-costs-requires
-costs-requires c κs = search needs
+costs-requires c κs = search rules
 
 fresh-requires : tie.Need-fresh-requires
-fresh-requires c κs = search needs
+fresh-requires c κs = search rules
 
 same_length : tie.Need-same-length
-same_length c = search needs
+same_length c = search rules
 
 returns : tie.Need-returns
 returns c =

@@ -1,33 +1,33 @@
 -- `yshankelt::whole::ysh_operate` meets its contract. Assumes nothing.
-use Rattle.types.proofs.Prelude.{now, needs}
+use Rattle.types.proofs.Prelude.{now, rules}
 use Rattle.machine.specs.Machine.{buffers}
 use Rattle.yshankelt.proofs.Tells.{told_from}
 use Rattle.yshankelt.proofs.whole.ysh_operate.Statement.{statement}
 use Rattle.yshankelt.proofs.whole.ysh_operate.Tie as tie
 
 line-from-requires : tie.Need-line-from-requires
-line-from-requires c κs = search needs
+line-from-requires c κs = search rules
 
 operation-of-requires : tie.Need-operation-of-requires
-operation-of-requires c κs = search needs
+operation-of-requires c κs = search rules
 
 answered-requires : tie.Need-answered-requires
-answered-requires c κs = search needs
+answered-requires c κs = search rules
 
 tell-requires : tie.Need-tell-requires
-tell-requires c κs = search needs
+tell-requires c κs = search rules
 
 same_length : tie.Need-same-length
-same_length c = search needs
+same_length c = search rules
 
 same-length-2 : tie.Need-same-length-2
-same-length-2 c = search needs
+same-length-2 c = search rules
 
 same-length-3 : tie.Need-same-length-3
-same-length-3 c = search needs
+same-length-3 c = search rules
 
 same-length-4 : tie.Need-same-length-4
-same-length-4 c = search needs
+same-length-4 c = search rules
 
 returns : tie.Need-returns
 returns c =

@@ -1,47 +1,47 @@
 -- `machine::operation::Operation::is_well_formed` meets its contract. Assumes nothing.
-use Rattle.types.proofs.Prelude.{refl, needs}
+use Rattle.types.proofs.Prelude.{refl, rules}
 use Rattle.machine.specs.Operation.{well_formed}
 use Rattle.machine.proofs.operation.Operation.is_well_formed.Statement.{statement}
 use Rattle.machine.proofs.operation.Operation.is_well_formed.Tie as tie
 
 enum-known-self : tie.Need-enum-known-self
-enum-known-self c = search needs
+enum-known-self c = search rules
 
 fuel-well-formed-requires : tie.Need-fuel-well-formed-requires
-fuel-well-formed-requires c κs = search needs
+fuel-well-formed-requires c κs = search rules
 
 enum_told : tie.Need-enum-told
-enum_told c = search needs
+enum_told c = search rules
 
 enum-known-self-2 : tie.Need-enum-known-self-2
-enum-known-self-2 c = search needs
+enum-known-self-2 c = search rules
 
 memory-well-formed-requires : tie.Need-memory-well-formed-requires
-memory-well-formed-requires c κs = search needs
+memory-well-formed-requires c κs = search rules
 
 enum-told-2 : tie.Need-enum-told-2
-enum-told-2 c = search needs
+enum-told-2 c = search rules
 
 enum-told-3 : tie.Need-enum-told-3
-enum-told-3 c = search needs
+enum-told-3 c = search rules
 
 enum-told-4 : tie.Need-enum-told-4
-enum-told-4 c = search needs
+enum-told-4 c = search rules
 
 enum-known-self-3 : tie.Need-enum-known-self-3
-enum-known-self-3 c = search needs
+enum-known-self-3 c = search rules
 
 init-fields-requires : tie.Need-init-fields-requires
-init-fields-requires c κs = search needs
+init-fields-requires c κs = search rules
 
 enum-told-5 : tie.Need-enum-told-5
-enum-told-5 c = search needs
+enum-told-5 c = search rules
 
 enum-known-self-4 : tie.Need-enum-known-self-4
-enum-known-self-4 c = search needs
+enum-known-self-4 c = search rules
 
 item-fields-requires : tie.Need-item-fields-requires
-item-fields-requires c κs = search needs
+item-fields-requires c κs = search rules
 
 returns : tie.Need-returns
 unfolding well_formed

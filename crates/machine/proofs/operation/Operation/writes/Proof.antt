@@ -1,44 +1,44 @@
 -- `machine::operation::Operation::writes` meets its contract. Assumes nothing.
-use Rattle.types.proofs.Prelude.{refl, needs}
+use Rattle.types.proofs.Prelude.{refl, rules}
 use Rattle.machine.specs.stages.Rows.{writes_of}
 use Rattle.machine.proofs.operation.Operation.writes.Statement.{statement}
 use Rattle.machine.proofs.operation.Operation.writes.Tie as tie
 
 enum-known-self : tie.Need-enum-known-self
-enum-known-self c = search needs
+enum-known-self c = search rules
 
 fuel-writes-requires : tie.Need-fuel-writes-requires
-fuel-writes-requires c κs = search needs
+fuel-writes-requires c κs = search rules
 
 enum_told : tie.Need-enum-told
-enum_told c = search needs
+enum_told c = search rules
 
 enum-known-self-2 : tie.Need-enum-known-self-2
-enum-known-self-2 c = search needs
+enum-known-self-2 c = search rules
 
 memory-writes-requires : tie.Need-memory-writes-requires
-memory-writes-requires c κs = search needs
+memory-writes-requires c κs = search rules
 
 enum-told-2 : tie.Need-enum-told-2
-enum-told-2 c = search needs
+enum-told-2 c = search rules
 
 enum-known-self-3 : tie.Need-enum-known-self-3
-enum-known-self-3 c = search needs
+enum-known-self-3 c = search rules
 
 table-writes-requires : tie.Need-table-writes-requires
-table-writes-requires c κs = search needs
+table-writes-requires c κs = search rules
 
 enum-told-3 : tie.Need-enum-told-3
-enum-told-3 c = search needs
+enum-told-3 c = search rules
 
 enum-told-4 : tie.Need-enum-told-4
-enum-told-4 c = search needs
+enum-told-4 c = search rules
 
 enum-told-5 : tie.Need-enum-told-5
-enum-told-5 c = search needs
+enum-told-5 c = search rules
 
 enum-told-6 : tie.Need-enum-told-6
-enum-told-6 c = search needs
+enum-told-6 c = search rules
 
 returns : tie.Need-returns
 unfolding writes_of

@@ -1,27 +1,27 @@
 -- `machine::records::Machine::decide` meets its contract. Assumes nothing.
-use Rattle.types.proofs.Prelude.{ap, ◌∙◌, now, needs}
+use Rattle.types.proofs.Prelude.{ap, ◌∙◌, now, rules}
 use Rattle.types.specs.Raw.{raw_bytes}
 use Rattle.machine.specs.{Machine.buffers, Step.decide, declared.records.Machine.Machine}
 use Rattle.machine.proofs.records.Machine.decide.Statement.{statement}
 use Rattle.machine.proofs.records.Machine.decide.Tie as tie
 
 row-of-requires : tie.Need-row-of-requires
-row-of-requires c κs = search needs
+row-of-requires c κs = search rules
 
 slice-aggregate-decide : tie.Need-slice-aggregate-decide
-slice-aggregate-decide c = search needs
+slice-aggregate-decide c = search rules
 
 decide-requires : tie.Need-decide-requires
-decide-requires c κs = search needs
+decide-requires c κs = search rules
 
 same_length : tie.Need-same-length
-same_length c = search needs
+same_length c = search rules
 
 same-length-2 : tie.Need-same-length-2
-same-length-2 c = search needs
+same-length-2 c = search rules
 
 same-length-3 : tie.Need-same-length-3
-same-length-3 c = search needs
+same-length-3 c = search rules
 
 returns : tie.Need-returns
 returns c =

@@ -1,17 +1,17 @@
 -- `machine::records::Machine::is_sound` meets its contract. Assumes nothing.
-use Rattle.types.proofs.Prelude.{ap, ◌∙◌, needs}
+use Rattle.types.proofs.Prelude.{ap, ◌∙◌, rules}
 use Rattle.machine.specs.{Sound.sound_machine, declared.records.Machine.Machine}
 use Rattle.machine.proofs.records.Machine.is_sound.Statement.{statement}
 use Rattle.machine.proofs.records.Machine.is_sound.Tie as tie
 
 row-of-requires : tie.Need-row-of-requires
-row-of-requires c κs = search needs
+row-of-requires c κs = search rules
 
 slice-aggregate-is-sound : tie.Need-slice-aggregate-is-sound
-slice-aggregate-is-sound c = search needs
+slice-aggregate-is-sound c = search rules
 
 is-sound-requires : tie.Need-is-sound-requires
-is-sound-requires c κs = search needs
+is-sound-requires c κs = search rules
 
 returns : tie.Need-returns
 returns c =

@@ -1,5 +1,5 @@
 -- `machine::records::Machine::table_at` meets its contract. Assumes nothing.
-use Rattle.types.proofs.Prelude.{◌≡◌, sym, ◌∙◌, length, needs}
+use Rattle.types.proofs.Prelude.{◌≡◌, sym, ◌∙◌, length, rules}
 use Rattle.machine.proofs.Lists.{past}
 use lib.ListN.{length-map}
 use Rattle.machine.specs.Machine.{no_table}
@@ -7,16 +7,16 @@ use Rattle.machine.proofs.records.Machine.table_at.Statement.{statement}
 use Rattle.machine.proofs.records.Machine.table_at.Tie as tie
 
 mul-result : tie.Need-overflow-mul-result
-mul-result c = search needs
+mul-result c = search rules
 
 element-copy-out-result : tie.Need-element-copy-out-result
-element-copy-out-result c = search needs
+element-copy-out-result c = search rules
 
 returns : tie.Need-returns
-returns c = search needs
+returns c = search rules
 
 no-table-requires : tie.Need-no-table-requires
-no-table-requires c κs = search needs
+no-table-requires c κs = search rules
 
 returns-2 : tie.Need-returns-2
 returns-2 c =

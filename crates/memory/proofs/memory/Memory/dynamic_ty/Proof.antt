@@ -1,14 +1,14 @@
 -- `memory::memory::Memory::dynamic_ty` meets its contract. Assumes nothing.
-use Rattle.types.proofs.Prelude.{needs}
+use Rattle.types.proofs.Prelude.{rules}
 use Rattle.memory.specs.Memory.{dynamic_of}
 use Rattle.memory.proofs.memory.Memory.dynamic_ty.Statement.{statement}
 use Rattle.memory.proofs.memory.Memory.dynamic_ty.Tie as tie
 
 pages-requires : tie.Need-pages-requires
-pages-requires c κs = search needs
+pages-requires c κs = search rules
 
 dynamic-ty-requires : tie.Need-dynamic-ty-requires
-dynamic-ty-requires c κs = search needs
+dynamic-ty-requires c κs = search rules
 
 returns : tie.Need-returns
 unfolding dynamic_of

@@ -1,14 +1,14 @@
 -- `memory::memory::Memory::is_sound` meets its contract. Assumes nothing.
-use Rattle.types.proofs.Prelude.{cases, needs}
+use Rattle.types.proofs.Prelude.{cases, rules}
 use Rattle.memory.specs.Memory.{sound_memory}
 use Rattle.memory.proofs.memory.Memory.is_sound.Statement.{statement}
 use Rattle.memory.proofs.memory.Memory.is_sound.Tie as tie
 
 sound-room-requires : tie.Need-sound-room-requires
-sound-room-requires c κs = search needs
+sound-room-requires c κs = search rules
 
 sound-size-requires : tie.Need-sound-size-requires
-sound-size-requires c κs = search needs
+sound-size-requires c κs = search rules
 
 returns : tie.Need-returns
 unfolding sound_memory

@@ -1,11 +1,11 @@
 -- `memory::memory::Memory::pages` meets its contract. Assumes nothing.
-use Rattle.types.proofs.{Prelude.needs, Prelude.arith, Sizes.page_pos}
+use Rattle.types.proofs.{Prelude.rules, Prelude.arith, Sizes.page_pos}
 use Rattle.memory.specs.Memory.{pages_of}
 use Rattle.memory.proofs.memory.Memory.pages.Statement.{statement}
 use Rattle.memory.proofs.memory.Memory.pages.Tie as tie
 
 page-size-requires : tie.Need-page-size-requires
-page-size-requires c κs = search needs
+page-size-requires c κs = search rules
 
 div-result : tie.Need-nonzero-div-result
 div-result c = omega (arith, page_pos c.before.before.before.args.self.ty.page, c.before.page-size.ensures)

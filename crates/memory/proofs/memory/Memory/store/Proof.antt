@@ -1,25 +1,25 @@
 -- `memory::memory::Memory::store` meets its contract. Assumes nothing.
-use Rattle.types.proofs.Prelude.{known_test, needs}
+use Rattle.types.proofs.Prelude.{known_test, rules}
 use Rattle.memory.proofs.{Sounds.sound_used, Stages.stage}
 use Rattle.memory.specs.Memory.{store_memory}
 use Rattle.memory.proofs.memory.Memory.store.Statement.{statement}
 use Rattle.memory.proofs.memory.Memory.store.Tie as tie
 
 is-sound-requires : tie.Need-is-sound-requires
-is-sound-requires c κs = search needs
+is-sound-requires c κs = search rules
 
 store-at-requires : tie.Need-store-at-requires
 store-at-requires c κs = sound_used _ _ (known_test c.before.before.is-sound.ensures c.before.if1.true)
 
 same_length : tie.Need-same-length
-same_length c = search needs
+same_length c = search rules
 
 returns : tie.Need-returns
 unfolding store_memory
 returns c = search stage
 
 refused-requires : tie.Need-refused-requires
-refused-requires c κs = search needs
+refused-requires c κs = search rules
 
 returns-2 : tie.Need-returns-2
 unfolding store_memory

@@ -1,11 +1,11 @@
 -- `table::element::ElementSegment::is_sound` meets its contract. Assumes nothing.
-use Rattle.types.proofs.Prelude.{cases, needs}
+use Rattle.types.proofs.Prelude.{cases, rules}
 use Rattle.table.specs.Element.{sound_segment}
 use Rattle.table.proofs.element.ElementSegment.is_sound.Statement.{statement}
 use Rattle.table.proofs.element.ElementSegment.is_sound.Tie as tie
 
 sound-buffer-requires : tie.Need-sound-buffer-requires
-sound-buffer-requires c κs = search needs
+sound-buffer-requires c κs = search rules
 
 returns : tie.Need-returns
 unfolding sound_segment

@@ -1,5 +1,5 @@
 -- `table::element::ElementSegment::new` meets its contract. Assumes nothing.
-use Rattle.types.proofs.{Prelude.needs, Prelude.not-false, Prelude.refl, Prelude.◌∙◌, Prelude.ap, Prelude.arith, Dones.done_as}
+use Rattle.types.proofs.{Prelude.rules, Prelude.not-false, Prelude.refl, Prelude.◌∙◌, Prelude.ap, Prelude.arith, Dones.done_as}
 use Rattle.table.proofs.{Exits.exits, Exits.left_not, Puts.cut_all, Sounds.tested_buffer}
 use Rattle.table.specs.Element.{new_segment}
 use Rattle.types.specs.Span.{over}
@@ -7,7 +7,7 @@ use Rattle.table.proofs.element.ElementSegment.new.Statement.{statement}
 use Rattle.table.proofs.element.ElementSegment.new.Tie as tie
 
 sound-buffer-requires : tie.Need-sound-buffer-requires
-sound-buffer-requires c κs = search needs
+sound-buffer-requires c κs = search rules
 
 returns : tie.Need-returns
 unfolding new_segment
@@ -17,7 +17,7 @@ init-cells-requires : tie.Need-init-cells-requires
 init-cells-requires c κs = (tested_buffer _ _ _ c.before.before.sound-buffer.ensures (not-false _ c.before.if1.false), omega arith)
 
 same_length : tie.Need-same-length
-same_length c = search needs
+same_length c = search rules
 
 returns-2 : tie.Need-returns-2
 unfolding new_segment

@@ -1,14 +1,14 @@
 -- `table::table::Table::is_sound` meets its contract. Assumes nothing.
-use Rattle.types.proofs.Prelude.{cases, needs}
+use Rattle.types.proofs.Prelude.{cases, rules}
 use Rattle.table.specs.Table.{sound_table}
 use Rattle.table.proofs.table.Table.is_sound.Statement.{statement}
 use Rattle.table.proofs.table.Table.is_sound.Tie as tie
 
 sound-buffer-requires : tie.Need-sound-buffer-requires
-sound-buffer-requires c κs = search needs
+sound-buffer-requires c κs = search rules
 
 sound-size-requires : tie.Need-sound-size-requires
-sound-size-requires c κs = search needs
+sound-size-requires c κs = search rules
 
 returns : tie.Need-returns
 unfolding sound_table

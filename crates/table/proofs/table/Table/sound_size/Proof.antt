@@ -1,5 +1,5 @@
 -- `table::table::Table::sound_size` meets its contract. Assumes nothing.
-use Rattle.types.proofs.Prelude.{needs}
+use Rattle.types.proofs.Prelude.{rules}
 use Rattle.table.proofs.Sounds.{size_past, size_by}
 use Rattle.table.proofs.table.Table.sound_size.Statement.{statement}
 use Rattle.table.proofs.table.Table.sound_size.Tie as tie
@@ -8,7 +8,7 @@ returns : tie.Need-returns
 returns c = search size_past
 
 sound-cells-requires : tie.Need-sound-cells-requires
-sound-cells-requires c κs = search needs
+sound-cells-requires c κs = search rules
 
 returns-2 : tie.Need-returns-2
 returns-2 c = search size_by

@@ -1,0 +1,6 @@
+use lib.{Ieee.binary64, Ieee.Bits.nan_bits_above}
+use mathlib.Core.Path.{sym}
+use Rattle.types.proofs.answer.is_nan64.Goals as goal
+
+pub returns : goal.returns
+returns c = sym (nan_bits_above binary64 _)

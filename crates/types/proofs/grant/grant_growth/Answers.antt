@@ -1,0 +1,7 @@
+use Rattle.types.specs.stages.Grant.{grant_growth}
+use borrow.Author.Rules.{rules}
+use Rattle.types.proofs.grant.grant_growth.Goals as goal
+
+pub returns : goal.returns
+unfolding grant_growth
+returns c = cc

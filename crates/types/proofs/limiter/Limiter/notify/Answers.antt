@@ -1,0 +1,7 @@
+use Rattle.types.specs.Limiter.{notify}
+use borrow.Author.Rules.{rules}
+use Rattle.types.proofs.limiter.Limiter.notify.Goals as goal
+
+pub returns : goal.returns
+unfolding notify
+returns c = cc

@@ -1,0 +1,10 @@
+use Rattle.types.proofs.Prelude.{◌-◌, ◌≤◌, rules, drop, length, ◌≡◌, refl, arith}
+use Rattle.types.proofs.Scripts.{answers_all, answers_bad, answers_more, too_long}
+use Rattle.types.specs.Limiter.{all_answers}
+use Rattle.types.proofs.limiter.well_formed.Given as goal
+
+abbrev pub invariant-loop-i : goal.invariant-loop-i
+invariant-loop-i l = (l.i ≤ length l.script) × (all_answers (drop l.i l.script) ≡ all_answers l.script)
+
+abbrev pub decreases-loop-i : goal.decreases-loop-i
+decreases-loop-i l = length l.script - l.i
