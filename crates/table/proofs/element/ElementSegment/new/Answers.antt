@@ -1,5 +1,5 @@
 use Rattle.types.proofs.{Prelude.rules, Prelude.not-false, Prelude.refl, Prelude.◌∙◌, Prelude.ap, Prelude.arith, Dones.done_as}
-use Rattle.table.proofs.{Exits.exits, Exits.left_not, Puts.cut_all, Sounds.tested_buffer}
+use Rattle.table.proofs.{Exits.exits, Exits.taken_by, Puts.cut_all, Sounds.tested_buffer}
 use Rattle.table.specs.Element.{new_segment}
 use Rattle.types.specs.Span.{over}
 use Rattle.table.proofs.element.ElementSegment.new.Goals as goal
@@ -13,4 +13,4 @@ init_cells-requires c = (tested_buffer _ _ _ c.sound_buffer.ensures (c.if-not-so
 
 pub returns : goal.returns
 unfolding new_segment
-returns c = left_not _ _ c.sound_buffer.ensures c.if-not-sound_buffer.false (done_as refl (c.init_cells.ensures ∙ ap (over _ _) (cut_all _)))
+returns c = taken_by _ _ c.sound_buffer.ensures c.if-not-sound_buffer.false (done_as refl (c.init_cells.ensures ∙ ap (over _ _) (cut_all _)))
