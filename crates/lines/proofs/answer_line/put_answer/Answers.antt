@@ -1,5 +1,4 @@
 use Rattle.lines.specs.AnswerLine.{answer_line}
-use borrow.Author.Rules.{rules}
 use Rattle.lines.proofs.answer_line.put_answer.Goals as goal
 
 pub returns : goal.returns

@@ -1,4 +1,3 @@
-use Rattle.types.proofs.Prelude.{arith, length-set, rules}
 use Rattle.lines.proofs.Writing.{answer_put}
 use Rattle.lines.proofs.answer_line.write_answer.Goals as goal
 

@@ -1,4 +1,4 @@
-use Rattle.types.proofs.Prelude.{cases, rules}
+use Rattle.types.proofs.Prelude.{cases}
 use Rattle.lines.proofs.Writing.{room_for}
 use Rattle.lines.specs.AnswerLine.{answered_of}
 use Rattle.lines.proofs.answer_line.write_answer_line.Goals as goal

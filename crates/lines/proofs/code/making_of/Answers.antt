@@ -1,4 +1,4 @@
-use Rattle.types.proofs.Prelude.{lt-ltb, le-ltb, rules}
+use Rattle.types.proofs.Prelude.{lt-ltb, le-ltb}
 use Rattle.lines.proofs.CodeLaws.{taken_none, taken_rest}
 use Rattle.lines.proofs.code.making_of.Goals as goal
 

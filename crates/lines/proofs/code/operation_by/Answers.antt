@@ -1,4 +1,4 @@
-use Rattle.types.proofs.Prelude.{refl, rules}
+use Rattle.types.proofs.Prelude.{refl}
 use Rattle.types.specs.Pick.{pick}
 use Rattle.lines.specs.Code.{by_code}
 use Rattle.lines.proofs.CodeLaws.{by_code_lem, by_none}
@@ -90,7 +90,7 @@ returns-in-48 c = by_code_lem _ 0x30 c.in-48.is c.link_check_of.ensures
 
 pub returns-in_default : goal.returns-in_default
 returns-in_default c =
-    let r = c.in_default-own.rest in
+    let r = c.in_default.in_default-own.rest in
     by_none _ _ refl
     r.0.0.0.0.0.0.0.0.0.0.0.0.0.0.0.0.0.0.0.0.1 r.0.0.0.0.0.0.0.0.0.0.0.0.0.0.0.0.0.0.0.1
     r.0.0.0.0.0.0.0.0.0.0.0.0.0.0.0.0.0.0.1 r.0.0.0.0.0.0.0.0.0.0.0.0.0.0.0.0.0.1

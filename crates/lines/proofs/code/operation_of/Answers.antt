@@ -1,4 +1,4 @@
-use Rattle.types.proofs.Prelude.{cases, rules}
+use Rattle.types.proofs.Prelude.{cases}
 use Rattle.lines.specs.{Code.operation_of, stages.Codes.meant}
 use Rattle.lines.proofs.code.operation_of.Goals as goal
 

@@ -1,5 +1,4 @@
 use Rattle.lines.specs.Code.{read_line}
-use borrow.Author.Rules.{rules}
 use Rattle.lines.proofs.code.read_line.Goals as goal
 
 pub returns : goal.returns

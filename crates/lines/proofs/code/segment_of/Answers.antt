@@ -1,4 +1,4 @@
-use Rattle.types.proofs.Prelude.{le-leb, lt-leb, rules}
+use Rattle.types.proofs.Prelude.{le-leb, lt-leb}
 use Rattle.lines.proofs.CodeLaws.{taken_none, taken_rest}
 use Rattle.lines.proofs.code.segment_of.Goals as goal
 

@@ -1,4 +1,4 @@
-use Rattle.types.proofs.Prelude.{rules, cases}
+use Rattle.types.proofs.Prelude.{cases}
 use Rattle.lines.specs.Hex.{char_of}
 use Rattle.lines.proofs.field.char_of.Goals as goal
 

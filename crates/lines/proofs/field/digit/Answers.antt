@@ -1,5 +1,4 @@
 use Rattle.lines.proofs.DigitLaws.{digit_is}
-use borrow.Author.Rules.{rules}
 use Rattle.lines.proofs.field.digit.Goals as goal
 
 pub returns : goal.returns

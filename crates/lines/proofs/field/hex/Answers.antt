@@ -1,6 +1,5 @@
-use Rattle.types.proofs.Prelude.{◌≡◌, ◌≤◌, ◌<◌, ◌+◌, ◌-◌, ◌^◌, arith, rules, drop}
-use Rattle.lines.specs.Hex.{hex_from}
-use Rattle.lines.proofs.HexLaws.{hex_on, hex_bad, hex_end, hex_start, grows, room}
+use Rattle.types.proofs.Prelude.{arith}
+use Rattle.lines.proofs.HexLaws.{hex_on, hex_bad, hex_end, grows, room}
 use Rattle.lines.proofs.field.hex.Goals as goal
 
 pub returns-then-d-gt15 : goal.returns-then-d-gt15

@@ -1,6 +1,5 @@
-use Rattle.types.proofs.Prelude.{◌≡◌, ◌≤◌, ◌<◌, ◌+◌, ◌-◌, ◌^◌, arith, rules, drop}
+use Rattle.types.proofs.Prelude.{◌≡◌, ◌≤◌, ◌<◌, ◌+◌, ◌-◌, ◌^◌, drop}
 use Rattle.lines.specs.Hex.{hex_from}
-use Rattle.lines.proofs.HexLaws.{hex_on, hex_bad, hex_end, hex_start, grows, room}
 use Rattle.lines.proofs.field.hex.Given as goal
 
 abbrev pub invariant-loop-i : goal.invariant-loop-i

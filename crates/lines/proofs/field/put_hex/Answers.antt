@@ -1,6 +1,4 @@
-use Rattle.types.proofs.Prelude.{◌≡◌, ◌≤◌, arith, rules, length}
-use Rattle.lines.specs.Hex.{hex_text}
-use Rattle.types.specs.Span.{over}
+use Rattle.types.proofs.Prelude.{arith, rules}
 use Rattle.lines.proofs.Writing.{put_on, put_end}
 use Rattle.lines.proofs.field.put_hex.Goals as goal
 

@@ -1,7 +1,6 @@
-use Rattle.types.proofs.Prelude.{◌≡◌, ◌≤◌, arith, rules, length}
+use Rattle.types.proofs.Prelude.{◌≡◌, ◌≤◌, length}
 use Rattle.lines.specs.Hex.{hex_text}
 use Rattle.types.specs.Span.{over}
-use Rattle.lines.proofs.Writing.{put_on, put_end}
 use Rattle.lines.proofs.field.put_hex.Given as goal
 
 abbrev pub invariant-loop-i : goal.invariant-loop-i

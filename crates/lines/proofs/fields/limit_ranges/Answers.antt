@@ -1,4 +1,4 @@
-use Rattle.types.proofs.Prelude.{cases, rules}
+use Rattle.types.proofs.Prelude.{cases}
 use Rattle.lines.specs.Fields.{limit_ranges}
 use Rattle.lines.proofs.fields.limit_ranges.Goals as goal
 

@@ -1,4 +1,4 @@
-use Rattle.types.proofs.Prelude.{cases, rules}
+use Rattle.types.proofs.Prelude.{cases}
 use Rattle.lines.proofs.fields.memory_ranges.Goals as goal
 
 pub returns-then-wide-ge2 : goal.returns-then-wide-ge2

@@ -37,5 +37,5 @@ returns-in-7 c = ap store_kind_of (sym c.in-7.is)
 
 pub returns-in_default : goal.returns-in_default
 returns-in_default c =
-    let r = c.in_default-own.rest in
+    let r = c.in_default.in_default-own.rest in
     store_last _ r.0.0.0.0.0.0.0.1 r.0.0.0.0.0.0.1 r.0.0.0.0.0.1 r.0.0.0.0.1 r.0.0.0.1 r.0.0.1 r.0.1 r.1

@@ -1,4 +1,4 @@
-use Rattle.types.proofs.Prelude.{cases, rules}
+use Rattle.types.proofs.Prelude.{cases}
 use Rattle.lines.proofs.fields.table_ranges.Goals as goal
 
 pub returns-then-kind-ge2 : goal.returns-then-kind-ge2

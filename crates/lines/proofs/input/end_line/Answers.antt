@@ -1,4 +1,4 @@
-use Rattle.types.proofs.Prelude.{rules, cases}
+use Rattle.types.proofs.Prelude.{cases}
 use Rattle.lines.specs.Input.{ended_of}
 use Rattle.lines.proofs.input.end_line.Goals as goal
 

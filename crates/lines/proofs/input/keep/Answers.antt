@@ -1,7 +1,6 @@
-use Rattle.types.proofs.Prelude.{◌+◌, ◌-◌, ◌≤◌, ◌≡◌, refl, sym, arith, length, take, rules}
-use Rattle.types.specs.Span.{over}
+use Rattle.types.proofs.Prelude.{refl, sym, arith, rules}
 use Rattle.types.proofs.Spans.{over_nil}
-use Rattle.lines.proofs.Hosts.{left_of, keep_more, keep_turn, keep_end, keep_short}
+use Rattle.lines.proofs.Hosts.{keep_more, keep_turn, keep_end, keep_short}
 use Rattle.lines.proofs.input.keep.Goals as goal
 
 pub loop-at-init : goal.loop-at-init

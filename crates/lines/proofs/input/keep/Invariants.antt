@@ -1,7 +1,6 @@
-use Rattle.types.proofs.Prelude.{◌+◌, ◌-◌, ◌≤◌, ◌≡◌, refl, sym, arith, length, take, rules}
+use Rattle.types.proofs.Prelude.{◌+◌, ◌-◌, ◌≤◌, ◌≡◌, length, take}
 use Rattle.types.specs.Span.{over}
-use Rattle.types.proofs.Spans.{over_nil}
-use Rattle.lines.proofs.Hosts.{left_of, keep_more, keep_turn, keep_end, keep_short}
+use Rattle.lines.proofs.Hosts.{left_of}
 use Rattle.lines.proofs.input.keep.Given as goal
 
 abbrev pub invariant-loop-at : goal.invariant-loop-at

@@ -1,7 +1,5 @@
-use Rattle.types.proofs.Prelude.{◌≡◌, refl, ◌≤◌, ◌+◌, ◌-◌, ◌*◌, arith, rules, length, take, length-set}
-use Rattle.types.specs.Span.{over}
-use Rattle.lines.specs.Line.{fields_text}
-use Rattle.lines.proofs.Writing.{fields_none, fields_put, fields_all}
+use Rattle.types.proofs.Prelude.{refl, arith, rules, length-set}
+use Rattle.lines.proofs.Writing.{fields_none, fields_put}
 use Rattle.lines.proofs.line.put_fields.Goals as goal
 
 pub loop-i-init : goal.loop-i-init

@@ -1,7 +1,6 @@
-use Rattle.types.proofs.Prelude.{◌≡◌, refl, ◌≤◌, ◌+◌, ◌-◌, ◌*◌, arith, rules, length, take, length-set}
+use Rattle.types.proofs.Prelude.{◌≡◌, ◌≤◌, ◌+◌, ◌-◌, ◌*◌, length, take}
 use Rattle.types.specs.Span.{over}
 use Rattle.lines.specs.Line.{fields_text}
-use Rattle.lines.proofs.Writing.{fields_none, fields_put, fields_all}
 use Rattle.lines.proofs.line.put_fields.Given as goal
 
 abbrev pub invariant-loop-i : goal.invariant-loop-i

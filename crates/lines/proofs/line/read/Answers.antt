@@ -1,4 +1,4 @@
-use Rattle.types.proofs.Prelude.{refl, rules}
+use Rattle.types.proofs.Prelude.{refl}
 use Rattle.lines.specs.stages.Digits.{digit_table}
 use Rattle.lines.proofs.line.read.Goals as goal
 

@@ -1,5 +1,4 @@
 use Rattle.lines.proofs.FieldLaws.{line_short, line_bad, line_is}
-use borrow.Author.Rules.{rules}
 use Rattle.lines.proofs.line.read_by_table.Goals as goal
 
 pub returns-then-s-lt2 : goal.returns-then-s-lt2

@@ -1,5 +1,4 @@
-use Rattle.types.proofs.Prelude.{◌≡◌, refl, ◌≤◌, ◌-◌, arith, rules, length, drop, replicate}
-use Rattle.lines.specs.{Line.fields_of, stages.Back.filled}
+use Rattle.types.proofs.Prelude.{arith, rules}
 use Rattle.lines.proofs.FieldLaws.{fields_on, fields_bad, fields_char, fields_short, fields_many, fields_end}
 use Rattle.lines.proofs.line.read_fields.Goals as goal
 

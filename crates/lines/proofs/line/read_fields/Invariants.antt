@@ -1,6 +1,5 @@
-use Rattle.types.proofs.Prelude.{◌≡◌, refl, ◌≤◌, ◌-◌, arith, rules, length, drop, replicate}
+use Rattle.types.proofs.Prelude.{◌≡◌, ◌≤◌, ◌-◌, length, drop, replicate}
 use Rattle.lines.specs.{Line.fields_of, stages.Back.filled}
-use Rattle.lines.proofs.FieldLaws.{fields_on, fields_bad, fields_char, fields_short, fields_many, fields_end}
 use Rattle.lines.proofs.line.read_fields.Given as goal
 
 abbrev pub invariant-loop-at : goal.invariant-loop-at

@@ -1,5 +1,4 @@
 use Rattle.lines.proofs.Runs.{closed_in, closed_short, closed_long}
-use borrow.Author.Rules.{rules}
 use Rattle.lines.proofs.session.close.Goals as goal
 
 pub returns-then-e-input : goal.returns-then-e-input

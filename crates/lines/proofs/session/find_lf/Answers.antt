@@ -1,5 +1,4 @@
-use Rattle.types.proofs.Prelude.{◌≡◌, refl, ◌≤◌, ◌+◌, ◌-◌, arith, rules, length, drop}
-use Rattle.lines.specs.Pieces.{lf_at}
+use Rattle.types.proofs.Prelude.{arith}
 use Rattle.lines.proofs.LineEnds.{lf_on, lf_here, lf_none}
 use Rattle.lines.proofs.session.find_lf.Goals as goal
 

@@ -1,6 +1,5 @@
-use Rattle.types.proofs.Prelude.{◌≡◌, refl, ◌≤◌, ◌+◌, ◌-◌, arith, rules, length, drop}
+use Rattle.types.proofs.Prelude.{◌≡◌, ◌≤◌, ◌+◌, ◌-◌, length, drop}
 use Rattle.lines.specs.Pieces.{lf_at}
-use Rattle.lines.proofs.LineEnds.{lf_on, lf_here, lf_none}
 use Rattle.lines.proofs.session.find_lf.Given as goal
 
 abbrev pub invariant-loop-i : goal.invariant-loop-i

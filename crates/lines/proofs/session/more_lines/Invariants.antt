@@ -1,11 +1,7 @@
-use Rattle.types.proofs.Prelude.{◌≡◌, refl, ap, ◌∙◌, arith, false, ◌≤◌, ◌+◌, ◌-◌, ◌*◌, ◌/◌, length, drop, rules}
+use Rattle.types.proofs.Prelude.{◌≡◌, false, ◌≤◌, ◌+◌, ◌-◌, ◌*◌, ◌/◌, length, drop}
 use Rattle.machine.specs.{Words.machine_from, Machine.buffers, Words.row_length}
-use mathlib.Core.Logic.{⊎_elim}
 use Rattle.types.specs.Raw.{raw_bytes}
 use Rattle.lines.specs.{AnswerLine.answer_bytes, Pieces.whole_lines, stages.Runs.held_on, stages.Runs.Ready, stages.Runs.end_of}
-use Rattle.lines.specs.declared.session.Progress.{Progress}
-use Rattle.lines.proofs.Runs.{turned_line, turn_does, turn_later, turn_on, run_stop, run_full, came}
-use Rattle.lines.proofs.Carried.{proceed_ready, proceed_behind, proceed_step, ready_came, reached_row, row_line}
 use Rattle.lines.proofs.session.more_lines.Given as goal
 
 abbrev pub invariant-loop-room : goal.invariant-loop-room

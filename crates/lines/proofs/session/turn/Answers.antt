@@ -1,4 +1,4 @@
-use Rattle.types.proofs.Prelude.{refl, arith, true, rules}
+use Rattle.types.proofs.Prelude.{refl, arith, true}
 use Rattle.machine.specs.{Words.machine_from, Machine.buffers}
 use Rattle.lines.proofs.Runs.{turn_does, turn_makes, turn_none}
 use Rattle.lines.proofs.Carried.{proceed_ready, proceed_behind, proceed_step, fresh_ready, fresh_behind, fresh_says}

@@ -1,6 +1,5 @@
 use Rattle.types.specs.Span.{over}
 use Rattle.lines.specs.{Writing.numbers_of, stages.Back.filled, stages.Back.back_of, stages.Back.wanted_back}
-use borrow.Author.Rules.{rules}
 use Rattle.lines.proofs.write.fields_back.Goals as goal
 
 pub returns-in-NewMemory : goal.returns-in-NewMemory

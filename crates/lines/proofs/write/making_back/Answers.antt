@@ -1,6 +1,5 @@
 use Rattle.types.specs.Span.{over}
 use Rattle.lines.specs.stages.Back.{filled, making_back}
-use borrow.Author.Rules.{rules}
 use Rattle.lines.proofs.write.making_back.Goals as goal
 
 pub returns : goal.returns

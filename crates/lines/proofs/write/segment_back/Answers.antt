@@ -1,7 +1,6 @@
 use Rattle.types.specs.Span.{over}
 use Rattle.lines.specs.stages.Back.{filled}
 use Rattle.lines.proofs.BackLaws.{so_many, all_four, back_items}
-use borrow.Author.Rules.{rules}
 use Rattle.lines.proofs.write.segment_back.Goals as goal
 
 pub returns-in-0 : goal.returns-in-0
@@ -23,5 +22,5 @@ returns-in-3 c = back_items _ _ _ 3 (so_many _ _ c.in-3.is) c.kind_number-kind.e
 pub returns-in_default : goal.returns-in_default
 unfolding filled over
 returns-in_default c =
-    let r = c.in_default-own.rest in
+    let r = c.in_default.in_default-own.rest in
     back_items _ _ _ 4 (all_four _ r.0.0.0.1 r.0.0.1 r.0.1 r.1) c.kind_number-kind.ensures c.fielded-in_default.ensures

@@ -1,6 +1,5 @@
 use Rattle.types.specs.Span.{over}
 use Rattle.lines.specs.{Writing.numbers_of, stages.Back.filled, stages.Back.back_of}
-use borrow.Author.Rules.{rules}
 use Rattle.lines.proofs.write.table_back.Goals as goal
 
 pub returns-in-Grow : goal.returns-in-Grow

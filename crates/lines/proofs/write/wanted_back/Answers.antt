@@ -1,6 +1,5 @@
 use Rattle.types.specs.Span.{over}
 use Rattle.lines.specs.stages.Back.{filled, wanted_back}
-use borrow.Author.Rules.{rules}
 use Rattle.lines.proofs.write.wanted_back.Goals as goal
 
 pub returns : goal.returns

@@ -1,6 +1,5 @@
 use Rattle.lines.specs.{Writing.write_line, stages.Back.back_of}
 use Rattle.lines.proofs.BackLaws.{few, line_few, line_wrote}
-use borrow.Author.Rules.{rules}
 use Rattle.lines.proofs.write.write_line.Goals as goal
 
 pub put_line-requires : goal.put_line-requires

@@ -1,4 +1,4 @@
-use Rattle.types.proofs.Prelude.{arith, rules}
+use Rattle.types.proofs.Prelude.{arith}
 use Rattle.lines.specs.{Writing.write_making, stages.Back.making_back}
 use Rattle.lines.proofs.BackLaws.{line_few, line_wrote}
 use Rattle.lines.proofs.write.write_making.Goals as goal
