@@ -554,10 +554,8 @@ impl Writer {
         let ty = view.ty;
         let wide = if self.chance.one_in(8) { self.yes_no() } else { u64::from(ty.is_64()) };
         let exponent = if self.chance.one_in(8) { self.exponent() } else { u64::from(ty.page_size_log2()) };
-        // around the size now and the size declared: a grown memory's type has the first as its minimum
         let minimum = match self.chance.below(8) {
-            0..3 => self.near(view.pages),
-            3 => self.near(ty.minimum()),
+            0..4 => self.near(ty.minimum()),
             4 => self.edge(),
             5 => view.pages,
             _ => ty.minimum(),

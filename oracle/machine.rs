@@ -246,16 +246,6 @@ impl MemoryPlace {
     fn live_mut(&mut self) -> &mut Memory {
         self.twin.as_mut().unwrap_or(&mut self.memory)
     }
-
-    /// The crate's own dynamic type; a twin's with the maximum that the twin lacks.
-    fn dynamic_ty(&self) -> Result<MemoryType, Refusal> {
-        let now = self.live().dynamic_ty();
-        if self.twin.is_none() {
-            return Ok(now);
-        }
-        let maximum = self.memory.ty().maximum();
-        MemoryFields { wide: now.is_64(), minimum: now.minimum(), maximum, exponent: now.page_size_log2() }.build()
-    }
 }
 
 struct TablePlace {
@@ -468,8 +458,8 @@ impl Machine {
     }
 
     fn links(&mut self, memory: u64, wanted: MemoryFields) -> Outcome {
-        let now = self.memory(memory)?.dynamic_ty()?;
-        Ok(u64::from(now.is_subtype_of(&wanted.build()?)))
+        let declared = self.memory(memory)?.memory.ty();
+        Ok(u64::from(declared.is_subtype_of(&wanted.build()?)))
     }
 
     // ---- tables

@@ -32,7 +32,6 @@ pub fn sessions() -> Vec<Short> {
     first_lines(&mut all);
     prices(&mut all);
     memory_types(&mut all);
-    links(&mut all);
     table_types(&mut all);
     all
 }
@@ -408,37 +407,6 @@ fn memory_types(all: &mut Vec<Short>) {
         });
     }
     all.push(page.done("memory-types".to_string()));
-}
-
-/// A memory of 1 to 4 pages of one byte, wide or not, bounded or not, in a room of 4: every link check around its size, first as it was made and then
-/// after a growth by 0, by 1, refused at its room, by 2, refused at its bound, refused by the limiter, by 0.
-fn links(all: &mut Vec<Short>) {
-    for wide in [0, 1] {
-        for bounded in [0, 1] {
-            let mut page = Page(String::new());
-            page.say(0x10, &[4, wide, bounded, 1, 4 * bounded, 0]);
-            links_now(&mut page);
-            for (pages, answers) in [(0, 0), (1, 0), (3, 0), (2, 0), (u64::MAX, 0), (1, 1), (0, 0)] {
-                page.say(0x04, &[1, answers << 60]);
-                page.say(0x11, &[0, pages]);
-                links_now(&mut page);
-            }
-            all.push(page.done(format!("links-{wide}-{bounded}")));
-        }
-    }
-}
-
-/// The link check of memory 0 against minima of 0 to 5 pages without a maximum and with one from 3 to 5, of both index types and page sizes.
-fn links_now(page: &mut Page) {
-    for minimum in 0..6 {
-        for maximum in [None, Some(3), Some(4), Some(5)] {
-            for wide in [0, 1] {
-                for exponent in [0, 16] {
-                    page.say(0x30, &[0, wide, u64::from(maximum.is_some()), minimum, maximum.unwrap_or(0), exponent]);
-                }
-            }
-        }
-    }
 }
 
 fn table_types(all: &mut Vec<Short>) {

@@ -32,7 +32,7 @@ class Old:
     def __init__(self, path):
         text = open(path, encoding="utf-8").read()
         self.head = text.split("\n", 1)[0]
-        self.uses, self.goals, self.inv, self.rest = [], {}, {}, []
+        self.uses, self.goals, self.inv, self.rest, self.measure = [], {}, {}, [], {}
         sig = None
         pieces = blocks(text)
         i = 0
@@ -51,10 +51,20 @@ class Old:
                     body.append(pieces[j])
                     j += 1
                 if m[2].startswith("Need-"):
-                    self.goals[flat(m[2][5:])] = (m[1], unf, body)
+                    it = m[2][5:]
+                    it = re.sub(r"^(overflow|nonzero|offset)-", "", it)
+                    it = re.sub(r"^slice-bounds-", "part-", it)
+                    self.goals[flat(it)] = (m[1], unf, body)
                 else:
                     self.inv[m[2]] = (m[1], unf, body)
                 i = j
+                continue
+            elif (q := re.match(r"abbrev (μ_\S+) : Measures ", p)) and i + 1 < len(pieces):
+                self.measure[q[1][2:]] = pieces[i + 1]
+                i += 2
+                continue
+            elif re.match(r"abbrev \S+_(at|below) : ℕ → In ", p):
+                i += 2
                 continue
             elif re.match(r"pub \S+[-_]spec ", p) or re.match(r"\S+[-_]spec( \S+)* =", p):
                 pass
@@ -92,12 +102,12 @@ class Names:
             if flat(p[2][0]) == flat(step):
                 return [p[2][1]] + rest
         for i, p in chain:
-            if flat(p[2][1]) == flat(step):
+            if flat(p[2][1]).lower() == flat(step).lower() or flat(p[2][0]).lower() == flat(step).lower():
                 return [p[2][1]] + rest
         return parts
 
 
-def rewrite(text, n, place):
+def rewrite(text, n, place, recursive=False):
     chain = n.chain(place)
     alias = {"c"}
     for m in re.finditer(rf"let (\S+) = c((?:\.before)*) in", text):
@@ -112,7 +122,12 @@ def rewrite(text, n, place):
             return parts[0]
         return ".".join([parts[0]] + n.path(chain, tail))
 
-    return CHAIN.sub(one, text)
+    text = CHAIN.sub(one, text)
+    text = re.sub(rf"(?<![\w.])now ({NAME}(?:\.{NAME})*)", r"\1.now", text)
+    text = re.sub(r"\bnot-(?:true|false) _ (?=\w+\.)", "", text)
+    if recursive:
+        text = re.sub(r"\.requires\.1(?![0-9])", ".requires", text)
+    return text
 
 
 def keys(crate, names):
@@ -127,14 +142,21 @@ def module(crate, parts):
 
 
 def uses_of(old):
+    """The use lines without what only a Proof.antt names."""
+    gone = re.compile(r"(^|\.)(statement|Statement|Tie|Reads|Kinds)(\.|$)|Lts-|^Fn\.|^borrow\.Fn\.")
     keep = []
     for u in old.uses:
-        if re.search(r"\.(Statement|Tie|Reads|Kinds)\b|\.Lts-|use borrow\.\{Fn\.|use borrow\.Fn\.|\.\{[^}]*(statement|Tie\.close)", u):
-            inner = re.findall(r"Rule\.[A-Za-z.]*\.[^,}\s]+", u)
-            if inner and u.startswith("use borrow.{"):
-                keep.append("use borrow.{" + ", ".join(inner) + "}")
+        m = re.match(r"use (\S+?)\.\{([^}]*)\}(.*)$", u, re.S)
+        if not m:
+            if not gone.search(u[4:].split(" ")[0]):
+                keep.append(u)
             continue
-        keep.append(u)
+        if gone.search(m[1]):
+            continue
+        items = [x.strip() for x in m[2].split(",")]
+        items = [x for x in items if x and x != "now" and not gone.search(x.split(" ")[0])]
+        if items:
+            keep.append(f"use {m[1]}.{{{', '.join(items)}}}{m[3]}")
     return keep
 
 
@@ -162,7 +184,7 @@ def main():
         o, n = Old(path), Names(e)
         to = os.path.join(folder, "proofs", rel)
         if mode == "invariants":
-            if not o.inv and not any(parts[-1].startswith("+") for _ in [0]):
+            if not o.inv and not o.measure:
                 continue
             out = []
             for kind, (name, unf, body) in o.inv.items():
@@ -191,6 +213,20 @@ def main():
 
                 rhs = CHAIN.sub(sub_, rhs)
                 out.append(f"abbrev pub {what}-{new} : goal.{what}-{new}\n{what}-{new} l ={rhs}")
+            for f, line in o.measure.items():
+                params = next((v for k, v in e["params"].items() if k.split("::")[-1] == f), [])
+
+                def arg(m):
+                    q = m[0].split(".")
+                    if q[0] != "a" or len(q) == 1:
+                        return m[0]
+                    k, q = 0, q[1:]
+                    while q and q[0] == "1":
+                        k, q = k + 1, q[1:]
+                    return ".".join(["l", params[k]] + q[1:])
+
+                rhs = CHAIN.sub(arg, line.split("=", 1)[1])
+                out.append(f"abbrev pub decreases-{f} : goal.decreases-{f}\ndecreases-{f} l ={rhs}")
             if out:
                 os.makedirs(to, exist_ok=True)
                 uses = uses_of(o) + [f"use {module(crate, parts)}.Given as goal"]
@@ -200,11 +236,12 @@ def main():
             if rel not in open_goals:
                 continue
             out = []
+            t = "t " if parts[-1].startswith("+") else ""
             for g in open_goals[rel]:
                 found = [(a, b, i) for a, (b, i) in n.goal.items() if b == g and a in o.goals]
                 if not found:
                     missing.append((rel, g, "no old answer"))
-                    out.append(f"pub {g} : goal.{g}\n{g} c = ?")
+                    out.append(f"pub {g} : goal.{g}\n{g} {t}c = ?")
                     continue
                 a, b, i = found[0]
                 name, unf, body = o.goals[a]
@@ -213,7 +250,7 @@ def main():
                 for piece in body:
                     h = re.match(rf"{re.escape(name)}((?: \S+)*?) =", piece)
                     rest = piece[h.end() :] if h else piece[len(name) :]
-                    lines.append(f"{g} c ={rewrite(rest, n, place)}")
+                    lines.append(f"{g} {t}c ={rewrite(rest, n, place, bool(t))}")
                 u = "".join("\n" + x for x in unf)
                 out.append(f"pub {g} : goal.{g}{u}\n" + "\n".join(lines))
             if out:

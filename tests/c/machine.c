@@ -149,15 +149,10 @@ static void every_kind(void)
     expect(cells_of(&h, W, 0, &v) == 0 && v == 20, "cells", v, 0, 0);
     expect(h.cells[0] == 7 && h.cells[2] == 12 && h.cells[3] == 13 && h.cells[19] == 9 && h.items[2] == 13, "the buffers", 0, 0, 0);
     struct host copy = h;
-    static const struct step more[] = {
-        {0x11, 2, {0, 8}, 0, 8, 1},
-        {0x12, 1, {0}, 0, 16, 1},
-        {0x30, 6, {0, 0, 0, 16, 0, 0}, 0, 1, 1},                       /* the size now is what the link check compares */
-        {0x30, 6, {0, 0, 0, 17, 0, 0}, 0, 0, 1},
-    };
-    run(&copy, "a copy", more, sizeof more / sizeof *more);
-    static const struct step still[] = {{0x12, 1, {0}, 0, 8, 1}, {0x30, 6, {0, 0, 0, 16, 0, 0}, 0, 0, 1}};
-    run(&h, "what was copied", still, sizeof still / sizeof *still);
+    static const struct step more[] = {{0x11, 2, {0, 8}, 0, 8, 1}, {0x12, 1, {0}, 0, 16, 1}};
+    run(&copy, "a copy", more, 2);
+    static const struct step still[] = {{0x12, 1, {0}, 0, 8, 1}};
+    run(&h, "what was copied", still, 1);
     /* a machine whose rooms lie outside the buffers is 19: nothing changes, the out parameters neither */
     copy = h;
     h.value = h.fuel = MARK;

@@ -5,7 +5,7 @@ use Rattle.types.specs.Prelude.{ℕ, ◌+◌, ◌-◌, ◌<◌, ◌≡◌, Bool,
 use Rattle.types.specs.Names.{pick, Done, done, Answer, Spanned, Limiter, TypedRawRef, CopySpan, WantedMemory, WantedTable}
 use Rattle.memory.specs.Names.{width_bytes, load_width, sound_memory, LoadKind, StoreKind, Memory, GrownMemory, CreatedMemory}
 use Rattle.memory.specs.{LittleEndian.le_value, Access.address_of, Access.extend, Access.loaded_of, Access.load_found, Access.load_at, Access.store_found}
-use Rattle.memory.specs.{Access.store_at, Memory.pages_of, Memory.dynamic_of, Memory.load_memory, Memory.store_memory, Grow.grow_memory, declared.access.Address.Address}
+use Rattle.memory.specs.{Access.store_at, Memory.pages_of, Memory.load_memory, Memory.store_memory, Grow.grow_memory, declared.access.Address.Address}
 use Rattle.memory.specs.{declared.access.Address.TheVariants.At, declared.access.Address.TheVariants.Outside, New.new_memory}
 use Rattle.memory.proofs.Accesses.{address_is}
 use Rattle.table.specs.Names.{sound_table, sound_segment, Table, GrownTable, ElementSegment, CreatedTable, MadeSegment}
@@ -117,12 +117,12 @@ module _ (r : ℕ) (m : Machine) (b : Buffers) (ms : List Memory) (ts : List Tab
     -- 11 to 14, 30
     memory_alike : (o : MemoryOp)
         → sight of_memory (perform_memory (memory_at m i) b.bytes m.fuel m.limiter o) ≡ sight of_memory (perform_memory (memory_at m' i) bs m.fuel m.limiter o)
-    unfolding perform_memory grow_memory link_to dynamic_of pages_of
+    unfolding perform_memory grow_memory link_to pages_of
     memory_alike (memory.Grow pages) = simp (chain, sound_memory_lem, sound_memory', w.ty, w.room, w.size)
     memory_alike memory.Size = simp (chain, w.ty, w.size)
     memory_alike (memory.Load kind pointer offset) = simp (chain, load_alike)
     memory_alike (memory.Store kind pointer offset bits) = simp (chain, store_alike)
-    memory_alike (memory.LinkCheck wanted) = simp (chain, w.ty, w.size)
+    memory_alike (memory.LinkCheck wanted) = simp (chain, w.ty)
 
   -- a table in use that is the same in both
   module _ (i : ℕ) (h : i < m.counts.tables) (w : SameTable m b m' b' i) where

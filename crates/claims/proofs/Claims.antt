@@ -6,7 +6,7 @@ use Rattle.claims.specs.Claims.{Claims}
 use Rattle.claims.proofs.{Sessions.session_is_run, Sessions.replies_run, Script.script_moves, Bound.byte_bound, Reached.bound_reached}
 use Rattle.claims.proofs.{Ledger.ledger, AlikeRun.alike, AlikeRun.alike_run, Never.never_unsound, Forms.stays_in_form, Cases.worked_cases}
 use Rattle.claims.proofs.Exits.{answer_or_refusal, refusal_leaves, accepted_when_lem, accepted_does}
-use Rattle.claims.proofs.{Copies.copy_steps_lem, Links.link_as_declared, Links.link_no_less, Spans.span_alone, Spans.span_counted, Spans.refused_writes_none}
+use Rattle.claims.proofs.{Copies.copy_steps_lem, Spans.span_alone, Spans.span_counted, Spans.refused_writes_none}
 
 -- every claim by its law
 pub claims : Claims
@@ -18,8 +18,6 @@ claims =
       accepted_when_lem = accepted_when_lem;
       accepted_does = accepted_does;
       copy_steps_lem = copy_steps_lem;
-      link_as_declared = link_as_declared;
-      link_no_less = link_no_less;
       byte_bound = byte_bound;
       bound_reached = bound_reached;
       span_alone = span_alone;

@@ -175,7 +175,7 @@ module _ (r : ℕ) (m : Machine) (b : Buffers) (op : Operation) where
               (λ p.
               let d = affords_all m (price_of r m op) p in
               branch To fits _ _
-              (λ f s. grown (after_question ∙ both_true _ _ g (both_true _ _ a (both_true _ _ d f))) c.value (s ∙ c.by-some u some asking))
+              (λ f s. grown (after_question ∙ both_true _ _ g (both_true _ _ a (both_true _ _ d f))) c.value (s ∙ c.by_some u some asking))
               (λ f.
               notice 8 0 (paid m.fuel (price_of r m op)) g (both_right _ _ (both_right _ _ f)) (named 8 refl refl) refl (sym (both_true _ _ a d))
               (sym (pick_true _ _ _ refl)) (λ l. pick_true _ _ _ a ∙ pick_false _ _ _ p ∙ pick_false _ _ _ f))))
@@ -211,7 +211,7 @@ module _ (r : ℕ) (m : Machine) (b : Buffers) (op : Operation) where
             branch To (eqb n 0) _ _
             (λ z s.
             grown (c.when ∙ both_true _ _ u (both_true _ _ k (pick_true _ _ _ z))) c.value
-            (s ∙ c.by-none u (eqb-true n 0 z) (c.asks ∙ both_right _ _ (both_right _ _ (pick_true _ _ _ z)))))
+            (s ∙ c.by_none u (eqb-true n 0 z) (c.asks ∙ both_right _ _ (both_right _ _ (pick_true _ _ _ z)))))
             (λ z.
             branch To may _ _ (asked_grew k z)
             (λ y.

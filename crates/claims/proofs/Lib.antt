@@ -19,7 +19,6 @@ pub mod Cuts
 pub mod Alike
 pub mod Left
 pub mod Targets
-pub mod Links
 pub mod Agreeing
 pub mod AlikeRun
 pub mod Cases

@@ -3,11 +3,10 @@ use Rattle.types.specs.Prelude.{ℕ, suc, ◌+◌, ◌≤◌, ◌<◌, ◌≡◌
 use contract.Lifetimes.{Lfts}
 use borrow.Fn.Kinds.{Dens, res_t, ended_of}
 use denote.Triple.Clauses.{AtExit}
-use Rattle.types.specs.{Names.word64, Names.over, Names.raw_bytes, Names.shown_of, Names.FuelCosts, Names.WantedMemory, Names.CopySpan, Steps.copy_steps}
-use Rattle.memory.specs.Names.{wanted as type_of}
-use Rattle.machine.specs.Names.{Buffers, buffers, memory_at, table_at, fresh_machine, sound_references, sound_over, stepped, step, run, OthersStay, OnlySizes}
+use Rattle.types.specs.{Names.word64, Names.over, Names.raw_bytes, Names.FuelCosts, Names.CopySpan, Steps.copy_steps}
+use Rattle.machine.specs.Names.{Buffers, buffers, table_at, fresh_machine, sound_references, sound_over, stepped, step, run, OthersStay, OnlySizes}
 use Rattle.machine.specs.Names.{Machine, Operation, MemoryOp, TableOp}
-use Rattle.machine.specs.{Memories.link_to, Words.words_of, Words.machine_from, Words.in_form, Row.in_row, Row.operate_row, Row.row_pages, Row.row_cells}
+use Rattle.machine.specs.{Words.words_of, Words.machine_from, Words.in_form, Row.in_row, Row.operate_row, Row.row_pages, Row.row_cells}
 use Rattle.machine.proofs.row.operate.Reads as row_reads
 use Rattle.machine.proofs.row.operate.Kinds as row_kinds
 use Rattle.lines.proofs.session.piece.Reads as piece_reads
@@ -21,7 +20,7 @@ use Rattle.lent.proofs.operate.operate_kept.Kinds as lent_kinds
 use Rattle.claims.specs.{Answers.accepted, Answers.value_or_listed, Answers.never, Metered.Leaves, Metered.metering, Occasions.accepted_when}
 use Rattle.claims.specs.{Effects.effects, Effects.accepted_step, Spans.span_bytes, Spans.WritesSpan, Script.script_after, Bound.wrote, Bound.totals}
 use Rattle.claims.specs.{Bound.most_r, Bound.most_bytes, Bound.fullest_run, Bound.zeros, Ledger.blank, Ledger.limiter_says, Ledger.book, Alike.Watched}
-use Rattle.claims.specs.{Alike.names_only, Alike.all_name_only, Alike.Agree, Alike.SameStep, Alike.SameRun, Links.has_grown, Sessions.read_all, Sessions.replies}
+use Rattle.claims.specs.{Alike.names_only, Alike.all_name_only, Alike.Agree, Alike.SameStep, Alike.SameRun, Sessions.read_all, Sessions.replies}
 use Rattle.claims.specs.{Sessions.answers_in, Sessions.session_text, Cases.all_hold, Cases.cases}
 
 -- R, the bytes that a reference counts, is a number of its own in every claim; the machine's is 4
@@ -41,17 +40,6 @@ pub record Claims : Type 0 where
   pub copy_steps_lem : (r : ℕ) (m : Machine) (b : Buffers) (into source : ℕ) (s : CopySpan) → accepted (step r m b (Operation.TableCopy into source s)).answer ≡ true
       → (step r m b (Operation.TableCopy into source s)).buffers.cells
       ≡ copy_steps s.len b.cells (table_at m into).start s.to (table_at m source).start s.from
-  -- The link check compares the present size; of a memory that no accepted growth by more than 0 enlarged since it was made, it answers what its declared
-  -- type gives.
-  pub link_as_declared : (r : ℕ) (m : Machine) (b : Buffers) (room : ℕ) (declared : WantedMemory) (ops : List Operation) (wanted : WantedMemory)
-      → let number = m.counts.memories in
-      let made = step r m b (Operation.NewMemory room declared) in
-      let later = run r made.machine made.buffers ops in
-      accepted made.answer ≡ true → has_grown number ops later.answers ≡ false
-      → (step r later.machine later.buffers (Operation.Memory number (MemoryOp.LinkCheck wanted))).answer ≡ link_to (type_of declared) wanted
-  -- Nor does it turn away what a declared type lets in: on any sound machine it answers at least what that gives.
-  pub link_no_less : (r : ℕ) (m : Machine) (b : Buffers) (i : ℕ) (wanted : WantedMemory) → sound_over m b ≡ true → i < m.counts.memories
-      → shown_of (link_to (memory_at m i).ty wanted) ≤ shown_of (step r m b (Operation.Memory i (MemoryOp.LinkCheck wanted))).answer
   -- 4. Metering on, B at least 1, R at most 16: the bytes written are at most B-as-F + (B-1)·K.
   pub byte_bound : (r : ℕ) (costs : FuelCosts) (b : Buffers) (ops : List Operation) → r ≤ most_r → 1 ≤ costs.copied
       → (totals r (fresh_machine true costs) b ops).bytes

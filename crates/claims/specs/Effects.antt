@@ -1,7 +1,7 @@
 -- Document 01, "First check wins", "Fuel" and "Operation lines": what an accepted operation answers, changes, takes and writes.
 use Rattle.types.specs.Prelude.{ℕ, ◌+◌, ◌-◌, List, length, get_or, replicate}
 use Rattle.types.specs.Names.{pick, cut, accept, left, paid, limiter_of, moved, match_memory, Answer, Fuel, Limiter}
-use Rattle.memory.specs.Names.{loaded_of, le_bytes, width_bytes, store_width, resized as resized_memory, pages_of, dynamic_of, memory_of, grown_size}
+use Rattle.memory.specs.Names.{loaded_of, le_bytes, width_bytes, store_width, resized as resized_memory, pages_of, memory_of, grown_size}
 use Rattle.memory.specs.Names.{wanted as type_of, least_bytes as least_of, Memory}
 use Rattle.table.specs.Names.{resized as resized_table, wanted as table_type_of, table_of, dropped, Table}
 use Rattle.machine.specs.{Outcome.settled, Fueling.fueled, declared.outcome.Outcome.Outcome, declared.fueling.Fueled.Fueled}
@@ -20,7 +20,7 @@ pub record OnOne : Type 0 where
 abbrev pub on_one : Answer → ℕ → Span → OnOne
 on_one a n s = record { answer = a; size = n; span = s }
 
--- on a memory: a growth and 12 answer the pages before, 30 whether its dynamic type is a subtype; a growth writes zeros, a store its bytes
+-- on a memory: a growth and 12 answer the pages before; a growth writes zeros, a store its bytes
 unfoldable pub memory_effect : Memory → List ℕ → MemoryOp → OnOne
 memory_effect x bytes (MemoryOp.Grow pages) =
     on_one (accept (pages_of x)) (grown_size x pages) (InBytes (x.start + x.size) (replicate (grown_size x pages - x.size) 0))
@@ -28,7 +28,7 @@ memory_effect x bytes MemoryOp.Size = on_one (accept (pages_of x)) x.size Nowher
 memory_effect x bytes (MemoryOp.Load kind pointer offset) = on_one (loaded_of kind bytes (x.start + (pointer + offset))) x.size Nowhere
 memory_effect x bytes (MemoryOp.Store kind pointer offset bits) =
     on_one (accept 0) x.size (InBytes (x.start + (pointer + offset)) (le_bytes (width_bytes (store_width kind)) bits))
-memory_effect x bytes (MemoryOp.LinkCheck wanted) = on_one (accept (pick (match_memory (dynamic_of x) (type_of wanted)) 1 0)) x.size Nowhere
+memory_effect x bytes (MemoryOp.LinkCheck wanted) = on_one (accept (pick (match_memory x.ty (type_of wanted)) 1 0)) x.size Nowhere
 
 -- on a table: a growth and 22 answer the size before; a growth writes its cells, 24 one cell, a fill its span
 unfoldable pub table_effect : Table → List ℕ → TableOp → OnOne

@@ -7,7 +7,6 @@ pub mod Script
 pub mod Bound
 pub mod Ledger
 pub mod Alike
-pub mod Links
 pub mod Cases
 pub mod Sessions
 pub mod Claims

@@ -1,6 +1,6 @@
 -- Uniqueness: what each public function promises names one answer, and one content of each thing that it is lent to write. Assumes nothing.
 -- A function proved by a walk has no generated reading, so the statement is over the relation that is its whole `ensures`.
-use Rattle.types.proofs.Prelude.{◌≡◌, sym, ◌∙◌, ap, List, now, ℕ}
+use Rattle.types.proofs.Prelude.{◌≡◌, sym, ◌∙◌, ap, List, ℕ}
 use Rattle.types.proofs.One.{OneWith}
 use Rattle.machine.specs.{Machine.Buffers, Machine.buffers, Step.Stepped, declared.operation.Operation.Operation}
 use Rattle.types.specs.{declared.answer.Answer.Answer, declared.fuel.Fuel.Fuel, declared.limiter.Limiter.Limiter, declared.raw.TypedRawRef.TypedRawRef}
@@ -15,7 +15,7 @@ abbrev stepped_outcome : Stepped → Operated
 stepped_outcome o = record { answer = o.answer; machine = o.machine }
 
 -- one answer, one machine, and one content of each of the three buffers
-pub operate_kept_one : OneWith 3 operate_kept_kinds.ps operate_kept_kinds.r operate_kept_reads.Pre operate_kept_reads.Post Buffers (λ κs s. buffers (now s.1.0) (now s.1.1.0) (now s.1.1.1.0))
+pub operate_kept_one : OneWith 3 operate_kept_kinds.ps operate_kept_kinds.r operate_kept_reads.Pre operate_kept_reads.Post Buffers (λ κs s. buffers (s.1.0.now) (s.1.1.0.now) (s.1.1.1.0.now))
 operate_kept_one κs a x x' s s' z p q = (ap stepped_outcome (p ∙ sym q), ap (λ (o : Stepped). o.buffers) (p ∙ sym q))
 
 -- one answer, and one content of the fuel record

@@ -1,5 +1,5 @@
 -- Uniqueness: each public function's contract names one answer, and one content of what it is lent to write, for each input. Assumes nothing.
-use Rattle.types.proofs.Prelude.{sym, ◌∙◌, ap, Bool, List, ℕ, now}
+use Rattle.types.proofs.Prelude.{sym, ◌∙◌, ap, Bool, List, ℕ}
 use Rattle.types.proofs.One.{One, OneWith}
 use Rattle.types.specs.Done.{Done}
 use Rattle.lines.proofs.line.no_line.Reads as no_line_reads
@@ -35,13 +35,13 @@ pub read_line_one : One 1 read_line_kinds.ps read_line_kinds.r read_line_reads.P
 read_line_one κs a x x' s s' z p q = p ∙ sym q
 
 -- one length, and one content of the buffer
-pub write_line_one : OneWith 1 write_line_kinds.ps write_line_kinds.r write_line_reads.Pre write_line_reads.Post (List ℕ) (λ κs s. now s.1.0)
+pub write_line_one : OneWith 1 write_line_kinds.ps write_line_kinds.r write_line_reads.Pre write_line_reads.Post (List ℕ) (λ κs s. s.1.0.now)
 write_line_one κs a x x' s s' z p q = (ap (λ (o : Done ℕ). o.out) (p ∙ sym q), ap (λ (o : Done ℕ). o.cells) (p ∙ sym q))
 
-pub write_making_one : OneWith 1 write_making_kinds.ps write_making_kinds.r write_making_reads.Pre write_making_reads.Post (List ℕ) (λ κs s. now s.1.1.0)
+pub write_making_one : OneWith 1 write_making_kinds.ps write_making_kinds.r write_making_reads.Pre write_making_reads.Post (List ℕ) (λ κs s. s.1.1.0.now)
 write_making_one κs a x x' s s' z p q = (ap (λ (o : Done ℕ). o.out) (p ∙ sym q), ap (λ (o : Done ℕ). o.cells) (p ∙ sym q))
 
-pub write_answer_line_one : OneWith 1 write_answer_line_kinds.ps write_answer_line_kinds.r write_answer_line_reads.Pre write_answer_line_reads.Post (List ℕ) (λ κs s. now s.0)
+pub write_answer_line_one : OneWith 1 write_answer_line_kinds.ps write_answer_line_kinds.r write_answer_line_reads.Pre write_answer_line_reads.Post (List ℕ) (λ κs s. s.0.now)
 write_answer_line_one κs a x x' s s' z p q = (ap (λ (o : Done Bool). o.out) (p ∙ sym q), ap (λ (o : Done Bool). o.cells) (p ∙ sym q))
 
 pub session_new_one : One 0 new_kinds.ps new_kinds.r new_reads.Pre new_reads.Post
@@ -49,15 +49,15 @@ session_new_one κs a x x' s s' z p q = p ∙ sym q
 
 -- one number, one session, one count of bytes used and written, and one content of the row, of each of the three buffers and of the output
 pub piece_one : OneWith 6 piece_kinds.ps piece_kinds.r piece_reads.Pre piece_reads.Post (List ℕ × Buffers × List ℕ)
-    (λ κs s. (now s.1.0, buffers (now s.1.1.0) (now s.1.1.1.0) (now s.1.1.1.1.0), now s.1.1.1.1.1.1.0))
+    (λ κs s. (s.1.0.buffers (s.1.1.0.now) (s.1.1.1.0.now) (s.1.1.1.1.0.now), s.1.1.1.1.1.1.0.now))
 piece_one κs a x x' s s' z p q = (ap (λ (o : Progressed). o.progress) (p ∙ sym q), ap lent (p ∙ sym q))
   where
     lent : Progressed → List ℕ × Buffers × List ℕ
     lent o = (o.words, o.buffers, o.out)
 
 -- one number of bytes, and one content of the input
-pub keep_one : OneWith 1 keep_kinds.ps keep_kinds.r keep_reads.Pre keep_reads.Post (List ℕ) (λ κs s. now s.0)
+pub keep_one : OneWith 1 keep_kinds.ps keep_kinds.r keep_reads.Pre keep_reads.Post (List ℕ) (λ κs s. s.0.now)
 keep_one κs a x x' s s' z p q = (ap (λ (o : Done ℕ). o.out) (p ∙ sym q), ap (λ (o : Done ℕ). o.cells) (p ∙ sym q))
 
-pub end_line_one : OneWith 1 end_line_kinds.ps end_line_kinds.r end_line_reads.Pre end_line_reads.Post (List ℕ) (λ κs s. now s.1.0)
+pub end_line_one : OneWith 1 end_line_kinds.ps end_line_kinds.r end_line_reads.Pre end_line_reads.Post (List ℕ) (λ κs s. s.1.0.now)
 end_line_one κs a x x' s s' z p q = (ap (λ (o : Done ℕ). o.out) (p ∙ sym q), ap (λ (o : Done ℕ). o.cells) (p ∙ sym q))

@@ -1,5 +1,5 @@
 -- Uniqueness: each public function's contract names one answer, and one content of what it is lent to write, for each input. Assumes nothing.
-use Rattle.types.proofs.Prelude.{sym, ◌∙◌, ap, List, ℕ, now}
+use Rattle.types.proofs.Prelude.{sym, ◌∙◌, ap, List, ℕ}
 use Rattle.types.proofs.One.{One, OneWith}
 use Rattle.machine.proofs.fields.hand_script.Reads as hand_script_reads
 use Rattle.machine.proofs.fields.hand_script.Kinds as hand_script_kinds
@@ -66,27 +66,27 @@ pub machine_segment_at_one : One 0 segment_at_kinds.ps segment_at_kinds.r segmen
 machine_segment_at_one κs a x x' s s' z p q = p ∙ sym q
 
 -- one outcome, and one content of each of the three buffers
-pub machine_decide_one : OneWith 3 decide_kinds.ps decide_kinds.r decide_reads.Pre decide_reads.Post Buffers (λ κs s. buffers (now s.1.0) (now s.1.1.0) (now s.1.1.1.0))
+pub machine_decide_one : OneWith 3 decide_kinds.ps decide_kinds.r decide_reads.Pre decide_reads.Post Buffers (λ κs s. buffers (s.1.0.now) (s.1.1.0.now) (s.1.1.1.0.now))
 machine_decide_one κs a x x' s s' z p q = (ap (λ (o : Performed). o.out) (p ∙ sym q), ap (λ (o : Performed). o.buffers) (p ∙ sym q))
 
 -- the rooms: one result, and one content of the buffer
 pub fuel_perform_one : One 0 fuel_kinds.ps fuel_kinds.r fuel_reads.Pre fuel_reads.Post
 fuel_perform_one κs a x x' s s' z p q = p ∙ sym q
 
-pub memory_perform_one : OneWith 1 memory_kinds.ps memory_kinds.r memory_reads.Pre memory_reads.Post (List ℕ) (λ κs s. now s.1.0)
+pub memory_perform_one : OneWith 1 memory_kinds.ps memory_kinds.r memory_reads.Pre memory_reads.Post (List ℕ) (λ κs s. s.1.0.now)
 memory_perform_one κs a x x' s s' z p q = (ap (λ (d : Done GrownMemory). d.out) (p ∙ sym q), ap (λ (d : Done GrownMemory). d.cells) (p ∙ sym q))
 
-pub table_perform_one : OneWith 1 table_kinds.ps table_kinds.r table_reads.Pre table_reads.Post (List ℕ) (λ κs s. now s.1.0)
+pub table_perform_one : OneWith 1 table_kinds.ps table_kinds.r table_reads.Pre table_reads.Post (List ℕ) (λ κs s. s.1.0.now)
 table_perform_one κs a x x' s s' z p q = (ap (λ (d : Done GrownTable). d.out) (p ∙ sym q), ap (λ (d : Done GrownTable). d.cells) (p ∙ sym q))
 
 -- a machine in place: one answer, and one content of the row and of each of the three buffers
-pub row_operate_one : OneWith 4 row_operate_kinds.ps row_operate_kinds.r row_operate_reads.Pre row_operate_reads.Post (List ℕ × Buffers) (λ κs s. (now s.0, buffers (now s.1.0) (now s.1.1.0) (now s.1.1.1.0)))
+pub row_operate_one : OneWith 4 row_operate_kinds.ps row_operate_kinds.r row_operate_reads.Pre row_operate_reads.Post (List ℕ × Buffers) (λ κs s. (s.0.buffers (s.1.0.now) (s.1.1.0.now) (s.1.1.1.0.now)))
 row_operate_one κs a x x' s s' z p q = (ap (λ (o : InRow). o.answer) (p ∙ sym q), ap (λ (o : InRow). (o.words, o.buffers)) (p ∙ sym q))
 
-pub row_proceed_one : OneWith 4 proceed_kinds.ps proceed_kinds.r proceed_reads.Pre proceed_reads.Post (List ℕ × Buffers) (λ κs s. (now s.0, buffers (now s.1.0) (now s.1.1.0) (now s.1.1.1.0)))
+pub row_proceed_one : OneWith 4 proceed_kinds.ps proceed_kinds.r proceed_reads.Pre proceed_reads.Post (List ℕ × Buffers) (λ κs s. (s.0.buffers (s.1.0.now) (s.1.1.0.now) (s.1.1.1.0.now)))
 row_proceed_one κs a x x' s s' z p q = (ap (λ (o : InRow). o.answer) (p.is ∙ sym q.is), ap (λ (o : InRow). (o.words, o.buffers)) (p.is ∙ sym q.is))
 
-pub row_fresh_one : OneWith 1 fresh_kinds.ps fresh_kinds.r fresh_reads.Pre fresh_reads.Post (List ℕ) (λ κs s. now s.0)
+pub row_fresh_one : OneWith 1 fresh_kinds.ps fresh_kinds.r fresh_reads.Pre fresh_reads.Post (List ℕ) (λ κs s. s.0.now)
 row_fresh_one κs a x x' s s' z p q = (ap (λ (o : Rowed). o.number) (p ∙ sym q), ap (λ (o : Rowed). o.words) (p ∙ sym q))
 
 pub row_is_ready_one : One 1 is_ready_kinds.ps is_ready_kinds.r is_ready_reads.Pre is_ready_reads.Post

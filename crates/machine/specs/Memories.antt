@@ -2,7 +2,7 @@
 use Rattle.types.specs.Prelude.{ℕ, ◌-◌, List, leb, ltb, length}
 use Rattle.types.specs.Names.{pick, unless, both, Done, done, accept, build_memory, match_memory}
 use Rattle.types.specs.Names.{Answer, Fuel, Limiter, BuiltMemory, MemoryType, WantedMemory}
-use Rattle.memory.specs.Names.{pages_of, dynamic_of, load_memory, store_memory, new_memory, grow_memory, Memory, GrownMemory, MadeMemory, CreatedMemory}
+use Rattle.memory.specs.Names.{pages_of, load_memory, store_memory, new_memory, grow_memory, Memory, GrownMemory, MadeMemory, CreatedMemory}
 use Rattle.machine.specs.{Machine.capacity, Machine.memory_at, Machine.next_byte, Outcome.leaves, Outcome.creates, Outcome.refused, Outcome.one_memory_more}
 use Rattle.machine.specs.declared.{records.Machine.Machine, outcome.Outcome.Outcome, outcome.Change.Change, operation.MemoryOp.MemoryOp}
 
@@ -15,21 +15,21 @@ unfoldable pub linked : MemoryType → BuiltMemory → Answer
 linked t (BuiltMemory.Refused r) = Answer.Refusal r
 linked t (BuiltMemory.Built wanted) = accept (pick (match_memory t wanted) 1 0)
 
--- 30, of a memory of the given type
-unfoldable pub link_to : MemoryType → WantedMemory → Answer
-link_to t w = linked t (build_memory w.wide w.limits w.exponent)
+-- 30, against a memory's declared type
+unfoldable pub link_to : Memory → WantedMemory → Answer
+link_to m w = linked m.ty (build_memory w.wide w.limits w.exponent)
 
 -- what a store leaves
 abbrev pub memory_stored : Memory → Fuel → Limiter → Done Answer → Done GrownMemory
 memory_stored m f l s = done (memory_kept m f l s.out) s.cells
 
--- 11 to 14 and 30, on one memory's record; 30 compares its dynamic type (document 02, No. 3)
+-- 11 to 14 and 30, on one memory's record
 unfoldable pub perform_memory : Memory → List ℕ → Fuel → Limiter → MemoryOp → Done GrownMemory
 perform_memory m bs f l (MemoryOp.Grow pages) = grow_memory m bs pages f l
 perform_memory m bs f l MemoryOp.Size = done (memory_kept m f l (accept (pages_of m))) bs
 perform_memory m bs f l (MemoryOp.Load kind pointer offset) = done (memory_kept m f l (load_memory kind m bs pointer offset)) bs
 perform_memory m bs f l (MemoryOp.Store kind pointer offset bits) = memory_stored m f l (store_memory kind m bs pointer offset bits)
-perform_memory m bs f l (MemoryOp.LinkCheck wanted) = done (memory_kept m f l (link_to (dynamic_of m) wanted)) bs
+perform_memory m bs f l (MemoryOp.LinkCheck wanted) = done (memory_kept m f l (link_to m wanted)) bs
 
 -- the record goes back to its place
 abbrev pub memory_out : Machine → ℕ → GrownMemory → Outcome

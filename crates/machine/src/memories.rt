@@ -43,7 +43,7 @@ fn link_number(matches: bool) -> Answer
     Answer::Value(Value::Number(0))
 }
 
-// 1 exactly when the type is a subtype of the wanted one.
+// 1 exactly when the declared type is a subtype of the wanted one.
 fn linked(ty: MemoryType, wanted: BuiltMemory) -> Answer
     ensures { result ≡ linked ty wanted }
 {
@@ -53,9 +53,10 @@ fn linked(ty: MemoryType, wanted: BuiltMemory) -> Answer
     }
 }
 
-fn link(ty: MemoryType, wanted: WantedMemory) -> Answer
-    ensures { result ≡ link_to ty wanted }
+fn link(memory: Memory, wanted: WantedMemory) -> Answer
+    ensures { result ≡ link_to memory wanted }
 {
+    let ty = memory.ty;
     let limits = wanted.limits;
     let built = MemoryType::build(wanted.wide, limits, wanted.exponent);
     linked(ty, built)
@@ -112,12 +113,7 @@ pub fn perform(
             offset,
             bits,
         } => store(memory, bytes, fuel, limiter, kind, pointer, offset, bits),
-        MemoryOp::LinkCheck { wanted } => keep(
-            memory,
-            fuel,
-            limiter,
-            link(memory.dynamic_ty(), wanted),
-        ),
+        MemoryOp::LinkCheck { wanted } => keep(memory, fuel, limiter, link(memory, wanted)),
     }
 }
 

@@ -531,7 +531,7 @@ module _ (want : WantedMemory) (start room : ℕ) (bs : List ℕ) (l : Limiter) 
         at = start;
         vs = replicate w.memory.size 0;
         low = omega arith;
-        high = omega (arith, length-replicate {A = ℕ} w.memory.size 0, w.sound.held, w.room-is);
+        high = omega (arith, length-replicate {A = ℕ} w.memory.size 0, w.sound.held, w.room_is);
         cells = w.cells;
       })
       new_view
@@ -540,7 +540,7 @@ module _ (want : WantedMemory) (start room : ℕ) (bs : List ℕ) (l : Limiter) 
   new_length =
       ⊎_elim
       (λ w. ap length w.cells)
-      (λ w. within_length bs _ _ _ new_within (omega (arith, w.sound.inside, w.start_is, w.room-is)))
+      (λ w. within_length bs _ _ _ new_within (omega (arith, w.sound.inside, w.start_is, w.room_is)))
       new_view
 
   -- a memory that was made is sound over the buffer

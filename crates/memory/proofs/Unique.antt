@@ -1,5 +1,5 @@
 -- Uniqueness: each public function's contract names one answer, and one content of what it is lent to write, for each input. Assumes nothing.
-use Rattle.types.proofs.Prelude.{sym, ◌∙◌, List, ℕ, now}
+use Rattle.types.proofs.Prelude.{sym, ◌∙◌, List, ℕ}
 use Rattle.types.proofs.One.{One, OneWith}
 use Rattle.types.proofs.Dones.{done_parts}
 use Rattle.memory.proofs.access.Width.bytes.Reads as width_bytes_reads
@@ -48,10 +48,10 @@ access_locate_one κs a x x' s s' z p q = p ∙ sym q
 pub access_load_one : One 1 access_load_kinds.ps access_load_kinds.r access_load_reads.Pre access_load_reads.Post
 access_load_one κs a x x' s s' z p q = p ∙ sym q
 
-pub access_store_one : OneWith 1 access_store_kinds.ps access_store_kinds.r access_store_reads.Pre access_store_reads.Post (List ℕ) (λ κs s. now s.0)
+pub access_store_one : OneWith 1 access_store_kinds.ps access_store_kinds.r access_store_reads.Pre access_store_reads.Post (List ℕ) (λ κs s. s.0.now)
 access_store_one κs a x x' s s' z p q = done_parts (p ∙ sym q)
 
-pub memory_grow_one : OneWith 1 memory_grow_kinds.ps memory_grow_kinds.r memory_grow_reads.Pre memory_grow_reads.Post (List ℕ) (λ κs s. now s.1.0)
+pub memory_grow_one : OneWith 1 memory_grow_kinds.ps memory_grow_kinds.r memory_grow_reads.Pre memory_grow_reads.Post (List ℕ) (λ κs s. s.1.0.now)
 memory_grow_one κs a x x' s s' z p q = done_parts (p ∙ sym q)
 
 pub memory_pages_one : One 0 memory_pages_kinds.ps memory_pages_kinds.r memory_pages_reads.Pre memory_pages_reads.Post
@@ -66,14 +66,14 @@ memory_is_sound_one κs a x x' s s' z p q = p ∙ sym q
 pub memory_load_one : One 1 memory_load_kinds.ps memory_load_kinds.r memory_load_reads.Pre memory_load_reads.Post
 memory_load_one κs a x x' s s' z p q = p ∙ sym q
 
-pub memory_store_one : OneWith 1 memory_store_kinds.ps memory_store_kinds.r memory_store_reads.Pre memory_store_reads.Post (List ℕ) (λ κs s. now s.1.0)
+pub memory_store_one : OneWith 1 memory_store_kinds.ps memory_store_kinds.r memory_store_reads.Pre memory_store_reads.Post (List ℕ) (λ κs s. s.1.0.now)
 memory_store_one κs a x x' s s' z p q = done_parts (p ∙ sym q)
 
-pub memory_read_one : OneWith 2 memory_read_kinds.ps memory_read_kinds.r memory_read_reads.Pre memory_read_reads.Post (List ℕ) (λ κs s. now s.1.1.1.0)
+pub memory_read_one : OneWith 2 memory_read_kinds.ps memory_read_kinds.r memory_read_reads.Pre memory_read_reads.Post (List ℕ) (λ κs s. s.1.1.1.0.now)
 memory_read_one κs a x x' s s' z p q = done_parts (p ∙ sym q)
 
-pub memory_write_one : OneWith 2 memory_write_kinds.ps memory_write_kinds.r memory_write_reads.Pre memory_write_reads.Post (List ℕ) (λ κs s. now s.1.0)
+pub memory_write_one : OneWith 2 memory_write_kinds.ps memory_write_kinds.r memory_write_reads.Pre memory_write_reads.Post (List ℕ) (λ κs s. s.1.0.now)
 memory_write_one κs a x x' s s' z p q = done_parts (p ∙ sym q)
 
-pub new_new_memory_one : OneWith 1 new_new_memory_kinds.ps new_new_memory_kinds.r new_new_memory_reads.Pre new_new_memory_reads.Post (List ℕ) (λ κs s. now s.1.1.1.0)
+pub new_new_memory_one : OneWith 1 new_new_memory_kinds.ps new_new_memory_kinds.r new_new_memory_reads.Pre new_new_memory_reads.Post (List ℕ) (λ κs s. s.1.1.1.0.now)
 new_new_memory_one κs a x x' s s' z p q = done_parts (p ∙ sym q)

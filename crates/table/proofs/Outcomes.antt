@@ -37,8 +37,8 @@ goes_both d t len i j n {r} {s} f number price v w p q = ((λ g e. end_within d 
 
 -- both spans of an init that goes on
 pub ends_within : (t : Table) (s : ElementSegment) (len count i j n : ℕ) {r : Bool}
-    → Within t len → Places s count → r ≡ both (inside i n t.size) (inside j n s.size) → not r ≡ false
+    → Within t len → Places s count → r ≡ both (inside i n t.size) (inside j n s.size) → r ≡ true
     → (t.start + (i + n) ≤ len) × (s.start + (j + n) ≤ count)
 ends_within t s len count i j n v w p q =
-    let e : both (inside i n t.size) (inside j n s.size) ≡ true = known_test p (not-false _ q) in
+    let e : both (inside i n t.size) (inside j n s.size) ≡ true = known_test p q in
     (end_within t len i n v (both_1 _ _ e), omega (arith, within_is j n s.size (both_2 _ _ e)))

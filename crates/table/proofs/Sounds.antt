@@ -70,8 +70,8 @@ pub tested_buffer : (start places len : ℕ) {r : Bool} → r ≡ sound_buffer s
 tested_buffer start places len p q = buffer_within start places len (known_test p q)
 
 -- an index below the size is one of the buffer, once the record was tested
-pub cell_within : (t : Table) (len i : ℕ) {r : Bool} → r ≡ sound_table t len → not r ≡ false → i < t.size → t.start + i < len
-cell_within t len i p q h = omega (arith, sound_within t len (known_test p (not-false _ q)))
+pub cell_within : (t : Table) (len i : ℕ) {r : Bool} → r ≡ sound_table t len → r ≡ true → i < t.size → t.start + i < len
+cell_within t len i p q h = omega (arith, sound_within t len (known_test p q))
 
-pub item_within : (s : ElementSegment) (len i : ℕ) {r : Bool} → r ≡ sound_segment s len → not r ≡ false → i < s.size → s.start + i < len
-item_within s len i p q h = omega (arith, segment_places s len (known_test p (not-false _ q)))
+pub item_within : (s : ElementSegment) (len i : ℕ) {r : Bool} → r ≡ sound_segment s len → r ≡ true → i < s.size → s.start + i < len
+item_within s len i p q h = omega (arith, segment_places s len (known_test p q))

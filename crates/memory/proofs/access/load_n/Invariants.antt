@@ -1,0 +1,11 @@
+use Rattle.types.proofs.Prelude.{◌*◌, ◌+◌, ◌-◌, ◌<◌, ◌^◌, ◌≤◌, rules, ◌≡◌, arith}
+use Rattle.memory.proofs.Bytes.{load_all, load_more, load_none, load_room, load_small, load_zero}
+use Rattle.memory.specs.LittleEndian.{le_value}
+use Rattle.types.specs.Span.{cut}
+use Rattle.memory.proofs.access.load_n.Given as goal
+
+abbrev pub invariant-loop-i : goal.invariant-loop-i
+invariant-loop-i l = (l.r ≡ le_value (cut l.bytes (l.at + l.i) (l.n - l.i))) × (l.r < 2 ^ (8 * (l.n - l.i))) × (l.i ≤ l.n)
+
+abbrev pub decreases-loop-i : goal.decreases-loop-i
+decreases-loop-i l = l.i

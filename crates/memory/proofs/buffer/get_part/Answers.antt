@@ -1,0 +1,6 @@
+use Rattle.memory.proofs.Copies.{part_cut}
+use borrow.Author.Rules.{rules}
+use Rattle.memory.proofs.buffer.get_part.Goals as goal
+
+pub returns : goal.returns
+returns c = part_cut _ _ _ _ c.put_all.ensures

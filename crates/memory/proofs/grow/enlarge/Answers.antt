@@ -1,0 +1,7 @@
+use Rattle.memory.specs.stages.Grow.{enlarged_by}
+use borrow.Author.Rules.{rules}
+use Rattle.memory.proofs.grow.enlarge.Goals as goal
+
+pub returns : goal.returns
+unfolding enlarged_by
+returns c = cc

@@ -1,0 +1,18 @@
+use Rattle.types.proofs.{Prelude.known_test, Prelude.rules, Prelude.arith, Spans.within_is}
+use Rattle.memory.proofs.Stages.{stage}
+use Rattle.memory.specs.Host.{read_used}
+use Rattle.memory.proofs.memory.Memory.read_used.Goals as goal
+
+pub overflow_add-self : goal.overflow_add-self
+overflow_add-self c = record { fits = omega (arith, within_is _ _ _ (known_test c.within.ensures c.if-within.true)) }
+
+pub get_part-requires : goal.get_part-requires
+get_part-requires c = omega (arith, within_is _ _ _ (known_test c.within.ensures c.if-within.true))
+
+pub returns-then-within : goal.returns-then-within
+unfolding read_used
+returns-then-within c = search stage
+
+pub returns : goal.returns
+unfolding read_used
+returns c = search stage

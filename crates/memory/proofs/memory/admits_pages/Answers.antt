@@ -1,0 +1,8 @@
+use Rattle.types.proofs.Prelude.{cases, rules}
+use Rattle.memory.proofs.memory.admits_pages.Goals as goal
+
+pub returns-then-within_bound : goal.returns-then-within_bound
+returns-then-within_bound c = search cases
+
+pub returns : goal.returns
+returns c = search cases

@@ -1,0 +1,7 @@
+use Rattle.table.specs.stages.Grow.{grant_of}
+use borrow.Author.Rules.{rules}
+use Rattle.table.proofs.grow.grant.Goals as goal
+
+pub returns : goal.returns
+unfolding grant_of
+returns c = cc

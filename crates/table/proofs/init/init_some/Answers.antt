@@ -1,0 +1,7 @@
+use Rattle.table.specs.stages.Spans.{init_some}
+use borrow.Author.Rules.{rules}
+use Rattle.table.proofs.init.init_some.Goals as goal
+
+pub returns : goal.returns
+unfolding init_some
+returns c = cc

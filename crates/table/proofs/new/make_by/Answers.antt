@@ -1,0 +1,7 @@
+use Rattle.types.proofs.{Prelude.rules, Prelude.refl, Dones.done_as}
+use Rattle.table.specs.stages.New.{made_by}
+use Rattle.table.proofs.new.make_by.Goals as goal
+
+pub returns-in-Denied : goal.returns-in-Denied
+unfolding made_by
+returns-in-Denied c = rw c.in-Denied.is (done_as c.no_table.ensures refl)
