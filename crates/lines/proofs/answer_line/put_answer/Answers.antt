@@ -1,0 +1,7 @@
+use Rattle.lines.specs.AnswerLine.{answer_line}
+use borrow.Author.Rules.{rules}
+use Rattle.lines.proofs.answer_line.put_answer.Goals as goal
+
+pub returns : goal.returns
+unfolding answer_line
+returns c = cc

@@ -1,0 +1,6 @@
+use Rattle.lines.proofs.DigitLaws.{digit_is}
+use borrow.Author.Rules.{rules}
+use Rattle.lines.proofs.field.digit.Goals as goal
+
+pub returns : goal.returns
+returns c = search digit_is

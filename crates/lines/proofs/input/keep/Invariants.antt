@@ -1,0 +1,12 @@
+use Rattle.types.proofs.Prelude.{◌+◌, ◌-◌, ◌≤◌, ◌≡◌, refl, sym, arith, length, take, rules}
+use Rattle.types.specs.Span.{over}
+use Rattle.types.proofs.Spans.{over_nil}
+use Rattle.lines.proofs.Hosts.{left_of, keep_more, keep_turn, keep_end, keep_short}
+use Rattle.lines.proofs.input.keep.Given as goal
+
+abbrev pub invariant-loop-at : goal.invariant-loop-at
+invariant-loop-at l =
+    (length l.input ≡ length l.initial.input) × (l.at ≡ l.from + l.to) × (l.to ≤ length (left_of l.initial.input l.from l.end)) × (l.input ≡ over l.initial.input 0 (take l.to (left_of l.initial.input l.from l.end)))
+
+abbrev pub decreases-loop-at : goal.decreases-loop-at
+decreases-loop-at l = l.end - l.at
