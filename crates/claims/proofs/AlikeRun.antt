@@ -126,5 +126,7 @@ unfolding run all_name_only
 alike_run r w m b m' b' [] e e' g n = record { answers = refl; machines = g }
 alike_run r w m b m' b' (op ∷ ops) e e' g n =
     let s = alike r w m b m' b' op e e' g (both_1 _ _ n) in
-    let t = alike_run r w _ _ _ _ ops (step_sound r m b op e) (step_sound r m' b' op e') s.machines (both_2 _ _ n) in
+    let x = step r m b op in
+    let y = step r m' b' op in
+    let t = alike_run r w x.machine x.buffers y.machine y.buffers ops (step_sound r m b op e) (step_sound r m' b' op e') s.machines (both_2 _ _ n) in
     record { answers = along ◌∷◌ s.answer t.answers; machines = t.machines }

@@ -14,7 +14,7 @@ use Rattle.machine.specs.{Machine.fresh_machine, Sound.sound_memories, Sound.sou
 use Rattle.machine.specs.{Outcome.changed, Outcome.settled, Step.after, Step.decide, Step.step, Step.run}
 use Rattle.machine.proofs.{Rooms.parts, ListLaws.few}
 use Rattle.claims.specs.{Answers.accepted, Script.heard, Script.says_to}
-use Rattle.claims.specs.Metered.{growth, memory_metering, table_metering, metering_of, metering, price_of, affords, paid_refusal}
+use Rattle.claims.specs.Metered.{memory_metering, table_metering, metering_of, metering, price_of, affords, paid_refusal}
 use Rattle.claims.specs.Occasions.{given, holds, comes, valid_wanted, fuel_occasion, checks_of, occasion}
 use Rattle.claims.specs.Effects.{memory_effect, table_effect, fuel_effect, effect_of, spent, asked, effects, accepted_step}
 use Rattle.claims.specs.Ledger.{Row, Book, blank, with_tables, row_at, erred, growth_charge, took, fuel_entry, grown, entry, limiter_says, book}

@@ -6,7 +6,7 @@ use Rattle.types.specs.Names.{Done, done, over, refusal, accept, price, paid, mo
 use Rattle.types.specs.{Names.BuiltMemory, Names.WantedMemory, Pick.pick, Pick.both, Limiter.hand_over, MemoryType.build_memory}
 use Rattle.types.specs.Fuel.{set_fuel, get_fuel, consume, consume_unchecked}
 use native.Mathlib.{Nat.add-mul, Nat.div-add-mod'}
-use Rattle.memory.specs.Names.{dynamic_of, resized, sound_memory, may_have, grown_size, Memory, GrownMemory, CreatedMemory}
+use Rattle.memory.specs.Names.{resized, sound_memory, may_have, grown_size, Memory, GrownMemory, CreatedMemory}
 use Rattle.memory.specs.{Access.address_of, Access.loaded_of, Access.load_found, Access.load_at, Access.store_found, Access.store_at, Memory.pages_of}
 use Rattle.memory.specs.{Memory.load_memory, Memory.store_memory, New.refused, New.new_memory, Grow.answered, Grow.growth_price, Grow.grow_memory}
 use Rattle.memory.specs.{declared.access.Address.Address, declared.access.Address.TheVariants.At, declared.access.Address.TheVariants.Outside}
@@ -190,7 +190,7 @@ module _ (r : ℕ) (m : Machine) (b : Buffers) (i : ℕ) where
       Stores : Done Answer → Type 0
       Stores d = On (memory.Store kind pointer offset bits) (memory_stored old m.fuel m.limiter d)
   used_memory (memory.LinkCheck wanted) e h s =
-      branch (λ (t : BuiltMemory). Answers (memory.LinkCheck wanted) (linked (dynamic_of old) t)) _ _ _
+      branch (λ (t : BuiltMemory). Answers (memory.LinkCheck wanted) (linked old.ty t)) _ _ _
       (λ y. accepting refl refl (both_true _ _ h y) refl)
       (λ y. refusing (change.Memory i old) (memory_put_back m i) refl refl (refusal 1 0) (named 1 refl refl) (both_right _ _ y))
 
