@@ -21,7 +21,7 @@ def blocks(text):
     """Top-level pieces: lines that begin at column 0 and what hangs below them."""
     out = []
     for line in text.split("\n"):
-        if line and not line[0].isspace() and not line.startswith("unfolding ") and line.strip() != "where":
+        if line and not line[0].isspace() and line[0] not in ")}" and not line.startswith("unfolding ") and line.strip() != "where":
             out.append([line])
         elif out:
             out[-1].append(line)
@@ -90,8 +90,8 @@ class Names:
     def path(self, chain, parts):
         """Parts behind c (with 'before' gone) by today's names."""
         step, rest = parts[0], list(parts[1:])
-        if step in ("args", "requires", "ranges", "type_inv", "utf8", "auto"):
-            return parts
+        if flat(step) in ("args", "requires", "ranges", "type_inv", "utf8", "auto", "well_formed"):
+            return [flat(step)] + rest
         for i, p in chain:
             arm = self.e["arms"][i]
             if arm:
@@ -231,7 +231,13 @@ def main():
                 os.makedirs(to, exist_ok=True)
                 uses = uses_of(o) + [f"use {module(crate, parts)}.Given as goal"]
                 with open(os.path.join(to, "Invariants.antt"), "w") as f:
-                    f.write("\n".join(uses) + "\n\n" + "\n\n".join(out) + "\n")
+                    need, text = [], "\n".join(out)
+                    for r in reversed(o.rest):
+                        n_ = re.match(r"(?:abbrev )?(\S+)", r)[1]
+                        if n_ not in ("", "--") and re.search(rf"(?<![\w.'-]){re.escape(n_)}(?![\w'-])", text):
+                            need.insert(0, r)
+                            text += "\n" + r
+                    f.write("\n".join(uses) + "\n\n" + "\n\n".join(need + out) + "\n")
         else:
             if rel not in open_goals:
                 continue

@@ -80,10 +80,10 @@ pub table_perform_one : OneWith 1 table_kinds.ps table_kinds.r table_reads.Pre t
 table_perform_one κs a x x' s s' z p q = (ap (λ (d : Done GrownTable). d.out) (p ∙ sym q), ap (λ (d : Done GrownTable). d.cells) (p ∙ sym q))
 
 -- a machine in place: one answer, and one content of the row and of each of the three buffers
-pub row_operate_one : OneWith 4 row_operate_kinds.ps row_operate_kinds.r row_operate_reads.Pre row_operate_reads.Post (List ℕ × Buffers) (λ κs s. (s.0.buffers (s.1.0.now) (s.1.1.0.now) (s.1.1.1.0.now)))
+pub row_operate_one : OneWith 4 row_operate_kinds.ps row_operate_kinds.r row_operate_reads.Pre row_operate_reads.Post (List ℕ × Buffers) (λ κs s. (s.0.now, buffers s.1.0.now s.1.1.0.now s.1.1.1.0.now))
 row_operate_one κs a x x' s s' z p q = (ap (λ (o : InRow). o.answer) (p ∙ sym q), ap (λ (o : InRow). (o.words, o.buffers)) (p ∙ sym q))
 
-pub row_proceed_one : OneWith 4 proceed_kinds.ps proceed_kinds.r proceed_reads.Pre proceed_reads.Post (List ℕ × Buffers) (λ κs s. (s.0.buffers (s.1.0.now) (s.1.1.0.now) (s.1.1.1.0.now)))
+pub row_proceed_one : OneWith 4 proceed_kinds.ps proceed_kinds.r proceed_reads.Pre proceed_reads.Post (List ℕ × Buffers) (λ κs s. (s.0.now, buffers s.1.0.now s.1.1.0.now s.1.1.1.0.now))
 row_proceed_one κs a x x' s s' z p q = (ap (λ (o : InRow). o.answer) (p.is ∙ sym q.is), ap (λ (o : InRow). (o.words, o.buffers)) (p.is ∙ sym q.is))
 
 pub row_fresh_one : OneWith 1 fresh_kinds.ps fresh_kinds.r fresh_reads.Pre fresh_reads.Post (List ℕ) (λ κs s. s.0.now)

@@ -1,0 +1,13 @@
+use Rattle.types.proofs.Prelude.{◌≡◌, refl, ◌∙◌, ◌++◌, length, drop, length-set, ◌-◌, ◌%◌, ◌≤◌, arith, rules}
+use Rattle.machine.proofs.Digits.{digit_more, digits_end, nothing_after}
+use Rattle.machine.specs.Operation.{digits_of}
+use Rattle.machine.proofs.fields.digits_of.Goals as goal
+
+pub loop-i-preserved : goal.loop-i-preserved
+loop-i-preserved c =
+    let l = c.loop-i in
+    (omega arith, length-set l.row (l.i - 1) (l.rest % 16) ∙ l.invariant.1, digit_more c.args.field l.i l.rest l.row (omega arith) (omega (arith, l.invariant.1)) l.invariant.2)
+
+pub returns : goal.returns
+returns c =
+    let l = c.loop-i in digits_end c.args.field l.i l.rest l.row (omega arith) l.invariant.2

@@ -1,0 +1,21 @@
+use Rattle.types.proofs.Prelude.{◌+◌, ◌*◌, ◌≡◌, refl, sym, ◌∙◌, arith, rules}
+use Rattle.machine.specs.Words.{record_length, all_at, record_in_form}
+use Rattle.types.specs.Pick.{both}
+use Rattle.machine.proofs.Places.{all_next, all_none}
+use Rattle.machine.proofs.form.records_in_form.Goals as goal
+
+pub loop-left-init : goal.loop-left-init
+unfolding both
+loop-left-init c = (omega arith, refl)
+
+pub loop-left-preserved : goal.loop-left-preserved
+unfolding both
+loop-left-preserved c =
+    let l = c.loop-left in
+    let more = c.loop-left-test.true in
+    (omega (arith, l.invariant.0, more), l.invariant.1 ∙ all_next record_in_form record_length _ l.at l.left _ _ l.fine _ more (omega (arith, more)) refl c.record_in_form-here.ensures)
+
+pub returns : goal.returns
+returns c =
+    let l = c.loop-left in
+    all_none record_in_form record_length _ l.at l.left l.fine (omega (arith, c.loop-left-test.false)) ∙ sym l.invariant.1

@@ -1,0 +1,11 @@
+use Rattle.machine.specs.Fueling.{charged_by}
+use borrow.Author.Rules.{rules}
+use Rattle.machine.proofs.fueling.charged_by.Goals as goal
+
+pub returns-in-Refused : goal.returns-in-Refused
+unfolding charged_by
+returns-in-Refused c = rw c.in-Refused.is c.meters.ensures
+
+pub returns-in-Done : goal.returns-in-Done
+unfolding charged_by
+returns-in-Done c = rw c.in-Done.is c.meters-in-Done.ensures

@@ -1,0 +1,34 @@
+use Rattle.types.proofs.Prelude.{sym, ap, ◌∙◌, not-true, not-false, rules}
+use Rattle.types.specs.declared.answer.Answer.{Answer}
+use Rattle.machine.specs.{Machine.buffers, Row.in_row, Words.machine_from}
+use Rattle.machine.proofs.Settling.{tested_inside, proceeds_malformed, proceeds_short, proceeds_outside, proceeds_goes}
+use Rattle.machine.proofs.row.proceed.Goals as goal
+
+pub returns-then-not-is_well_formed : goal.returns-then-not-is_well_formed
+returns-then-not-is_well_formed c =
+    let a = c.args in
+    let b = buffers (a.bytes.now) (a.cells.now) (a.items.now) in
+    proceeds_malformed (a.words.now) b a.op (sym c.is_well_formed.ensures ∙ c.if-not-is_well_formed.true) (ap (λ (z : Answer). in_row z (a.words.now) (a.bytes.now) (a.cells.now) (a.items.now)) c.refused.ensures)
+
+pub returns-then-words-lt-ROW : goal.returns-then-words-lt-ROW
+returns-then-words-lt-ROW c =
+    let a = c.args in
+    let b = buffers (a.bytes.now) (a.cells.now) (a.items.now) in
+    proceeds_short (a.words.now) b a.op (sym c.is_well_formed.ensures ∙ c.if-not-is_well_formed.false) c.if-words-lt-ROW.true (ap (λ (z : Answer). in_row z (a.words.now) (a.bytes.now) (a.cells.now) (a.items.now)) c.refused-then-words-lt-ROW.ensures)
+
+pub returns-then-not-ends_inside : goal.returns-then-not-ends_inside
+returns-then-not-ends_inside c =
+    let a = c.args in
+    let b = buffers (a.bytes.now) (a.cells.now) (a.items.now) in
+    proceeds_outside (a.words.now) b a.op (sym c.is_well_formed.ensures ∙ c.if-not-is_well_formed.false) c.if-words-lt-ROW.false (sym c.ends_inside.ensures ∙ c.if-not-ends_inside.true) (ap (λ (z : Answer). in_row z (a.words.now) (a.bytes.now) (a.cells.now) (a.items.now)) c.refused-then-not-ends_inside.ensures)
+
+pub go-requires : goal.go-requires
+go-requires c =
+    let a = c.args in
+    (c.if-words-lt-ROW.false, tested_inside (machine_from (a.words.now)) _ _ _ (sym c.ends_inside.ensures ∙ c.if-not-ends_inside.false))
+
+pub returns : goal.returns
+returns c =
+    let a = c.args in
+    let b = buffers (a.bytes.now) (a.cells.now) (a.items.now) in
+    proceeds_goes (a.words.now) b a.op (sym c.is_well_formed.ensures ∙ c.if-not-is_well_formed.false) c.if-words-lt-ROW.false (sym c.ends_inside.ensures ∙ c.if-not-ends_inside.false) c.go.ensures

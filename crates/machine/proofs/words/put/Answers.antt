@@ -1,0 +1,13 @@
+use Rattle.types.proofs.Prelude.{◌-◌, ◌≤◌, rules, length, length-set, take, ◌≡◌, refl, arith}
+use Rattle.machine.proofs.Rows.{put_none, put_turn, put_done}
+use Rattle.types.specs.Span.{over}
+use Rattle.machine.proofs.words.put.Goals as goal
+
+pub loop-i-init : goal.loop-i-init
+loop-i-init c = (put_none _ c.args.row.now c.args.at, omega arith, refl)
+
+pub loop-i-preserved : goal.loop-i-preserved
+loop-i-preserved c =
+    let l = c.loop-i in
+    let a = c.args in
+    (put_turn _ l.words a.row.now a.at l.i c.requires (omega arith) l.invariant.0, omega arith, simp length-set l.invariant.2)

@@ -1,0 +1,7 @@
+use Rattle.machine.specs.Words.{segment_words}
+use borrow.Author.Rules.{rules}
+use Rattle.machine.proofs.words.segment_words.Goals as goal
+
+pub returns : goal.returns
+unfolding segment_words
+returns c = cc
