@@ -1,7 +1,6 @@
 -- Laws of span operations: what the grant of a span shows of its bounds, and what its outcome is. Assumes nothing.
-use Rattle.types.proofs.Prelude.{◌≡◌, sym, ap, ◌∙◌, Bool, true, false, List, ℕ, ◌+◌, ◌≤◌, arith, not-false, both_1, both_2, known_test}
+use Rattle.types.proofs.Prelude.{◌≡◌, sym, ap, ◌∙◌, Bool, true, List, ℕ, ◌+◌, ◌≤◌, arith, both_1, both_2, known_test}
 use Rattle.types.proofs.{Spans.within_is, Grants.granted_span}
-use mathlib.Core.Bool.{not}
 use Rattle.types.specs.{Pick.both, Span.inside, Answer.accept, Done.span_done, stages.Grant.grant_span, stages.Grant.spanned, declared.answer.Refusal.Refusal}
 use Rattle.types.specs.{declared.fuel.Fuel.Fuel, declared.fuel.FuelStep.FuelStep}
 use Rattle.types.specs.declared.fuel.FuelStep.TheVariants.{Done, Refused}

@@ -1,7 +1,6 @@
 -- What soundness says of the places of tables and segments. Assumes nothing.
-use Rattle.types.proofs.Prelude.{◌≡◌, sym, ap, ◌∙◌, Bool, true, false, ℕ, ◌+◌, ◌≤◌, ◌<◌, arith, le-leb, lt-leb, leb-true, not-false, both_left, both_right, both_then, both_1, both_2, known_test}
+use Rattle.types.proofs.Prelude.{◌≡◌, sym, ap, ◌∙◌, Bool, true, false, ℕ, ◌+◌, ◌≤◌, ◌<◌, arith, le-leb, lt-leb, leb-true, both_left, both_right, both_then, both_1, both_2, known_test}
 use Rattle.types.proofs.Spans.{within_is}
-use mathlib.Core.Bool.{not}
 use Rattle.types.specs.{Pick.both, stages.Held.held, TableType.table_bound, TableType.valid_table}
 use Rattle.table.specs.{Table.sound_buffer, Table.sound_size, Table.sound_table, Element.sound_segment, Copy.sound_two}
 use Rattle.table.specs.{stages.Facts.Within, stages.Facts.Roomed, stages.Facts.Places, declared.table.Table.Table}

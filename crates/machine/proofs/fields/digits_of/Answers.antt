@@ -1,6 +1,5 @@
-use Rattle.types.proofs.Prelude.{◌≡◌, refl, ◌∙◌, ◌++◌, length, drop, length-set, ◌-◌, ◌%◌, ◌≤◌, arith, rules}
-use Rattle.machine.proofs.Digits.{digit_more, digits_end, nothing_after}
-use Rattle.machine.specs.Operation.{digits_of}
+use Rattle.types.proofs.Prelude.{◌∙◌, length-set, ◌-◌, ◌%◌, arith}
+use Rattle.machine.proofs.Digits.{digit_more, digits_end}
 use Rattle.machine.proofs.fields.digits_of.Goals as goal
 
 pub loop-i-preserved : goal.loop-i-preserved

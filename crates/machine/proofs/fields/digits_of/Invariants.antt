@@ -1,5 +1,4 @@
-use Rattle.types.proofs.Prelude.{◌≡◌, refl, ◌∙◌, ◌++◌, length, drop, length-set, ◌-◌, ◌%◌, ◌≤◌, arith, rules}
-use Rattle.machine.proofs.Digits.{digit_more, digits_end, nothing_after}
+use Rattle.types.proofs.Prelude.{◌≡◌, ◌++◌, length, drop, ◌≤◌}
 use Rattle.machine.specs.Operation.{digits_of}
 use Rattle.machine.proofs.fields.digits_of.Given as goal
 

@@ -1,4 +1,4 @@
-use Rattle.types.proofs.Prelude.{sym, ◌∙◌, both_left, both_right, both_then, cases, le-leb, not-true, not-false, rules}
+use Rattle.types.proofs.Prelude.{sym, ◌∙◌, both_left, both_right, both_then, cases, le-leb}
 use Rattle.machine.specs.Operation.{item_fields}
 use Rattle.machine.proofs.fields.item_fields.Goals as goal
 

@@ -1,4 +1,4 @@
-use Rattle.types.proofs.Prelude.{◌+◌, ◌≡◌, refl, ap, ◌∙◌, length, drop, ℕ, ◌-◌, ◌≤◌, arith, rules}
+use Rattle.types.proofs.Prelude.{◌+◌, ap, ◌∙◌, drop, ℕ, arith}
 use Rattle.machine.proofs.Digits.{leading_bad, leading_more, leading_end}
 use Rattle.machine.specs.Operation.{leading}
 use Rattle.machine.proofs.fields.leading.Goals as goal

@@ -1,5 +1,4 @@
-use Rattle.types.proofs.Prelude.{◌+◌, ◌≡◌, refl, ap, ◌∙◌, length, drop, ℕ, ◌-◌, ◌≤◌, arith, rules}
-use Rattle.machine.proofs.Digits.{leading_bad, leading_more, leading_end}
+use Rattle.types.proofs.Prelude.{◌≡◌, length, drop, ◌-◌, ◌≤◌}
 use Rattle.machine.specs.Operation.{leading}
 use Rattle.machine.proofs.fields.leading.Given as goal
 

@@ -1,4 +1,4 @@
-use Rattle.types.proofs.Prelude.{refl, rules}
+use Rattle.types.proofs.Prelude.{refl}
 use Rattle.machine.specs.Operation.{narrow_store}
 use Rattle.machine.proofs.fields.narrow_store.Goals as goal
 

@@ -1,4 +1,4 @@
-use Rattle.types.proofs.Prelude.{sym, ap, ◌∙◌, both_then, cases, le-leb, rules}
+use Rattle.types.proofs.Prelude.{sym, ap, ◌∙◌, both_then, cases, le-leb}
 use Rattle.machine.specs.Operation.{script_fields, leading}
 use Rattle.machine.proofs.fields.script_fields.Goals as goal
 

@@ -1,4 +1,4 @@
-use Rattle.types.proofs.Prelude.{cases, rules}
+use Rattle.types.proofs.Prelude.{cases}
 use Rattle.machine.specs.Operation.{store_fields}
 use Rattle.machine.proofs.fields.store_fields.Goals as goal
 

@@ -1,4 +1,4 @@
-use Rattle.types.proofs.Prelude.{sym, le-leb, lt-leb, both_left, both_then, rules}
+use Rattle.types.proofs.Prelude.{sym, le-leb, lt-leb, both_left, both_then}
 use Rattle.types.specs.Pick.{both}
 use Rattle.machine.specs.Words.{in_form}
 use Rattle.machine.proofs.form.in_form.Goals as goal

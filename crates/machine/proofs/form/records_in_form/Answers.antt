@@ -1,5 +1,5 @@
-use Rattle.types.proofs.Prelude.{◌+◌, ◌*◌, ◌≡◌, refl, sym, ◌∙◌, arith, rules}
-use Rattle.machine.specs.Words.{record_length, all_at, record_in_form}
+use Rattle.types.proofs.Prelude.{refl, sym, ◌∙◌, arith}
+use Rattle.machine.specs.Words.{record_length, record_in_form}
 use Rattle.types.specs.Pick.{both}
 use Rattle.machine.proofs.Places.{all_next, all_none}
 use Rattle.machine.proofs.form.records_in_form.Goals as goal

@@ -1,5 +1,5 @@
-use Rattle.types.proofs.Prelude.{◌≡◌, refl, sym, ◌∙◌, arith, ◌+◌, ◌≤◌, rules}
-use Rattle.machine.specs.Words.{all_at, answer_at, script_at, row_length}
+use Rattle.types.proofs.Prelude.{refl, sym, ◌∙◌, arith}
+use Rattle.machine.specs.Words.{answer_at}
 use Rattle.types.specs.Pick.{both}
 use Rattle.machine.proofs.Places.{all_next, all_none}
 use Rattle.machine.proofs.form.script_in_form.Goals as goal

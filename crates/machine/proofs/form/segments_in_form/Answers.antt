@@ -1,5 +1,5 @@
-use Rattle.types.proofs.Prelude.{◌≡◌, refl, sym, ◌∙◌, arith, ◌+◌, ◌*◌, ◌≤◌, rules}
-use Rattle.machine.specs.Words.{all_at, flag_at, segment_length, segments_at, row_length}
+use Rattle.types.proofs.Prelude.{refl, sym, ◌∙◌, arith}
+use Rattle.machine.specs.Words.{flag_at, segment_length}
 use Rattle.types.specs.Pick.{both}
 use Rattle.machine.proofs.Places.{all_next, all_none}
 use Rattle.machine.proofs.form.segments_in_form.Goals as goal

@@ -1,7 +1,6 @@
-use Rattle.types.proofs.Prelude.{◌≡◌, refl, sym, ◌∙◌, arith, ◌+◌, ◌*◌, ◌≤◌, rules}
+use Rattle.types.proofs.Prelude.{◌≡◌, ◌+◌, ◌*◌, ◌≤◌}
 use Rattle.machine.specs.Words.{all_at, flag_at, segment_length, segments_at, row_length}
 use Rattle.types.specs.Pick.{both}
-use Rattle.machine.proofs.Places.{all_next, all_none}
 use Rattle.machine.proofs.form.segments_in_form.Given as goal
 
 abbrev pub invariant-loop-left : goal.invariant-loop-left

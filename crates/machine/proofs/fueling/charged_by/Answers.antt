@@ -1,5 +1,4 @@
 use Rattle.machine.specs.Fueling.{charged_by}
-use borrow.Author.Rules.{rules}
 use Rattle.machine.proofs.fueling.charged_by.Goals as goal
 
 pub returns-in-Refused : goal.returns-in-Refused

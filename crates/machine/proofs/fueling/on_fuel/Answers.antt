@@ -1,4 +1,4 @@
-use Rattle.types.proofs.Prelude.{ap, ◌∙◌, rules}
+use Rattle.types.proofs.Prelude.{ap, ◌∙◌}
 use Rattle.types.specs.{declared.fuel.Fuel.Fuel, declared.limiter.Limiter.Limiter}
 use Rattle.machine.specs.{Words.machine_from, Fueling.perform_fuel, Fueling.fueled_out, Fueling.on_fuel}
 use Rattle.machine.proofs.Laws.{along}

@@ -1,5 +1,4 @@
 use Rattle.machine.specs.Fueling.{perform_fuel}
-use borrow.Author.Rules.{rules}
 use Rattle.machine.proofs.fueling.perform.Goals as goal
 
 pub returns-in-SetFuel : goal.returns-in-SetFuel

@@ -1,4 +1,4 @@
-use Rattle.types.proofs.Prelude.{ap, ◌∙◌, rules}
+use Rattle.types.proofs.Prelude.{ap, ◌∙◌}
 use Rattle.machine.specs.Memories.{linked, link_to}
 use Rattle.machine.proofs.memories.link.Goals as goal
 

@@ -1,4 +1,4 @@
-use Rattle.types.proofs.Prelude.{refl, ap, ◌∙◌, Bool, rules}
+use Rattle.types.proofs.Prelude.{refl, ap, ◌∙◌, Bool}
 use Rattle.types.specs.{Answer.accept, Pick.pick}
 use Rattle.machine.specs.Memories.{linked}
 use Rattle.machine.proofs.memories.linked.Goals as goal

@@ -1,5 +1,4 @@
-use Rattle.types.proofs.Prelude.{◌≡◌, ap, arith, rules}
-use Rattle.machine.specs.{Words.machine_from, declared.records.Counts.Counts, Memories.made_memory}
+use Rattle.machine.specs.{Memories.made_memory}
 use Rattle.machine.proofs.memories.made_memory.Goals as goal
 
 pub returns-in-Refused : goal.returns-in-Refused

@@ -1,4 +1,4 @@
-use Rattle.types.proofs.Prelude.{◌≡◌, sym, ap, ◌∙◌, arith, ℕ, ◌-◌, ◌<◌, leb, ltb, length, pick_true, pick_false, both_1, ltb-true, rules}
+use Rattle.types.proofs.Prelude.{◌≡◌, sym, ap, ◌∙◌, arith, ℕ, ◌-◌, ◌<◌, leb, ltb, length, pick_true, pick_false, both_1, ltb-true}
 use Rattle.machine.specs.{Words.machine_from, declared.records.Counts.Counts, declared.outcome.Outcome.Outcome, Memories.memory_made, Memories.new_memory_on}
 use Rattle.types.specs.{Done.done, Pick.both}
 use Rattle.machine.proofs.Laws.{along}

@@ -1,4 +1,4 @@
-use Rattle.types.proofs.Prelude.{◌≡◌, ap, ◌∙◌, arith, rules}
+use Rattle.types.proofs.Prelude.{◌≡◌, ap, ◌∙◌, arith}
 use Rattle.machine.specs.{Words.machine_from, declared.records.Counts.Counts, declared.outcome.Outcome.Outcome}
 use Rattle.machine.specs.Memories.{perform_memory, memory_done, on_memory}
 use Rattle.types.specs.Done.{done}

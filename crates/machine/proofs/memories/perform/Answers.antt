@@ -1,5 +1,4 @@
 use Rattle.machine.specs.Memories.{perform_memory}
-use borrow.Author.Rules.{rules}
 use Rattle.machine.proofs.memories.perform.Goals as goal
 
 pub returns-in-Grow : goal.returns-in-Grow

@@ -1,4 +1,4 @@
-use Rattle.types.proofs.Prelude.{sym, ap, ◌∙◌, not-true, not-false, pick_true, pick_false, rules}
+use Rattle.types.proofs.Prelude.{sym, ap, ◌∙◌, pick_true, pick_false}
 use Rattle.machine.specs.{Words.machine_from, declared.outcome.Outcome.Outcome, Machine.buffers, Step.on_none, Step.decide}
 use Rattle.machine.proofs.Settling.{sound_inside}
 use Rattle.machine.proofs.operate.decide.Goals as goal

@@ -1,4 +1,4 @@
-use Rattle.types.proofs.Prelude.{ap, rules}
+use Rattle.types.proofs.Prelude.{ap}
 use Rattle.types.specs.Done.{Done}
 use Rattle.machine.specs.{declared.outcome.Outcome.Outcome, Machine.buffers, Step.on_none, Step.on_bytes, Step.on_cells, Step.on_items, Step.perform}
 use Rattle.machine.proofs.operate.perform.Goals as goal

@@ -1,4 +1,4 @@
-use Rattle.types.proofs.Prelude.{refl, rules}
+use Rattle.types.proofs.Prelude.{refl}
 use Rattle.machine.specs.Operation.{fuel_well_formed}
 use Rattle.machine.proofs.operation.fuel_well_formed.Goals as goal
 

@@ -1,4 +1,4 @@
-use Rattle.types.proofs.Prelude.{refl, rules}
+use Rattle.types.proofs.Prelude.{refl}
 use Rattle.machine.specs.stages.Rows.{fuel_writes}
 use Rattle.machine.proofs.operation.fuel_writes.Goals as goal
 

@@ -1,4 +1,4 @@
-use Rattle.types.proofs.Prelude.{refl, rules}
+use Rattle.types.proofs.Prelude.{refl}
 use Rattle.machine.specs.Operation.{memory_well_formed}
 use Rattle.machine.proofs.operation.memory_well_formed.Goals as goal
 

@@ -1,4 +1,4 @@
-use Rattle.types.proofs.Prelude.{refl, rules}
+use Rattle.types.proofs.Prelude.{refl}
 use Rattle.machine.specs.stages.Rows.{memory_writes}
 use Rattle.machine.proofs.operation.memory_writes.Goals as goal
 

@@ -1,4 +1,4 @@
-use Rattle.types.proofs.Prelude.{refl, rules}
+use Rattle.types.proofs.Prelude.{refl}
 use Rattle.machine.specs.stages.Rows.{table_writes}
 use Rattle.machine.proofs.operation.table_writes.Goals as goal
 

@@ -1,4 +1,4 @@
-use Rattle.types.proofs.Prelude.{sym, ◌∙◌, not-true, not-false, both_left, both_right, both_then, rules}
+use Rattle.types.proofs.Prelude.{sym, ◌∙◌, both_left, both_right, both_then}
 use Rattle.machine.specs.stages.Rows.{ends_inside}
 use Rattle.machine.proofs.row.ends_inside.Goals as goal
 

@@ -1,4 +1,4 @@
-use Rattle.types.proofs.Prelude.{sym, ap, ◌∙◌, le-leb, lt-leb, pick_true, pick_false, rules}
+use Rattle.types.proofs.Prelude.{sym, ap, ◌∙◌, le-leb, lt-leb, pick_true, pick_false}
 use Rattle.types.specs.Span.{over}
 use Rattle.machine.specs.{Words.words_of, Row.rowed, Row.fresh_row, declared.records.Machine.Machine}
 use Rattle.machine.proofs.row.fresh.Goals as goal

@@ -1,4 +1,4 @@
-use Rattle.types.proofs.Prelude.{sym, ◌∙◌, le-leb, lt-leb, pick_true, pick_false, rules}
+use Rattle.types.proofs.Prelude.{sym, ◌∙◌, le-leb, lt-leb, pick_true, pick_false}
 use Rattle.machine.specs.Row.{fuel_of}
 use Rattle.machine.proofs.row.fuel_of.Goals as goal
 

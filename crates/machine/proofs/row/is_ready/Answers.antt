@@ -1,4 +1,4 @@
-use Rattle.types.proofs.Prelude.{sym, ◌∙◌, not-true, not-false, both_left, both_then, rules}
+use Rattle.types.proofs.Prelude.{sym, ◌∙◌, both_left, both_then}
 use Rattle.machine.proofs.Formed.{form_long}
 use Rattle.machine.proofs.row.is_ready.Goals as goal
 

@@ -1,4 +1,4 @@
-use Rattle.types.proofs.Prelude.{◌≡◌, sym, ap, ◌∙◌, arith, ℕ, ◌-◌, eq-eqb, ne_eqb, le-leb, lt-leb, pick_true, pick_false, both_left, both_then, both_true, leb, rules}
+use Rattle.types.proofs.Prelude.{◌≡◌, sym, ap, ◌∙◌, arith, ℕ, ◌-◌, eq-eqb, ne_eqb, le-leb, lt-leb, pick_true, pick_false, both_left, both_then, both_true, leb}
 use Rattle.machine.specs.{Words.machine_from, declared.records.Counts.Counts, Machine.segment_at, Machine.next_item, Machine.segment_end}
 use Rattle.machine.proofs.row.item_inside.Goals as goal
 

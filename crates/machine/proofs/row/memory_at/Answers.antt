@@ -1,4 +1,4 @@
-use Rattle.types.proofs.Prelude.{◌≡◌, sym, ap, ◌∙◌, arith, ◌+◌, ◌*◌, rules}
+use Rattle.types.proofs.Prelude.{◌≡◌, sym, ap, ◌∙◌, arith, ◌+◌, ◌*◌}
 use Rattle.machine.specs.{Machine.no_memory, Words.record_length, Words.memory_from}
 use Rattle.machine.proofs.Places.{records_at}
 use Rattle.machine.proofs.row.memory_at.Goals as goal

@@ -1,4 +1,4 @@
-use Rattle.types.proofs.Prelude.{◌<◌, sym, ap, ◌∙◌, arith, le-leb, lt-leb, lt-ltb, le-ltb, not-true, not-false, pick_true, pick_false, rules}
+use Rattle.types.proofs.Prelude.{◌<◌, sym, ap, ◌∙◌, arith, le-leb, lt-leb, lt-ltb, le-ltb, pick_true, pick_false, rules}
 use Rattle.types.specs.Answer.{accept}
 use Rattle.memory.specs.Memory.{pages_of}
 use Rattle.machine.specs.{Words.machine_from, Row.if_sound, Row.row_pages, declared.records.Counts.Counts}

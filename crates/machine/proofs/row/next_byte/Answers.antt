@@ -1,4 +1,4 @@
-use Rattle.types.proofs.Prelude.{◌≡◌, sym, ap, ◌∙◌, arith, ℕ, ◌-◌, eq-eqb, ne_eqb, pick_true, pick_false, rules}
+use Rattle.types.proofs.Prelude.{◌≡◌, sym, ap, ◌∙◌, arith, ℕ, ◌-◌, eq-eqb, ne_eqb, pick_true, pick_false}
 use Rattle.machine.specs.{Words.machine_from, declared.records.Counts.Counts, Machine.memory_at, Machine.next_byte, Machine.memory_end}
 use Rattle.machine.proofs.row.next_byte.Goals as goal
 

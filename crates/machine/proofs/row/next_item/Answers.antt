@@ -1,4 +1,4 @@
-use Rattle.types.proofs.Prelude.{◌≡◌, sym, ap, ◌∙◌, arith, ℕ, ◌-◌, eq-eqb, ne_eqb, pick_true, pick_false, rules}
+use Rattle.types.proofs.Prelude.{◌≡◌, sym, ap, ◌∙◌, arith, ℕ, ◌-◌, eq-eqb, ne_eqb, pick_true, pick_false}
 use Rattle.machine.specs.{Words.machine_from, declared.records.Counts.Counts, Machine.segment_at, Machine.next_item, Machine.segment_end}
 use Rattle.machine.proofs.row.next_item.Goals as goal
 

@@ -1,4 +1,4 @@
-use Rattle.types.proofs.Prelude.{sym, ap, ◌∙◌, not-true, not-false, rules}
+use Rattle.types.proofs.Prelude.{sym, ap, ◌∙◌}
 use Rattle.types.specs.declared.answer.Answer.{Answer}
 use Rattle.machine.specs.{Machine.buffers, Row.in_row, Words.machine_from}
 use Rattle.machine.proofs.Settling.{tested_inside, proceeds_malformed, proceeds_short, proceeds_outside, proceeds_goes}

@@ -1,4 +1,4 @@
-use Rattle.types.proofs.Prelude.{refl, rules}
+use Rattle.types.proofs.Prelude.{refl}
 use Rattle.machine.specs.stages.Rows.{changed_row}
 use Rattle.machine.proofs.row.put_change.Goals as goal
 

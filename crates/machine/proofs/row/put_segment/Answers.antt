@@ -1,4 +1,4 @@
-use Rattle.types.proofs.Prelude.{sym, ap, ◌∙◌, ◌+◌, ◌*◌, lt-ltb, le-ltb, pick_true, pick_false, rules}
+use Rattle.types.proofs.Prelude.{sym, ap, ◌∙◌, ◌+◌, ◌*◌, lt-ltb, le-ltb, pick_true, pick_false}
 use Rattle.types.specs.Span.{over}
 use Rattle.machine.specs.stages.Rows.{changed_row}
 use Rattle.machine.proofs.row.put_segment.Goals as goal

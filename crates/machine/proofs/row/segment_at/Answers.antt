@@ -1,4 +1,4 @@
-use Rattle.types.proofs.Prelude.{sym, ◌∙◌, rules}
+use Rattle.types.proofs.Prelude.{sym, ◌∙◌}
 use Rattle.machine.specs.{Machine.no_segment, Words.segment_length, Words.segments_at, Words.segment_from}
 use Rattle.machine.proofs.Places.{records_at}
 use Rattle.machine.proofs.row.segment_at.Goals as goal

@@ -1,4 +1,4 @@
-use Rattle.types.proofs.Prelude.{ℕ, ap, ◌∙◌, List, rules}
+use Rattle.types.proofs.Prelude.{ℕ, ap, ◌∙◌, List}
 use mir.Syntax.{w8}
 use borrow.Author.Rules.{elem_Fits}
 use Rattle.types.specs.Span.{over}

@@ -1,4 +1,4 @@
-use Rattle.types.proofs.Prelude.{sym, ◌∙◌, rules}
+use Rattle.types.proofs.Prelude.{sym, ◌∙◌}
 use Rattle.machine.specs.{Machine.no_table, Words.record_length, Words.tables_at, Words.table_from}
 use Rattle.machine.proofs.Places.{records_at}
 use Rattle.machine.proofs.row.table_at.Goals as goal

@@ -1,4 +1,4 @@
-use Rattle.types.proofs.Prelude.{◌≡◌, refl, ap, arith, rules}
+use Rattle.types.proofs.Prelude.{◌≡◌, refl, ap, arith}
 use Rattle.machine.specs.{Words.machine_from, declared.records.Counts.Counts, Segments.drop_on}
 use Rattle.machine.proofs.Laws.{unknown, known}
 use Rattle.machine.proofs.segments.drop_segment.Goals as goal

@@ -1,5 +1,4 @@
-use Rattle.types.proofs.Prelude.{◌≡◌, ap, arith, rules}
-use Rattle.machine.specs.{Words.machine_from, declared.records.Counts.Counts, Segments.made_segment}
+use Rattle.machine.specs.{Segments.made_segment}
 use Rattle.machine.proofs.segments.made_segment.Goals as goal
 
 pub returns-in-Refused : goal.returns-in-Refused

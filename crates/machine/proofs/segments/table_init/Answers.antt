@@ -1,4 +1,4 @@
-use Rattle.types.proofs.Prelude.{◌≡◌, sym, ap, ◌∙◌, arith, pick_true, pick_false, both_left, both_right, both_true, lt-ltb, le-ltb, rules}
+use Rattle.types.proofs.Prelude.{◌≡◌, sym, ap, ◌∙◌, arith, pick_true, pick_false, both_left, both_right, both_true, lt-ltb, le-ltb}
 use Rattle.machine.specs.{Words.machine_from, declared.records.Counts.Counts, declared.outcome.Outcome.Outcome, Machine.table_at, Tables.spanned_done}
 use Rattle.machine.specs.Segments.{init_on}
 use Rattle.types.specs.{Done.done, Raw.raw_bytes}

@@ -1,4 +1,4 @@
-use Rattle.types.proofs.Prelude.{refl, sym, ap, subst, ◌∙◌, arith, ◌+◌, ◌-◌, ◌≤◌, not-false, not-true, rules}
+use Rattle.types.proofs.Prelude.{sym, ap, subst, ◌∙◌, arith, ◌+◌}
 use Rattle.machine.specs.{Words.machine_from, declared.records.Counts.Counts, Machine.no_memory, Machine.memory_end, Sound.sound_memories}
 use Rattle.machine.specs.Words.{record_length, memory_from}
 use Rattle.memory.specs.{Memory.sound_memory, declared.memory.Memory.Memory}

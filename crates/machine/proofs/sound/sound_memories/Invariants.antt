@@ -1,9 +1,7 @@
-use Rattle.types.proofs.Prelude.{refl, sym, ap, subst, ◌∙◌, arith, ◌+◌, ◌-◌, ◌≤◌, not-false, not-true, rules}
-use Rattle.machine.specs.{Words.machine_from, declared.records.Counts.Counts, Machine.no_memory, Machine.memory_end, Sound.sound_memories}
-use Rattle.machine.specs.Words.{record_length, memory_from}
+use Rattle.types.proofs.Prelude.{◌-◌, ◌≤◌}
+use Rattle.machine.specs.{Words.machine_from, Machine.no_memory, Machine.memory_end}
 use Rattle.memory.specs.{Memory.sound_memory, declared.memory.Memory.Memory}
-use Rattle.memory.proofs.Sounds.{sound_is}
-use Rattle.machine.proofs.{Places.records_length, Lists.Left, Lists.too_many, Lists.starts_elsewhere, Lists.unsound, Lists.goes_on, Lists.ends}
+use Rattle.machine.proofs.{Lists.Left}
 use Rattle.machine.proofs.sound.sound_memories.Given as goal
 
 abbrev pub invariant-loop-i : goal.invariant-loop-i

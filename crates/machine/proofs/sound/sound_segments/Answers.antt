@@ -1,4 +1,4 @@
-use Rattle.types.proofs.Prelude.{refl, sym, ap, subst, ◌∙◌, arith, ◌+◌, ◌-◌, ◌≤◌, not-false, not-true, rules}
+use Rattle.types.proofs.Prelude.{sym, ap, subst, ◌∙◌, arith, ◌+◌}
 use Rattle.machine.specs.{Words.machine_from, declared.records.Counts.Counts, Machine.no_segment, Machine.segment_end, Sound.sound_segments}
 use Rattle.machine.specs.Words.{segment_length, segments_at, segment_from}
 use Rattle.table.specs.{Element.sound_segment, declared.element.ElementSegment.ElementSegment}

@@ -1,9 +1,7 @@
-use Rattle.types.proofs.Prelude.{refl, sym, ap, subst, ◌∙◌, arith, ◌+◌, ◌-◌, ◌≤◌, not-false, not-true, rules}
-use Rattle.machine.specs.{Words.machine_from, declared.records.Counts.Counts, Machine.no_segment, Machine.segment_end, Sound.sound_segments}
-use Rattle.machine.specs.Words.{segment_length, segments_at, segment_from}
+use Rattle.types.proofs.Prelude.{◌-◌, ◌≤◌}
+use Rattle.machine.specs.{Words.machine_from, Machine.no_segment, Machine.segment_end}
 use Rattle.table.specs.{Element.sound_segment, declared.element.ElementSegment.ElementSegment}
-use Rattle.table.proofs.Sounds.{segment_room}
-use Rattle.machine.proofs.{Places.records_length, Lists.Left, Lists.too_many, Lists.starts_elsewhere, Lists.unsound, Lists.goes_on, Lists.ends}
+use Rattle.machine.proofs.{Lists.Left}
 use Rattle.machine.proofs.sound.sound_segments.Given as goal
 
 abbrev pub invariant-loop-i : goal.invariant-loop-i

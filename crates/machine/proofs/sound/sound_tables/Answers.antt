@@ -1,4 +1,4 @@
-use Rattle.types.proofs.Prelude.{refl, sym, ap, subst, ◌∙◌, arith, ◌+◌, ◌-◌, ◌≤◌, not-false, not-true, rules}
+use Rattle.types.proofs.Prelude.{sym, ap, subst, ◌∙◌, arith, ◌+◌}
 use Rattle.machine.specs.{Words.machine_from, declared.records.Counts.Counts, Machine.no_table, Machine.table_end, Sound.sound_tables}
 use Rattle.machine.specs.Words.{record_length, tables_at, table_from}
 use Rattle.table.specs.{Table.sound_table, declared.table.Table.Table}

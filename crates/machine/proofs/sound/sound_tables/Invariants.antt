@@ -1,9 +1,7 @@
-use Rattle.types.proofs.Prelude.{refl, sym, ap, subst, ◌∙◌, arith, ◌+◌, ◌-◌, ◌≤◌, not-false, not-true, rules}
-use Rattle.machine.specs.{Words.machine_from, declared.records.Counts.Counts, Machine.no_table, Machine.table_end, Sound.sound_tables}
-use Rattle.machine.specs.Words.{record_length, tables_at, table_from}
+use Rattle.types.proofs.Prelude.{◌-◌, ◌≤◌}
+use Rattle.machine.specs.{Words.machine_from, Machine.no_table, Machine.table_end}
 use Rattle.table.specs.{Table.sound_table, declared.table.Table.Table}
-use Rattle.table.proofs.Sounds.{sound_room_lem}
-use Rattle.machine.proofs.{Places.records_length, Lists.Left, Lists.too_many, Lists.starts_elsewhere, Lists.unsound, Lists.goes_on, Lists.ends}
+use Rattle.machine.proofs.{Lists.Left}
 use Rattle.machine.proofs.sound.sound_tables.Given as goal
 
 abbrev pub invariant-loop-i : goal.invariant-loop-i

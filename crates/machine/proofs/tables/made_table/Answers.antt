@@ -1,5 +1,4 @@
-use Rattle.types.proofs.Prelude.{◌≡◌, ap, arith, rules}
-use Rattle.machine.specs.{Words.machine_from, declared.records.Counts.Counts, Tables.made_table}
+use Rattle.machine.specs.{Tables.made_table}
 use Rattle.machine.proofs.tables.made_table.Goals as goal
 
 pub returns-in-Refused : goal.returns-in-Refused

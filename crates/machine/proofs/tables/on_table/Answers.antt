@@ -1,4 +1,4 @@
-use Rattle.types.proofs.Prelude.{◌≡◌, ap, ◌∙◌, arith, rules}
+use Rattle.types.proofs.Prelude.{◌≡◌, ap, ◌∙◌, arith}
 use Rattle.machine.specs.{Words.machine_from, declared.records.Counts.Counts, declared.outcome.Outcome.Outcome}
 use Rattle.machine.specs.Tables.{perform_table, table_done, on_table}
 use Rattle.types.specs.{Done.done, Raw.raw_bytes}

@@ -1,5 +1,4 @@
 use Rattle.machine.specs.Tables.{perform_table}
-use borrow.Author.Rules.{rules}
 use Rattle.machine.proofs.tables.perform.Goals as goal
 
 pub returns-in-Grow : goal.returns-in-Grow

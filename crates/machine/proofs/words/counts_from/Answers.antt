@@ -1,5 +1,4 @@
 use Rattle.machine.specs.Words.{counts_from}
-use borrow.Author.Rules.{rules}
 use Rattle.machine.proofs.words.counts_from.Goals as goal
 
 pub returns : goal.returns

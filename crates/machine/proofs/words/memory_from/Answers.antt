@@ -1,5 +1,4 @@
 use Rattle.machine.specs.Words.{memory_from}
-use borrow.Author.Rules.{rules}
 use Rattle.machine.proofs.words.memory_from.Goals as goal
 
 pub returns : goal.returns

@@ -1,5 +1,4 @@
 use Rattle.machine.specs.Words.{memory_words}
-use borrow.Author.Rules.{rules}
 use Rattle.machine.proofs.words.memory_words.Goals as goal
 
 pub returns : goal.returns

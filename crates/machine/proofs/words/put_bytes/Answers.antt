@@ -1,6 +1,5 @@
-use Rattle.types.proofs.Prelude.{◌-◌, ◌≤◌, rules, length, length-set, take, ◌≡◌, refl, arith}
-use Rattle.machine.proofs.Rows.{put_none, put_turn, put_done}
-use Rattle.types.specs.Span.{over}
+use Rattle.types.proofs.Prelude.{length-set, refl, arith}
+use Rattle.machine.proofs.Rows.{put_none, put_turn}
 use Rattle.machine.proofs.words.put_bytes.Goals as goal
 
 pub loop-i-init : goal.loop-i-init

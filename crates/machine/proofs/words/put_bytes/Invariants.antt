@@ -1,5 +1,4 @@
-use Rattle.types.proofs.Prelude.{◌-◌, ◌≤◌, rules, length, length-set, take, ◌≡◌, refl, arith}
-use Rattle.machine.proofs.Rows.{put_none, put_turn, put_done}
+use Rattle.types.proofs.Prelude.{◌-◌, ◌≤◌, length, take, ◌≡◌}
 use Rattle.types.specs.Span.{over}
 use Rattle.machine.proofs.words.put_bytes.Given as goal
 

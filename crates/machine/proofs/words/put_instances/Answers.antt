@@ -1,4 +1,4 @@
-use Rattle.types.proofs.Prelude.{◌++◌, refl, arith, rules}
+use Rattle.types.proofs.Prelude.{◌++◌, refl, arith}
 use Rattle.machine.specs.Words.{rows_of, memory_words, table_words, segment_words}
 use Rattle.machine.proofs.Rows.{then_both, length_both}
 use Rattle.machine.proofs.words.put_instances.Goals as goal

@@ -1,4 +1,4 @@
-use Rattle.types.proofs.Prelude.{refl, arith, rules}
+use Rattle.types.proofs.Prelude.{refl, arith}
 use Rattle.machine.specs.Words.{instance_words, state_words, words_of}
 use Rattle.machine.proofs.Rows.{then_over, length_both}
 use Rattle.machine.proofs.words.put_machine.Goals as goal

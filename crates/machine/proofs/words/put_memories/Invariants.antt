@@ -1,6 +1,5 @@
-use Rattle.types.proofs.Prelude.{◌-◌, ◌≤◌, rules, length, take, ◌≡◌, refl, ◌∙◌, arith}
-use Rattle.machine.specs.{Machine.no_memory, Words.memory_words, Words.rows_of}
-use Rattle.machine.proofs.{Rows.rows_none, Rows.rows_turn, Rows.rows_done, Rows.rows_length, Lengths.length_memory}
+use Rattle.types.proofs.Prelude.{◌-◌, ◌≤◌, length, take, ◌≡◌}
+use Rattle.machine.specs.{Words.memory_words, Words.rows_of}
 use Rattle.types.specs.Span.{over}
 use Rattle.machine.proofs.words.put_memories.Given as goal
 

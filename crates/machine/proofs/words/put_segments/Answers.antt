@@ -1,7 +1,6 @@
-use Rattle.types.proofs.Prelude.{◌-◌, ◌≤◌, rules, length, take, ◌≡◌, refl, ◌∙◌, arith}
-use Rattle.machine.specs.{Machine.no_segment, Words.segment_words, Words.rows_of}
+use Rattle.types.proofs.Prelude.{rules, refl, ◌∙◌, arith}
+use Rattle.machine.specs.{Machine.no_segment, Words.segment_words}
 use Rattle.machine.proofs.{Rows.rows_none, Rows.rows_turn, Rows.rows_done, Rows.rows_length, Lengths.length_segment}
-use Rattle.types.specs.Span.{over}
 use Rattle.machine.proofs.words.put_segments.Goals as goal
 
 pub loop-i-init : goal.loop-i-init

@@ -1,4 +1,4 @@
-use Rattle.types.proofs.Prelude.{refl, ap, ◌∙◌, arith, rules}
+use Rattle.types.proofs.Prelude.{refl, ap, ◌∙◌, arith}
 use Rattle.types.specs.Span.{over}
 use Rattle.machine.proofs.{Rows.then_both, Lengths.length_count, Lengths.length_fuel}
 use Rattle.machine.proofs.words.put_standing.Goals as goal

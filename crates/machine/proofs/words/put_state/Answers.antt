@@ -1,4 +1,4 @@
-use Rattle.types.proofs.Prelude.{◌≡◌, refl, sym, ◌∙◌, arith, length, rules}
+use Rattle.types.proofs.Prelude.{◌≡◌, refl, arith, length, rules}
 use Rattle.machine.specs.Words.{standing_words}
 use Rattle.machine.proofs.{Lengths.length_standing, Rows.then_over, Rows.length_both}
 use Rattle.machine.proofs.words.put_state.Goals as goal

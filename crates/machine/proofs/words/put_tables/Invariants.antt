@@ -1,6 +1,5 @@
-use Rattle.types.proofs.Prelude.{◌-◌, ◌≤◌, rules, length, take, ◌≡◌, refl, ◌∙◌, arith}
-use Rattle.machine.specs.{Machine.no_table, Words.table_words, Words.rows_of}
-use Rattle.machine.proofs.{Rows.rows_none, Rows.rows_turn, Rows.rows_done, Rows.rows_length, Lengths.length_table}
+use Rattle.types.proofs.Prelude.{◌-◌, ◌≤◌, length, take, ◌≡◌}
+use Rattle.machine.specs.{Words.table_words, Words.rows_of}
 use Rattle.types.specs.Span.{over}
 use Rattle.machine.proofs.words.put_tables.Given as goal
 

@@ -1,4 +1,4 @@
-use Rattle.types.proofs.Prelude.{ℕ, sym, ap, ◌∙◌, length, length-replicate, rules}
+use Rattle.types.proofs.Prelude.{ℕ, ap, ◌∙◌, length, length-replicate}
 use mir.Syntax.{w8}
 use borrow.Author.Rules.{elem_Fits}
 use Rattle.machine.specs.Words.{words_of, machine_from}

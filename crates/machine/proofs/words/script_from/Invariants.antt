@@ -1,11 +1,8 @@
-use Rattle.types.proofs.Prelude.{ℕ, ◌+◌, ◌-◌, ◌*◌, ◌≤◌, ◌<◌, rules, drop, get_or, length, replicate, set, take, take_all, List, ◌++◌, append-nil, ◌≡◌, refl, sym}
-use Rattle.types.proofs.{Prelude.ap, Prelude.◌∙◌, Prelude.arith, Scripts.row_more}
-use Rattle.machine.specs.Words.{script_at, answer_from, records_from, limiter_from}
-use Rattle.machine.proofs.Places.{records_at, records_length}
+use Rattle.types.proofs.Prelude.{ℕ, ◌-◌, ◌≤◌, drop, get_or, replicate, take, List, ◌++◌, ◌≡◌}
+use Rattle.machine.specs.Words.{script_at, answer_from, records_from}
 use Rattle.machine.proofs.words.script_from.Given as goal
 
 abbrev answers : List ℕ → List ℕ
-
 answers l = records_from (λ (k : List ℕ) a. answer_from (get_or k a 0)) 1 l script_at 16
 
 abbrev pub invariant-loop-i : goal.invariant-loop-i

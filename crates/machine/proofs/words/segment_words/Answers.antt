@@ -1,5 +1,4 @@
 use Rattle.machine.specs.Words.{segment_words}
-use borrow.Author.Rules.{rules}
 use Rattle.machine.proofs.words.segment_words.Goals as goal
 
 pub returns : goal.returns

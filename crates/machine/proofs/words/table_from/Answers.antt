@@ -1,5 +1,4 @@
 use Rattle.machine.specs.Words.{table_from}
-use borrow.Author.Rules.{rules}
 use Rattle.machine.proofs.words.table_from.Goals as goal
 
 pub returns : goal.returns

@@ -1,5 +1,4 @@
 use Rattle.machine.specs.Words.{table_words}
-use borrow.Author.Rules.{rules}
 use Rattle.machine.proofs.words.table_words.Goals as goal
 
 pub returns : goal.returns

@@ -1,4 +1,4 @@
-use Rattle.types.proofs.Prelude.{rules, refl, arith}
+use Rattle.types.proofs.Prelude.{refl}
 use Rattle.memory.specs.Access.{load_found}
 use Rattle.memory.proofs.access.load_found.Goals as goal
 

@@ -1,7 +1,5 @@
-use Rattle.types.proofs.Prelude.{◌*◌, ◌+◌, ◌-◌, ◌<◌, ◌^◌, ◌≤◌, rules, ◌≡◌, arith}
-use Rattle.memory.proofs.Bytes.{load_all, load_more, load_none, load_room, load_small, load_zero}
-use Rattle.memory.specs.LittleEndian.{le_value}
-use Rattle.types.specs.Span.{cut}
+use Rattle.types.proofs.Prelude.{◌<◌, ◌^◌, ◌≤◌, arith}
+use Rattle.memory.proofs.Bytes.{load_more, load_none, load_room, load_small, load_zero}
 use Rattle.memory.proofs.access.load_n.Goals as goal
 
 pub loop-i-init : goal.loop-i-init

@@ -1,5 +1,4 @@
-use Rattle.types.proofs.Prelude.{◌*◌, ◌+◌, ◌-◌, ◌<◌, ◌^◌, ◌≤◌, rules, ◌≡◌, arith}
-use Rattle.memory.proofs.Bytes.{load_all, load_more, load_none, load_room, load_small, load_zero}
+use Rattle.types.proofs.Prelude.{◌*◌, ◌+◌, ◌-◌, ◌<◌, ◌^◌, ◌≤◌, ◌≡◌}
 use Rattle.memory.specs.LittleEndian.{le_value}
 use Rattle.types.specs.Span.{cut}
 use Rattle.memory.proofs.access.load_n.Given as goal

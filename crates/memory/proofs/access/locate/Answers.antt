@@ -1,4 +1,4 @@
-use Rattle.types.proofs.Prelude.{known_test, rules}
+use Rattle.types.proofs.Prelude.{known_test}
 use Rattle.memory.proofs.Accesses.{address_at, address_over, address_past}
 use Rattle.memory.proofs.access.locate.Goals as goal
 

@@ -1,5 +1,4 @@
-use Rattle.memory.proofs.Patterns.{diff_fits, diff64, turn_fits}
-use borrow.Author.Rules.{rules}
+use Rattle.memory.proofs.Patterns.{diff64}
 use Rattle.memory.proofs.access.signed.Goals as goal
 
 pub returns : goal.returns

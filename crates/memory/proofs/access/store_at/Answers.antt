@@ -1,4 +1,4 @@
-use Rattle.types.proofs.Prelude.{rules, ◌≡◌}
+use Rattle.types.proofs.Prelude.{◌≡◌}
 use Rattle.memory.proofs.Accesses.{address_found}
 use Rattle.memory.specs.Access.{address_of, store_at, store_width, width_bytes}
 use Rattle.memory.proofs.access.store_at.Goals as goal

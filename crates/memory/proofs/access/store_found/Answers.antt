@@ -1,4 +1,4 @@
-use Rattle.types.proofs.Prelude.{rules, refl, arith}
+use Rattle.types.proofs.Prelude.{refl}
 use Rattle.memory.proofs.Accesses.{stored_at}
 use Rattle.memory.specs.Access.{store_found}
 use Rattle.memory.proofs.access.store_found.Goals as goal

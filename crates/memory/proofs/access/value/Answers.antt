@@ -1,8 +1,8 @@
 use Rattle.types.proofs.Prelude.{rules, ap, refl, arith}
-use Rattle.memory.proofs.Values.{narrow_fits, of_kind, plain, plain_fits, signed_32, signed_64, signs}
+use Rattle.memory.proofs.Values.{narrow_fits, plain, signed_32, signed_64}
 use Rattle.memory.specs.Access.{extend}
 use mir.Syntax.{w16, w32, w64, w8}
-use Rattle.memory.specs.declared.access.LoadKind.TheVariants.{F32, I32, I32From8S, I32From8U, I32From16S, I32From16U, I64From8S, I64From8U, I64From16S, I64From16U, I64From32S, I64From32U}
+use Rattle.memory.specs.declared.access.LoadKind.TheVariants.{I32, I32From8S, I32From8U, I32From16S, I32From16U, I64From8S, I64From8U, I64From16S, I64From16U, I64From32S, I64From32U}
 use Rattle.types.specs.declared.answer.Value.TheVariants as value
 use Rattle.memory.proofs.access.value.Goals as goal
 

@@ -1,6 +1,4 @@
-use Rattle.types.proofs.Prelude.{◌-◌, ◌<◌, ◌≤◌, ℕ, rules, drop, length, length-set, replicate, set, List, ◌++◌, append-nil, ◌∙◌, ◌≡◌, ap, refl, arith}
-use borrow.Author.Fill.{fill_more}
-use lib.Seq.{drop-length}
+use Rattle.types.proofs.Prelude.{◌-◌, ◌≤◌, drop, length, replicate, ◌++◌, ◌≡◌}
 use Rattle.memory.proofs.buffer.fill.Given as goal
 
 abbrev pub invariant-loop-i : goal.invariant-loop-i

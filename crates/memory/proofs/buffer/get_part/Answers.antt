@@ -1,5 +1,4 @@
 use Rattle.memory.proofs.Copies.{part_cut}
-use borrow.Author.Rules.{rules}
 use Rattle.memory.proofs.buffer.get_part.Goals as goal
 
 pub returns : goal.returns

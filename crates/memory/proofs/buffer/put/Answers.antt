@@ -1,6 +1,5 @@
-use Rattle.types.proofs.Prelude.{◌-◌, ◌≤◌, rules, length, length-set, take, ◌≡◌, refl, arith}
+use Rattle.types.proofs.Prelude.{length-set, refl, arith}
 use Rattle.types.proofs.Moves.{put_all, put_none, put_turn}
-use Rattle.types.specs.Span.{over}
 use Rattle.memory.proofs.buffer.put.Goals as goal
 
 pub loop-i-init : goal.loop-i-init

@@ -1,5 +1,4 @@
-use Rattle.types.proofs.Prelude.{◌-◌, ◌≤◌, rules, length, length-set, take, ◌≡◌, refl, arith}
-use Rattle.types.proofs.Moves.{put_all, put_none, put_turn}
+use Rattle.types.proofs.Prelude.{◌-◌, ◌≤◌, length, take, ◌≡◌}
 use Rattle.types.specs.Span.{over}
 use Rattle.memory.proofs.buffer.put.Given as goal
 

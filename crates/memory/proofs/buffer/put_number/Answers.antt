@@ -1,6 +1,5 @@
-use Rattle.types.proofs.Prelude.{◌-◌, ◌≤◌, rules, length, length-set, take, ◌++◌, ◌≡◌, refl, arith}
-use Rattle.memory.proofs.Bytes.{store_all, store_more, store_none}
-use Rattle.memory.specs.LittleEndian.{le_bytes}
+use Rattle.types.proofs.Prelude.{length, length-set, arith}
+use Rattle.memory.proofs.Bytes.{store_all, store_more}
 use Rattle.memory.proofs.buffer.put_number.Goals as goal
 
 pub loop-i-preserved : goal.loop-i-preserved

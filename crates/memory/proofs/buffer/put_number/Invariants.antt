@@ -1,5 +1,4 @@
-use Rattle.types.proofs.Prelude.{◌-◌, ◌≤◌, rules, length, length-set, take, ◌++◌, ◌≡◌, refl, arith}
-use Rattle.memory.proofs.Bytes.{store_all, store_more, store_none}
+use Rattle.types.proofs.Prelude.{◌-◌, ◌≤◌, length, take, ◌++◌, ◌≡◌}
 use Rattle.memory.specs.LittleEndian.{le_bytes}
 use Rattle.memory.proofs.buffer.put_number.Given as goal
 

@@ -1,4 +1,4 @@
-use Rattle.types.proofs.{Prelude.refl, Prelude.rules, Dones.done_as}
+use Rattle.types.proofs.{Prelude.refl, Dones.done_as}
 use Rattle.memory.specs.stages.Grow.{by_reach}
 use Rattle.memory.proofs.grow.by_reach.Goals as goal
 

@@ -1,5 +1,4 @@
 use Rattle.memory.specs.stages.Grow.{enlarged_by}
-use borrow.Author.Rules.{rules}
 use Rattle.memory.proofs.grow.enlarge.Goals as goal
 
 pub returns : goal.returns

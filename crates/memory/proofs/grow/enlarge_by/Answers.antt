@@ -1,4 +1,4 @@
-use Rattle.types.proofs.{Prelude.refl, Prelude.rules, Dones.done_as}
+use Rattle.types.proofs.{Prelude.refl, Dones.done_as}
 use Rattle.memory.specs.stages.Grow.{enlarged_by}
 use Rattle.memory.proofs.grow.enlarge_by.Goals as goal
 

@@ -1,5 +1,4 @@
 use Rattle.memory.specs.stages.Grow.{grant_of}
-use borrow.Author.Rules.{rules}
 use Rattle.memory.proofs.grow.grant.Goals as goal
 
 pub returns : goal.returns

@@ -1,5 +1,4 @@
 use Rattle.memory.proofs.Growths.{reach_held}
-use borrow.Author.Rules.{rules}
 use Rattle.memory.proofs.grow.grow_some.Goals as goal
 
 pub by_reach-requires : goal.by_reach-requires

@@ -1,6 +1,5 @@
 use Rattle.memory.proofs.Stages.{stage}
 use Rattle.memory.specs.stages.Grow.{grow_sound}
-use borrow.Author.Rules.{rules}
 use Rattle.memory.proofs.grow.grow_sound.Goals as goal
 
 pub returns-then-additional-eq0 : goal.returns-then-additional-eq0

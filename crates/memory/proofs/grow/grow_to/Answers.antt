@@ -1,6 +1,5 @@
 use Rattle.memory.proofs.Growths.{granted_room}
 use Rattle.memory.specs.stages.Grow.{grow_to}
-use borrow.Author.Rules.{rules}
 use Rattle.memory.proofs.grow.grow_to.Goals as goal
 
 pub enlarge_by-requires : goal.enlarge_by-requires

@@ -1,4 +1,4 @@
-use Rattle.types.proofs.{Prelude.known_test, Prelude.rules, Prelude.not-false, Prelude.not-true, Prelude.arith, Sizes.page_pos}
+use Rattle.types.proofs.{Prelude.known_test, Prelude.not-false, Prelude.not-true}
 use Rattle.memory.proofs.Growths.{may_by, may_not}
 use Rattle.memory.proofs.grow.may_have.Goals as goal
 

@@ -1,5 +1,4 @@
 use Rattle.memory.proofs.Growths.{reach_past}
-use borrow.Author.Rules.{rules}
 use Rattle.memory.proofs.grow.reach.Goals as goal
 
 pub returns-then-pages-additional : goal.returns-then-pages-additional

@@ -1,4 +1,4 @@
-use Rattle.types.proofs.Prelude.{known_test, rules}
+use Rattle.types.proofs.Prelude.{known_test}
 use Rattle.memory.proofs.Growths.{reach_none, reach_some}
 use Rattle.memory.proofs.grow.reach_pages.Goals as goal
 

@@ -1,4 +1,4 @@
-use Rattle.types.proofs.Prelude.{cases, rules}
+use Rattle.types.proofs.Prelude.{cases}
 use Rattle.memory.proofs.memory.admits_pages.Goals as goal
 
 pub returns-then-within_bound : goal.returns-then-within_bound

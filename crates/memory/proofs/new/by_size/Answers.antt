@@ -1,4 +1,4 @@
-use Rattle.types.proofs.{Prelude.refl, Prelude.rules, Dones.done_as}
+use Rattle.types.proofs.{Prelude.refl, Dones.done_as}
 use Rattle.memory.specs.stages.New.{by_size}
 use Rattle.memory.proofs.new.by_size.Goals as goal
 

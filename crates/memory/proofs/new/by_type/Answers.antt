@@ -1,4 +1,4 @@
-use Rattle.types.proofs.{Prelude.refl, Prelude.rules, Dones.done_as}
+use Rattle.types.proofs.{Prelude.refl, Dones.done_as}
 use Rattle.memory.specs.stages.New.{by_type}
 use Rattle.memory.proofs.new.by_type.Goals as goal
 

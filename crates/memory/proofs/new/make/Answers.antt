@@ -1,5 +1,4 @@
 use Rattle.memory.specs.stages.New.{made_by}
-use borrow.Author.Rules.{rules}
 use Rattle.memory.proofs.new.make.Goals as goal
 
 pub returns : goal.returns

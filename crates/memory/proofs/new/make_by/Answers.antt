@@ -1,4 +1,4 @@
-use Rattle.types.proofs.{Prelude.refl, Prelude.rules, Dones.done_as}
+use Rattle.types.proofs.{Prelude.refl, Dones.done_as}
 use Rattle.memory.specs.stages.New.{made_by}
 use Rattle.memory.proofs.new.make_by.Goals as goal
 

@@ -1,6 +1,5 @@
 use Rattle.memory.proofs.Growths.{created_room}
 use Rattle.memory.specs.stages.New.{made_of}
-use borrow.Author.Rules.{rules}
 use Rattle.memory.proofs.new.make_sized.Goals as goal
 
 pub make_by-requires : goal.make_by-requires

@@ -1,4 +1,4 @@
-use Rattle.types.proofs.{Prelude.known_test, Prelude.rules, Dones.done_as, Spans.within_is}
+use Rattle.types.proofs.{Prelude.known_test, Dones.done_as, Spans.within_is}
 use Rattle.memory.proofs.Readings.{new_goes, new_stops}
 use Rattle.types.specs.Span.{inside}
 use Rattle.memory.proofs.new.new_memory.Goals as goal

@@ -1,4 +1,4 @@
-use Rattle.types.proofs.Prelude.{ℕ, ◌-◌, ◌/◌, ◌<◌, rules, arith}
+use Rattle.types.proofs.Prelude.{◌-◌, ◌/◌, arith}
 use Rattle.table.proofs.{Puts.fill_on}
 use Rattle.table.proofs.cells.+fill_long.Goals as goal
 

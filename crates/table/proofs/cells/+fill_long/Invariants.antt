@@ -1,4 +1,3 @@
-use Rattle.types.proofs.Prelude.{ℕ, ◌-◌, ◌/◌, ◌<◌, rules, arith}
 use Rattle.table.proofs.cells.+fill_long.Given as goal
 
 abbrev pub decreases-fill_long : goal.decreases-fill_long

@@ -1,4 +1,4 @@
-use Rattle.types.proofs.{Prelude.ℕ, Prelude.◌-◌, Prelude.◌/◌, Prelude.◌<◌, Prelude.rules, Prelude.arith, Moves.back_end, Moves.forth_on}
+use Rattle.types.proofs.{Prelude.◌-◌, Prelude.◌/◌, Prelude.arith, Moves.back_end, Moves.forth_on}
 use Rattle.table.proofs.cells.+move_long.Goals as goal
 
 pub returns-then-to-from : goal.returns-then-to-from

@@ -1,4 +1,3 @@
-use Rattle.types.proofs.{Prelude.ℕ, Prelude.◌-◌, Prelude.◌/◌, Prelude.◌<◌, Prelude.rules, Prelude.arith, Moves.back_end, Moves.forth_on}
 use Rattle.table.proofs.cells.+move_long.Given as goal
 
 abbrev pub decreases-move_long : goal.decreases-move_long

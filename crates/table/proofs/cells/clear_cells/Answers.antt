@@ -1,5 +1,4 @@
 use Rattle.types.proofs.Moves.{put_fill}
-use borrow.Author.Rules.{rules}
 use Rattle.table.proofs.cells.clear_cells.Goals as goal
 
 pub returns : goal.returns

@@ -1,6 +1,5 @@
-use Rattle.types.proofs.Prelude.{◌-◌, ◌≤◌, rules, length, replicate, ◌≡◌, refl, arith}
+use Rattle.types.proofs.Prelude.{◌-◌, rules, refl, arith}
 use Rattle.table.proofs.Puts.{copy_on_lem, fill_again, fill_here}
-use Rattle.types.specs.Span.{over}
 use Rattle.table.proofs.cells.fill_row.Goals as goal
 
 pub loop-k-init : goal.loop-k-init

@@ -1,5 +1,4 @@
-use Rattle.types.proofs.Prelude.{◌-◌, ◌≤◌, rules, length, replicate, ◌≡◌, refl, arith}
-use Rattle.table.proofs.Puts.{copy_on_lem, fill_again, fill_here}
+use Rattle.types.proofs.Prelude.{◌-◌, ◌≤◌, length, replicate, ◌≡◌}
 use Rattle.types.specs.Span.{over}
 use Rattle.table.proofs.cells.fill_row.Given as goal
 

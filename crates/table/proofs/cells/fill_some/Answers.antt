@@ -1,5 +1,4 @@
 use Rattle.types.proofs.Moves.{put_fill}
-use borrow.Author.Rules.{rules}
 use Rattle.table.proofs.cells.fill_some.Goals as goal
 
 pub returns : goal.returns

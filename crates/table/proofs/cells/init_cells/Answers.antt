@@ -1,5 +1,4 @@
 use Rattle.types.proofs.Moves.{put_cut}
-use borrow.Author.Rules.{rules}
 use Rattle.table.proofs.cells.init_cells.Goals as goal
 
 pub returns : goal.returns

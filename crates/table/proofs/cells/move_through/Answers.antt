@@ -1,4 +1,4 @@
-use Rattle.types.proofs.{Prelude.rules, Prelude.length, Prelude.◌∙◌, Moves.through}
+use Rattle.types.proofs.{Prelude.length, Prelude.◌∙◌, Moves.through}
 use Rattle.table.proofs.cells.move_through.Goals as goal
 
 pub returns : goal.returns

@@ -1,6 +1,5 @@
 use Rattle.table.proofs.Outcomes.{goes_both}
 use Rattle.table.specs.stages.Spans.{copy_bounds}
-use borrow.Author.Rules.{rules}
 use Rattle.table.proofs.copy.copy_bounds.Goals as goal
 
 pub copy_by-requires : goal.copy_by-requires

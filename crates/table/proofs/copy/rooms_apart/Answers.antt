@@ -1,4 +1,4 @@
-use Rattle.types.proofs.Prelude.{cases, rules}
+use Rattle.types.proofs.Prelude.{cases}
 use Rattle.table.specs.Copy.{rooms_apart}
 use Rattle.types.specs.Span.{inside}
 use Rattle.table.proofs.copy.rooms_apart.Goals as goal

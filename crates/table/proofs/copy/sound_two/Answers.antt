@@ -1,6 +1,5 @@
 use Rattle.table.proofs.Exits.{exits}
 use Rattle.table.specs.Copy.{sound_two}
-use borrow.Author.Rules.{rules}
 use Rattle.table.proofs.copy.sound_two.Goals as goal
 
 pub returns-then-not-is_sound : goal.returns-then-not-is_sound

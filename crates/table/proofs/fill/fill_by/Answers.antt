@@ -1,5 +1,4 @@
 use Rattle.table.proofs.Outcomes.{spanned_done_lem, spanned_refused}
-use borrow.Author.Rules.{rules}
 use Rattle.table.proofs.fill.fill_by.Goals as goal
 
 pub returns-in-Refused : goal.returns-in-Refused

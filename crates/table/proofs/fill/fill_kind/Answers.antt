@@ -1,6 +1,5 @@
 use Rattle.table.proofs.Outcomes.{goes_within}
 use Rattle.table.specs.stages.Spans.{fill_kind}
-use borrow.Author.Rules.{rules}
 use Rattle.table.proofs.fill.fill_kind.Goals as goal
 
 pub fill_by-requires : goal.fill_by-requires

@@ -1,6 +1,5 @@
 use Rattle.table.proofs.Exits.{exits}
 use Rattle.table.specs.stages.Spans.{fill_sound}
-use borrow.Author.Rules.{rules}
 use Rattle.table.proofs.fill.fill_sound.Goals as goal
 
 pub returns-then-element_matches : goal.returns-then-element_matches

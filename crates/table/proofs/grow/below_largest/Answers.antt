@@ -1,6 +1,5 @@
 use Rattle.types.proofs.Halves.{whole_halves}
 use Rattle.types.specs.IndexType.{max_size}
-use borrow.Author.Rules.{rules}
 use Rattle.table.proofs.grow.below_largest.Goals as goal
 
 pub returns : goal.returns

@@ -1,4 +1,4 @@
-use Rattle.types.proofs.{Prelude.rules, Prelude.refl, Dones.done_as}
+use Rattle.types.proofs.{Prelude.refl, Dones.done_as}
 use Rattle.table.specs.stages.Grow.{enlarged_by}
 use Rattle.table.proofs.grow.enlarge_by.Goals as goal
 

@@ -1,5 +1,4 @@
 use Rattle.table.specs.stages.Grow.{grant_of}
-use borrow.Author.Rules.{rules}
 use Rattle.table.proofs.grow.grant.Goals as goal
 
 pub returns : goal.returns

@@ -1,4 +1,4 @@
-use Rattle.types.proofs.{Prelude.rules, Prelude.refl, Dones.done_as}
+use Rattle.types.proofs.{Prelude.refl, Dones.done_as}
 use Rattle.table.proofs.{Exits.exits, Growths.grows_past}
 use Rattle.table.specs.stages.Grow.{grow_some}
 use Rattle.table.proofs.grow.grow_some.Goals as goal

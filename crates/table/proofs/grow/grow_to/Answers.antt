@@ -1,6 +1,5 @@
 use Rattle.table.proofs.Growths.{growth_room_lem}
 use Rattle.table.specs.stages.Grow.{grow_to}
-use borrow.Author.Rules.{rules}
 use Rattle.table.proofs.grow.grow_to.Goals as goal
 
 pub enlarge_by-requires : goal.enlarge_by-requires

@@ -1,6 +1,5 @@
 use Rattle.table.proofs.{Exits.exits, Outcomes.ends_within}
 use Rattle.table.specs.stages.Spans.{init_bounds}
-use borrow.Author.Rules.{rules}
 use Rattle.table.proofs.init.init_bounds.Goals as goal
 
 pub returns-then-not-both_within : goal.returns-then-not-both_within

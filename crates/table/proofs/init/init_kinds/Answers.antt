@@ -1,6 +1,5 @@
 use Rattle.table.proofs.Exits.{exits}
 use Rattle.table.specs.stages.Spans.{init_kinds}
-use borrow.Author.Rules.{rules}
 use Rattle.table.proofs.init.init_kinds.Goals as goal
 
 pub returns-then-element_matches : goal.returns-then-element_matches

@@ -1,5 +1,4 @@
 use Rattle.table.specs.stages.Spans.{init_some}
-use borrow.Author.Rules.{rules}
 use Rattle.table.proofs.init.init_some.Goals as goal
 
 pub returns : goal.returns

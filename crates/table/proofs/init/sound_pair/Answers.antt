@@ -1,4 +1,4 @@
-use Rattle.types.proofs.Prelude.{cases, rules}
+use Rattle.types.proofs.Prelude.{cases}
 use Rattle.table.proofs.init.sound_pair.Goals as goal
 
 pub returns-then-not-is_sound : goal.returns-then-not-is_sound

@@ -1,6 +1,5 @@
 use Rattle.table.proofs.Exits.{exits}
 use Rattle.table.specs.stages.New.{by_kind}
-use borrow.Author.Rules.{rules}
 use Rattle.table.proofs.new.by_kind.Goals as goal
 
 pub returns-then-element_matches : goal.returns-then-element_matches

@@ -1,4 +1,4 @@
-use Rattle.types.proofs.{Prelude.rules, Prelude.refl, Dones.done_as}
+use Rattle.types.proofs.{Prelude.refl, Dones.done_as}
 use Rattle.table.specs.stages.New.{by_type}
 use Rattle.table.proofs.new.by_type.Goals as goal
 

@@ -1,6 +1,5 @@
 use Rattle.table.proofs.Exits.{exits}
 use Rattle.table.specs.stages.New.{made_by}
-use borrow.Author.Rules.{rules}
 use Rattle.table.proofs.new.make.Goals as goal
 
 pub returns : goal.returns

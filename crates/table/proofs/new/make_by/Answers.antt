@@ -1,4 +1,4 @@
-use Rattle.types.proofs.{Prelude.rules, Prelude.refl, Dones.done_as}
+use Rattle.types.proofs.{Prelude.refl, Dones.done_as}
 use Rattle.table.specs.stages.New.{made_by}
 use Rattle.table.proofs.new.make_by.Goals as goal
 

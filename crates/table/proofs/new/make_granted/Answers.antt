@@ -1,6 +1,5 @@
 use Rattle.table.proofs.Growths.{creation_room_lem}
 use Rattle.table.specs.stages.New.{made_of}
-use borrow.Author.Rules.{rules}
 use Rattle.table.proofs.new.make_granted.Goals as goal
 
 pub make_by-requires : goal.make_by-requires

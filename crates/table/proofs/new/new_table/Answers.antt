@@ -1,5 +1,4 @@
 use Rattle.table.proofs.{Exits.exits, Sounds.tested_buffer, Readings.new_reads}
-use borrow.Author.Rules.{rules}
 use Rattle.table.proofs.new.new_table.Goals as goal
 
 pub make_in-requires : goal.make_in-requires

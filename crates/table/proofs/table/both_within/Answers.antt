@@ -1,4 +1,4 @@
-use Rattle.types.proofs.Prelude.{cases, rules}
+use Rattle.types.proofs.Prelude.{cases}
 use Rattle.table.proofs.table.both_within.Goals as goal
 
 pub returns-then-within : goal.returns-then-within

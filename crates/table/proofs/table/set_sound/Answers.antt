@@ -1,6 +1,5 @@
 use Rattle.table.proofs.Exits.{exits}
 use Rattle.table.specs.Table.{set_sound}
-use borrow.Author.Rules.{rules}
 use Rattle.table.proofs.table.set_sound.Goals as goal
 
 pub returns-then-not-element_matches : goal.returns-then-not-element_matches

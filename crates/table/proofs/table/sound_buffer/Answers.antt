@@ -1,4 +1,4 @@
-use Rattle.types.proofs.Prelude.{cases, rules}
+use Rattle.types.proofs.Prelude.{cases}
 use Rattle.table.specs.Table.{sound_buffer}
 use Rattle.table.proofs.table.sound_buffer.Goals as goal
 

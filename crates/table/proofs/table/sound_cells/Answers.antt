@@ -1,4 +1,4 @@
-use Rattle.types.proofs.Prelude.{known_test, rules, not-true, not-false}
+use Rattle.types.proofs.Prelude.{known_test, not-true, not-false}
 use Rattle.types.proofs.Held.{held_below, held_past, held_free, held_above, held_by}
 use Rattle.table.proofs.table.sound_cells.Goals as goal
 

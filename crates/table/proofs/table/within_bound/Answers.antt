@@ -1,6 +1,5 @@
 use Rattle.types.proofs.Halves.{whole_halves}
 use Rattle.types.specs.TableType.{table_bound}
-use borrow.Author.Rules.{rules}
 use Rattle.table.proofs.table.within_bound.Goals as goal
 
 pub returns : goal.returns

@@ -1,4 +1,4 @@
-use Rattle.types.proofs.{Prelude.rules, Prelude.ap, Prelude.sym, Floats.no_nan, Floats.the_nan}
+use Rattle.types.proofs.{Prelude.ap, Prelude.sym, Floats.no_nan, Floats.the_nan}
 use lib.Ieee.{binary32, to_bits}
 use Rattle.types.proofs.answer.bits32.Goals as goal
 

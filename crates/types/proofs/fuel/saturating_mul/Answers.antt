@@ -1,5 +1,4 @@
-use Rattle.types.proofs.Prices.{product_fits, product_large, product_none, product_small}
-use borrow.Author.Rules.{rules}
+use Rattle.types.proofs.Prices.{product_large, product_none, product_small}
 use Rattle.types.proofs.fuel.saturating_mul.Goals as goal
 
 pub returns-then-b-eq0 : goal.returns-then-b-eq0

@@ -1,4 +1,4 @@
-use Rattle.types.proofs.Prelude.{cases, rules}
+use Rattle.types.proofs.Prelude.{cases}
 use Rattle.types.specs.stages.Grant.{creation_room}
 use Rattle.types.proofs.grant.creation_room.Goals as goal
 

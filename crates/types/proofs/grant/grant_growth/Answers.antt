@@ -1,5 +1,4 @@
 use Rattle.types.specs.stages.Grant.{grant_growth}
-use borrow.Author.Rules.{rules}
 use Rattle.types.proofs.grant.grant_growth.Goals as goal
 
 pub returns : goal.returns

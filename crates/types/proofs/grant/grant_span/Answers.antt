@@ -1,4 +1,4 @@
-use Rattle.types.proofs.Prelude.{cases, rules}
+use Rattle.types.proofs.Prelude.{cases}
 use Rattle.types.specs.stages.Grant.{grant_span}
 use Rattle.types.proofs.grant.grant_span.Goals as goal
 

@@ -1,4 +1,4 @@
-use Rattle.types.proofs.Prelude.{cases, rules}
+use Rattle.types.proofs.Prelude.{cases}
 use Rattle.types.specs.stages.Grant.{growth_fuel}
 use Rattle.types.proofs.grant.growth_fuel.Goals as goal
 

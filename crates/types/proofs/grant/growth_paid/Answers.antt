@@ -1,5 +1,4 @@
 use Rattle.types.specs.stages.Grant.{growth_paid}
-use borrow.Author.Rules.{rules}
 use Rattle.types.proofs.grant.growth_paid.Goals as goal
 
 pub returns-in-Refused : goal.returns-in-Refused

@@ -1,5 +1,4 @@
 use Rattle.types.specs.stages.Grant.{growth_permit}
-use borrow.Author.Rules.{rules}
 use Rattle.types.proofs.grant.growth_permit.Goals as goal
 
 pub returns-in-Denied : goal.returns-in-Denied

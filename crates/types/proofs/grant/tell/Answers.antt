@@ -1,5 +1,4 @@
 use Rattle.types.specs.stages.Grant.{told}
-use borrow.Author.Rules.{rules}
 use Rattle.types.proofs.grant.tell.Goals as goal
 
 pub returns : goal.returns

@@ -1,5 +1,5 @@
-use Rattle.types.proofs.Prelude.{◌-◌, ◌≤◌, rules, drop, length, replicate, take, ◌++◌, ◌≡◌, refl, arith}
-use Rattle.types.proofs.Scripts.{row_all, row_more}
+use Rattle.types.proofs.Prelude.{arith}
+use Rattle.types.proofs.Scripts.{row_all}
 use Rattle.types.proofs.limiter.row_of.Goals as goal
 
 pub returns : goal.returns

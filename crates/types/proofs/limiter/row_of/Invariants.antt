@@ -1,5 +1,4 @@
-use Rattle.types.proofs.Prelude.{◌-◌, ◌≤◌, rules, drop, length, replicate, take, ◌++◌, ◌≡◌, refl, arith}
-use Rattle.types.proofs.Scripts.{row_all, row_more}
+use Rattle.types.proofs.Prelude.{◌-◌, ◌≤◌, drop, length, replicate, take, ◌++◌, ◌≡◌}
 use Rattle.types.proofs.limiter.row_of.Given as goal
 
 abbrev pub invariant-loop-i : goal.invariant-loop-i

@@ -1,6 +1,5 @@
-use Rattle.types.proofs.Prelude.{◌-◌, ◌≤◌, rules, drop, length, ◌≡◌, refl, arith}
+use Rattle.types.proofs.Prelude.{arith}
 use Rattle.types.proofs.Scripts.{answers_all, answers_bad, answers_more, too_long}
-use Rattle.types.specs.Limiter.{all_answers}
 use Rattle.types.proofs.limiter.well_formed.Goals as goal
 
 pub returns-then-script-gt-LONGEST_SCRIPT : goal.returns-then-script-gt-LONGEST_SCRIPT

@@ -1,5 +1,4 @@
-use Rattle.types.proofs.Prelude.{◌-◌, ◌≤◌, rules, drop, length, ◌≡◌, refl, arith}
-use Rattle.types.proofs.Scripts.{answers_all, answers_bad, answers_more, too_long}
+use Rattle.types.proofs.Prelude.{◌-◌, ◌≤◌, drop, length, ◌≡◌}
 use Rattle.types.specs.Limiter.{all_answers}
 use Rattle.types.proofs.limiter.well_formed.Given as goal
 

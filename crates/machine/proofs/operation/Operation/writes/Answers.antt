@@ -1,4 +1,4 @@
-use Rattle.types.proofs.Prelude.{refl, rules}
+use Rattle.types.proofs.Prelude.{refl}
 use Rattle.machine.specs.stages.Rows.{writes_of}
 use Rattle.machine.proofs.operation.Operation.writes.Goals as goal
 

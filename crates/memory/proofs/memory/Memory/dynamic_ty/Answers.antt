@@ -1,4 +1,3 @@
-use Rattle.types.proofs.Prelude.{rules}
 use Rattle.memory.specs.Memory.{dynamic_of}
 use Rattle.memory.proofs.memory.Memory.dynamic_ty.Goals as goal
 

@@ -1,4 +1,4 @@
-use Rattle.types.proofs.{Prelude.known_test, Prelude.rules, Dones.done_as}
+use Rattle.types.proofs.{Prelude.known_test, Dones.done_as}
 use Rattle.memory.proofs.Readings.{grow_goes, grow_stops}
 use Rattle.memory.proofs.memory.Memory.grow.Goals as goal
 

@@ -1,4 +1,4 @@
-use Rattle.types.proofs.Prelude.{cases, rules}
+use Rattle.types.proofs.Prelude.{cases}
 use Rattle.memory.specs.Memory.{sound_memory}
 use Rattle.memory.proofs.memory.Memory.is_sound.Goals as goal
 

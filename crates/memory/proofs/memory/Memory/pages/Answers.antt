@@ -1,4 +1,3 @@
-use Rattle.types.proofs.{Prelude.rules, Prelude.arith, Sizes.page_pos}
 use Rattle.memory.specs.Memory.{pages_of}
 use Rattle.memory.proofs.memory.Memory.pages.Goals as goal
 

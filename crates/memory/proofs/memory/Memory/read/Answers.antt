@@ -1,4 +1,4 @@
-use Rattle.types.proofs.Prelude.{known_test, rules}
+use Rattle.types.proofs.Prelude.{known_test}
 use Rattle.memory.proofs.{Sounds.sound_used, Stages.stage}
 use Rattle.memory.specs.Host.{read_memory}
 use Rattle.memory.proofs.memory.Memory.read.Goals as goal

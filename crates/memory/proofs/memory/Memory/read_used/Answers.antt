@@ -1,4 +1,4 @@
-use Rattle.types.proofs.{Prelude.known_test, Prelude.rules, Prelude.arith, Spans.within_is}
+use Rattle.types.proofs.{Prelude.known_test, Prelude.arith, Spans.within_is}
 use Rattle.memory.proofs.Stages.{stage}
 use Rattle.memory.specs.Host.{read_used}
 use Rattle.memory.proofs.memory.Memory.read_used.Goals as goal

@@ -1,4 +1,4 @@
-use Rattle.types.proofs.{Prelude.known_test, Prelude.rules, Prelude.arith, Spans.within_is}
+use Rattle.types.proofs.{Prelude.known_test, Prelude.arith, Spans.within_is}
 use Rattle.memory.proofs.Stages.{stage}
 use Rattle.memory.specs.Host.{write_used}
 use Rattle.memory.proofs.memory.Memory.write_used.Goals as goal

@@ -1,4 +1,4 @@
-use Rattle.types.proofs.Prelude.{cases, rules}
+use Rattle.types.proofs.Prelude.{cases}
 use Rattle.table.specs.Element.{sound_segment}
 use Rattle.table.proofs.element.ElementSegment.is_sound.Goals as goal
 

@@ -1,4 +1,4 @@
-use Rattle.types.proofs.{Prelude.rules, Prelude.not-false, Prelude.refl, Prelude.◌∙◌, Prelude.ap, Prelude.arith, Dones.done_as}
+use Rattle.types.proofs.{Prelude.refl, Prelude.◌∙◌, Prelude.ap, Prelude.arith, Dones.done_as}
 use Rattle.table.proofs.{Exits.exits, Exits.taken_by, Puts.cut_all, Sounds.tested_buffer}
 use Rattle.table.specs.Element.{new_segment}
 use Rattle.types.specs.Span.{over}

@@ -1,5 +1,4 @@
 use Rattle.table.proofs.{Exits.exits, Sounds.tested_two, Readings.copy_reads}
-use borrow.Author.Rules.{rules}
 use Rattle.table.proofs.table.Table.copy.Goals as goal
 
 pub copy_kinds-requires : goal.copy_kinds-requires

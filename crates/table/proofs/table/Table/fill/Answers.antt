@@ -1,5 +1,4 @@
 use Rattle.table.proofs.{Exits.exits, Sounds.tested_within, Readings.fill_reads}
-use borrow.Author.Rules.{rules}
 use Rattle.table.proofs.table.Table.fill.Goals as goal
 
 pub fill_sound-requires : goal.fill_sound-requires

@@ -1,5 +1,4 @@
 use Rattle.table.proofs.{Exits.exits, Sounds.tested_room, Readings.grow_reads}
-use borrow.Author.Rules.{rules}
 use Rattle.table.proofs.table.Table.grow.Goals as goal
 
 pub grow_sound-requires : goal.grow_sound-requires

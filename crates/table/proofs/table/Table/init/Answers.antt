@@ -1,5 +1,4 @@
 use Rattle.table.proofs.{Exits.exits, Sounds.tested_pair, Readings.init_reads}
-use borrow.Author.Rules.{rules}
 use Rattle.table.proofs.table.Table.init.Goals as goal
 
 pub init_kinds-requires : goal.init_kinds-requires

@@ -1,4 +1,4 @@
-use Rattle.types.proofs.Prelude.{cases, rules}
+use Rattle.types.proofs.Prelude.{cases}
 use Rattle.table.specs.Table.{sound_table}
 use Rattle.table.proofs.table.Table.is_sound.Goals as goal
 

@@ -1,6 +1,5 @@
 use Rattle.table.proofs.{Exits.exits, Sounds.tested_within}
 use Rattle.table.specs.Table.{set_table}
-use borrow.Author.Rules.{rules}
 use Rattle.table.proofs.table.Table.set.Goals as goal
 
 pub set_sound-requires : goal.set_sound-requires

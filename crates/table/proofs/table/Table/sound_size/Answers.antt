@@ -1,4 +1,3 @@
-use Rattle.types.proofs.Prelude.{rules}
 use Rattle.table.proofs.Sounds.{size_past, size_by}
 use Rattle.table.proofs.table.Table.sound_size.Goals as goal
 

@@ -1,5 +1,4 @@
 use Rattle.types.specs.Answer.{number_of}
-use borrow.Author.Rules.{rules}
 use Rattle.types.proofs.answer.Answer.number.Goals as goal
 
 pub returns-in-Value : goal.returns-in-Value

@@ -1,5 +1,4 @@
 use Rattle.types.specs.Answer.{shown_of}
-use borrow.Author.Rules.{rules}
 use Rattle.types.proofs.answer.Answer.shown.Goals as goal
 
 pub returns-in-Value : goal.returns-in-Value

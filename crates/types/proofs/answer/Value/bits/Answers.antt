@@ -1,4 +1,4 @@
-use Rattle.types.proofs.Signs.{bits_32, bits_64, wide_fits}
+use Rattle.types.proofs.Signs.{bits_32, bits_64}
 use Rattle.types.specs.Answer.{bits_of}
 use borrow.Author.Rules.{rules}
 use Rattle.types.proofs.answer.Value.bits.Goals as goal

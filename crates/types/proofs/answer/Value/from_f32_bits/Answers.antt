@@ -1,4 +1,4 @@
-use Rattle.types.proofs.{Prelude.cases, Prelude.known_test, Prelude.rules, Floats.fails}
+use Rattle.types.proofs.{Prelude.cases}
 use Rattle.types.specs.Answer.{float32}
 use Rattle.types.proofs.answer.Value.from_f32_bits.Goals as goal
 

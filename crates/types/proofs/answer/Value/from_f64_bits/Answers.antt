@@ -1,4 +1,4 @@
-use Rattle.types.proofs.{Prelude.cases, Prelude.known_test, Prelude.rules, Floats.fails}
+use Rattle.types.proofs.{Prelude.cases}
 use Rattle.types.specs.Answer.{float64}
 use Rattle.types.proofs.answer.Value.from_f64_bits.Goals as goal
 

@@ -1,4 +1,4 @@
-use Rattle.types.proofs.Prelude.{cases, rules}
+use Rattle.types.proofs.Prelude.{cases}
 use Rattle.types.specs.Fuel.{consume}
 use Rattle.types.proofs.fuel.Fuel.consume_fuel.Goals as goal
 

@@ -1,4 +1,4 @@
-use Rattle.types.proofs.Prelude.{cases, rules}
+use Rattle.types.proofs.Prelude.{cases}
 use Rattle.types.specs.Fuel.{consume_if}
 use Rattle.types.proofs.fuel.Fuel.consume_fuel_if.Goals as goal
 

@@ -1,4 +1,4 @@
-use Rattle.types.proofs.{Prelude.◌*◌, Prelude.rules, Prices.price_capped}
+use Rattle.types.proofs.{Prelude.◌*◌, Prices.price_capped}
 use Rattle.types.proofs.fuel.FuelCosts.fuel_for_copying_values.Goals as goal
 
 pub returns : goal.returns

@@ -1,4 +1,4 @@
-use Rattle.types.proofs.Prelude.{rules, refl}
+use Rattle.types.proofs.Prelude.{refl}
 use Rattle.types.specs.Wide.{halves}
 use Rattle.types.proofs.index_ty.IndexType.max_size.Goals as goal
 

@@ -1,4 +1,4 @@
-use Rattle.types.proofs.{Prelude.cases, Prelude.known_test, Prelude.rules, Scripts.well_short}
+use Rattle.types.proofs.{Prelude.cases, Prelude.known_test, Scripts.well_short}
 use Rattle.types.specs.Limiter.{hand_over}
 use Rattle.types.proofs.limiter.Limiter.hand_over.Goals as goal
 

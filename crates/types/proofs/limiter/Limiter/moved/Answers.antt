@@ -1,4 +1,4 @@
-use Rattle.types.proofs.Prelude.{cases, rules}
+use Rattle.types.proofs.Prelude.{cases}
 use Rattle.types.specs.Limiter.{moved}
 use Rattle.types.proofs.limiter.Limiter.moved.Goals as goal
 

@@ -1,5 +1,4 @@
 use Rattle.types.specs.Limiter.{notify}
-use borrow.Author.Rules.{rules}
 use Rattle.types.proofs.limiter.Limiter.notify.Goals as goal
 
 pub returns : goal.returns

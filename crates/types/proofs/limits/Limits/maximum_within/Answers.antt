@@ -1,4 +1,4 @@
-use Rattle.types.proofs.Prelude.{cases, rules}
+use Rattle.types.proofs.Prelude.{cases}
 use Rattle.types.specs.Limits.{valid_maximum}
 use Rattle.types.proofs.limits.Limits.maximum_within.Goals as goal
 

@@ -1,4 +1,4 @@
-use Rattle.types.proofs.Prelude.{cases, rules}
+use Rattle.types.proofs.Prelude.{cases}
 use Rattle.types.specs.Limits.{valid_limits}
 use Rattle.types.proofs.limits.Limits.valid_within.Goals as goal
 

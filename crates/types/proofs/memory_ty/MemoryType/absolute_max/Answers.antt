@@ -1,4 +1,4 @@
-use Rattle.types.proofs.Prelude.{rules, refl}
+use Rattle.types.proofs.Prelude.{refl}
 use Rattle.types.specs.{MemoryType.page_bound, Wide.halves}
 use Rattle.types.proofs.memory_ty.MemoryType.absolute_max.Goals as goal
 

@@ -1,5 +1,4 @@
 use Rattle.types.proofs.Built.{built_one, built_wasm, built_none}
-use borrow.Author.Rules.{rules}
 use Rattle.types.proofs.memory_ty.MemoryType.build.Goals as goal
 
 pub returns-then-exponent-eq0 : goal.returns-then-exponent-eq0

@@ -1,5 +1,4 @@
 use Rattle.types.specs.MemoryType.{dynamic_memory}
-use borrow.Author.Rules.{rules}
 use Rattle.types.proofs.memory_ty.MemoryType.dynamic_ty.Goals as goal
 
 pub returns : goal.returns

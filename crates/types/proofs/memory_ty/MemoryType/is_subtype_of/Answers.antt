@@ -1,4 +1,4 @@
-use Rattle.types.proofs.Prelude.{cases, rules}
+use Rattle.types.proofs.Prelude.{cases}
 use Rattle.types.specs.MemoryType.{match_memory}
 use Rattle.types.proofs.memory_ty.MemoryType.is_subtype_of.Goals as goal
 

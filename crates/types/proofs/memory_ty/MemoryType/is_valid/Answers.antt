@@ -1,6 +1,5 @@
 use Rattle.types.proofs.Halves.{whole_halves}
 use Rattle.types.specs.MemoryType.{page_bound, valid_memory}
-use borrow.Author.Rules.{rules}
 use Rattle.types.proofs.memory_ty.MemoryType.is_valid.Goals as goal
 
 pub returns : goal.returns

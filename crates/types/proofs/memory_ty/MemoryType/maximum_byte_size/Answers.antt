@@ -1,4 +1,4 @@
-use Rattle.types.proofs.{Prelude.cases, Prelude.rules, Sizes.unlimited_32, Sizes.unlimited_64}
+use Rattle.types.proofs.{Prelude.cases, Sizes.unlimited_32, Sizes.unlimited_64}
 use Rattle.types.specs.MemoryType.{maximum_bytes}
 use Rattle.types.proofs.memory_ty.MemoryType.maximum_byte_size.Goals as goal
 

@@ -1,5 +1,4 @@
 use Rattle.types.specs.MemoryType.{minimum_bytes}
-use borrow.Author.Rules.{rules}
 use Rattle.types.proofs.memory_ty.MemoryType.minimum_byte_size.Goals as goal
 
 pub returns : goal.returns

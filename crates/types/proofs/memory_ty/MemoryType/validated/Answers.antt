@@ -1,4 +1,4 @@
-use Rattle.types.proofs.Prelude.{cases, rules}
+use Rattle.types.proofs.Prelude.{cases}
 use Rattle.types.specs.MemoryType.{validated}
 use Rattle.types.proofs.memory_ty.MemoryType.validated.Goals as goal
 

@@ -1,4 +1,4 @@
-use Rattle.types.proofs.{Prelude.rules, Prelude.arith, Sizes.page_pos, Sizes.pages_are, Sizes.pages_fit, Sizes.pages_over}
+use Rattle.types.proofs.{Sizes.pages_are, Sizes.pages_over}
 use Rattle.types.proofs.memory_ty.PageSize.byte_size.Goals as goal
 
 pub returns-then-size-pages : goal.returns-then-size-pages

@@ -1,4 +1,4 @@
-use Rattle.types.proofs.Prelude.{rules, refl}
+use Rattle.types.proofs.Prelude.{refl}
 use Rattle.types.specs.{TableType.table_bound, Wide.halves}
 use Rattle.types.proofs.table_ty.TableType.absolute_max.Goals as goal
 

@@ -1,5 +1,4 @@
 use Rattle.types.specs.TableType.{build_table}
-use borrow.Author.Rules.{rules}
 use Rattle.types.proofs.table_ty.TableType.build.Goals as goal
 
 pub returns : goal.returns

@@ -1,5 +1,4 @@
 use Rattle.types.specs.TableType.{element_matches}
-use borrow.Author.Rules.{rules}
 use Rattle.types.proofs.table_ty.TableType.element_matches.Goals as goal
 
 pub returns : goal.returns

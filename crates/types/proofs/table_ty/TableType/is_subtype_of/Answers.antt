@@ -1,4 +1,4 @@
-use Rattle.types.proofs.Prelude.{cases, rules}
+use Rattle.types.proofs.Prelude.{cases}
 use Rattle.types.specs.TableType.{match_table}
 use Rattle.types.proofs.table_ty.TableType.is_subtype_of.Goals as goal
 

@@ -1,6 +1,5 @@
 use Rattle.types.proofs.Halves.{whole_halves}
 use Rattle.types.specs.TableType.{table_bound, valid_table}
-use borrow.Author.Rules.{rules}
 use Rattle.types.proofs.table_ty.TableType.is_valid.Goals as goal
 
 pub returns : goal.returns

@@ -1,4 +1,4 @@
-use Rattle.types.proofs.Prelude.{cases, rules}
+use Rattle.types.proofs.Prelude.{cases}
 use Rattle.types.specs.TableType.{validated}
 use Rattle.types.proofs.table_ty.TableType.validated.Goals as goal
 
