@@ -88,40 +88,65 @@ class Names:
         return out
 
     def path(self, chain, parts):
-        """Parts behind c (with 'before' gone) by today's names."""
+        """Parts behind c (with 'before' gone) by today's names, and the function that the step calls."""
         step, rest = parts[0], list(parts[1:])
         if flat(step) in ("args", "requires", "ranges", "type_inv", "utf8", "auto", "well_formed"):
-            return [flat(step)] + rest
+            return [flat(step)] + rest, None
         for i, p in chain:
             arm = self.e["arms"][i]
             if arm:
                 for field, s, prefix in arm[2]:
                     if flat(s) == flat(step) and prefix and rest[: len(prefix)] == list(prefix):
-                        return [arm[0], field] + rest[len(prefix) :]
-        for i, p in chain:
-            if flat(p[2][0]) == flat(step):
-                return [p[2][1]] + rest
-        for i, p in chain:
-            if flat(p[2][1]).lower() == flat(step).lower() or flat(p[2][0]).lower() == flat(step).lower():
-                return [p[2][1]] + rest
-        return parts
+                        return [arm[0], field] + rest[len(prefix) :], None
+        for same in (lambda s: flat(s), lambda s: flat(s).lower(), lambda s: re.sub("_lem$", "", flat(s)).lower()):
+            for which in (0, 1):
+                for i, p in chain:
+                    if same(p[2][which]) == same(step):
+                        return [p[2][1]] + self.lent(p[3], rest), p[3]
+        return parts, None
+
+    def lent(self, f, rest):
+        """new.1.0 and auto.1.0 by the parameter's name."""
+        params = self.e["params"].get(f) if f else None
+        if not params or len(rest) < 2 or rest[0] not in ("new", "auto") or rest[1] not in ("0", "1"):
+            return rest
+        k, q = 0, rest[1:]
+        while q and q[0] == "1" and k + 1 < len(params):
+            k, q = k + 1, q[1:]
+        if q and q[0] == "0":
+            q = q[1:]
+        return [rest[0], params[k]] + q
 
 
 def rewrite(text, n, place, recursive=False):
     chain = n.chain(place)
-    alias = {"c"}
-    for m in re.finditer(rf"let (\S+) = c((?:\.before)*) in", text):
-        alias.add(m[1])
+    here, steps = {"c"}, {}
 
     def one(m):
         parts = m[0].split(".")
-        if parts[0] not in alias or len(parts) == 1:
+        if len(parts) == 1:
+            return m[0]
+        if parts[0] in steps:
+            return ".".join([parts[0]] + n.lent(steps[parts[0]], parts[1:]))
+        if parts[0] not in here:
             return m[0]
         tail = [p for p in parts[1:] if p != "before"]
         if not tail:
             return parts[0]
-        return ".".join([parts[0]] + n.path(chain, tail))
+        if tail[:2] == ["match", "rest"] or tail[:2] == ["in_default", "rest"]:
+            return ".".join([parts[0], "in_default-own"] + tail[1:])
+        return ".".join([parts[0]] + n.path(chain, tail)[0])
 
+    for m in re.finditer(rf"let (\S+) = ({NAME}(?:\.{NAME})*) in(?=\s)", text):
+        parts = m[2].split(".")
+        if parts[0] in here:
+            tail = [p for p in parts[1:] if p != "before"]
+            if not tail:
+                here.add(m[1])
+            elif len(tail) == 1:
+                f = n.path(chain, tail)[1]
+                if f:
+                    steps[m[1]] = f
     text = CHAIN.sub(one, text)
     text = re.sub(rf"(?<![\w.])now ({NAME}(?:\.{NAME})*)", r"\1.now", text)
     text = re.sub(r"\bnot-(?:true|false) _ (?=\w+\.)", "", text)

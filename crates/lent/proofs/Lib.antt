@@ -1,9 +1,6 @@
 pub mod Lists
-pub mod Walk
-pub mod RowReads
 pub mod FuelLaws
 pub mod GrowthLaws
-pub mod RecordParts
 pub mod RecordLaws
 pub mod Unique
 pub mod GrowthAnswers

@@ -2,8 +2,6 @@
 use Rattle.types.proofs.Prelude.{◌≡◌, refl, sym, ap, ◌∙◌, Bool, true, false, List, ◌++◌, ℕ, suc, ◌+◌, ◌-◌, ◌*◌, ◌/◌, ◌<◌, ◌≤◌, arith, ltb, leb, length, take}
 use Rattle.types.proofs.Prelude.{drop, length-append, length-drop, drop-drop, ltb-true, ltb-false, lt-ltb, le-ltb, le-leb, lt-leb, pick_true, pick_false}
 use Rattle.types.proofs.{Prelude.either, Spans.over_nil, Spans.over_over, Spans.length_over}
-use mathlib.Core.Logic.{◌⊎◌, ⊎_elim}
-use denote.Enum.Declared.{tag_of}
 use Rattle.types.specs.{Pick.pick, Pick.both, Answer.refuse, Answer.accept, Span.over, Raw.raw_bytes, Names.Answer}
 use Rattle.machine.specs.Names.{Buffers, fresh_machine, sound_over, Stepped, step, Machine, Operation}
 use Rattle.machine.specs.Words.{row_length, words_of, machine_from, in_form}
@@ -13,7 +11,7 @@ use Rattle.lines.specs.Pieces.{lf_at, Run, still, ahead, whole_lines, close_of, 
 use Rattle.lines.specs.Progress.{Progressed, progress_of, piece_in}
 use Rattle.lines.specs.stages.Runs.{held_on, row_with, session_as, skipping, end_of, WholeRan, closed_of}
 use Rattle.lines.specs.declared.{line.Line.Line, code.Read.Read, session.Session.Session, session.Progress.Progress}
-use Rattle.lines.proofs.{code.Read.the_type, Pieces.length_text, Pieces.piece_used}
+use Rattle.lines.proofs.{Pieces.length_text, Pieces.piece_used}
 use Rattle.lines.specs.declared.code.Read.TheVariants as read
 
 -- a turn on what a line was read as
@@ -38,10 +36,10 @@ unfolding turn_by
 turn_none m first b e q = rw (e, q) refl
 
 -- a later line that is no operation
-pub turn_later : (m : Machine) (b : Buffers) (x : Read) {a : Answer} → (tag_of the_type x ≡ 1) ⊎ (tag_of the_type x ≡ 2) → a ≡ refuse 18 0
+pub turn_later : (m : Machine) (b : Buffers) (x : Read) {a : Answer} → ((o : Operation) → x ≡ read.Operation o → ⊥) → a ≡ refuse 18 0
     → turned a m b ≡ turn_by raw_bytes (record { machine = m; first = false; buffers = b }) x
 unfolding turn_by pick
-turn_later m b (read.Operation o) g q = absurd (⊎_elim (λ (z : 0 ≡ 1). omega arith) (λ (z : 0 ≡ 2). omega arith) g)
+turn_later m b (read.Operation o) g q = absurd (g o refl)
 turn_later m b (read.Making metering copied) g q = ap (λ (i : Answer). turned i m b) q
 turn_later m b read.Malformed g q = ap (λ (i : Answer). turned i m b) q
 

@@ -49,7 +49,7 @@ session_new_one κs a x x' s s' z p q = p ∙ sym q
 
 -- one number, one session, one count of bytes used and written, and one content of the row, of each of the three buffers and of the output
 pub piece_one : OneWith 6 piece_kinds.ps piece_kinds.r piece_reads.Pre piece_reads.Post (List ℕ × Buffers × List ℕ)
-    (λ κs s. (s.1.0.buffers (s.1.1.0.now) (s.1.1.1.0.now) (s.1.1.1.1.0.now), s.1.1.1.1.1.1.0.now))
+    (λ κs s. (s.1.0.now, buffers s.1.1.0.now s.1.1.1.0.now s.1.1.1.1.0.now, s.1.1.1.1.1.1.0.now))
 piece_one κs a x x' s s' z p q = (ap (λ (o : Progressed). o.progress) (p ∙ sym q), ap lent (p ∙ sym q))
   where
     lent : Progressed → List ℕ × Buffers × List ℕ

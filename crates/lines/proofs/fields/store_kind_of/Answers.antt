@@ -1,0 +1,41 @@
+use mathlib.Core.Path.{sym, ap}
+use Rattle.lines.specs.Fields.{store_kind_of}
+use Rattle.lines.proofs.NumberLaws.{store_last}
+use Rattle.lines.proofs.fields.store_kind_of.Goals as goal
+
+pub returns-in-0 : goal.returns-in-0
+unfolding store_kind_of
+returns-in-0 c = ap store_kind_of (sym c.in-0.is)
+
+pub returns-in-1 : goal.returns-in-1
+unfolding store_kind_of
+returns-in-1 c = ap store_kind_of (sym c.in-1.is)
+
+pub returns-in-2 : goal.returns-in-2
+unfolding store_kind_of
+returns-in-2 c = ap store_kind_of (sym c.in-2.is)
+
+pub returns-in-3 : goal.returns-in-3
+unfolding store_kind_of
+returns-in-3 c = ap store_kind_of (sym c.in-3.is)
+
+pub returns-in-4 : goal.returns-in-4
+unfolding store_kind_of
+returns-in-4 c = ap store_kind_of (sym c.in-4.is)
+
+pub returns-in-5 : goal.returns-in-5
+unfolding store_kind_of
+returns-in-5 c = ap store_kind_of (sym c.in-5.is)
+
+pub returns-in-6 : goal.returns-in-6
+unfolding store_kind_of
+returns-in-6 c = ap store_kind_of (sym c.in-6.is)
+
+pub returns-in-7 : goal.returns-in-7
+unfolding store_kind_of
+returns-in-7 c = ap store_kind_of (sym c.in-7.is)
+
+pub returns-in_default : goal.returns-in_default
+returns-in_default c =
+    let r = c.in_default.in_default-own.rest in
+    store_last _ r.0.0.0.0.0.0.0.1 r.0.0.0.0.0.0.1 r.0.0.0.0.0.1 r.0.0.0.0.1 r.0.0.0.1 r.0.0.1 r.0.1 r.1
