@@ -5,7 +5,7 @@
  * What C must see to itself, since no function can test it: each pointer points to as many elements as the length beside it says (it may
  * be null where that is 0); an out parameter is not null; and what is written (an out parameter, a buffer without `const`) lies apart from
  * everything else that the call is given.
- * Link with the archive that `rt staticlib yshankelt` writes, target/staticlib/libyshankelt.a.
+ * Link with the archive that `rt lib` writes in crates/yshankelt, out/libyshankelt.a there.
  */
 #ifndef YSHANKELT_H
 #define YSHANKELT_H

@@ -34,6 +34,10 @@ pub place_within : (r : ℕ) (m : Machine) (b : Buffers) (op : Operation) → Sm
 unfolding place placed_of
 place_within r m b op = placed_small m (decide r m b op).out (decide r m b op).out.change
 
+-- and so are those of all that goes back
+pub goes_within : (r : ℕ) (m : Machine) (b : Buffers) (op : Operation) (q : Placing) → q ≡ place r m b op → Small q.out
+goes_within r m b op q e = subst (λ (z : Placing). Small z.out) (sym e) (place_within r m b op)
+
 -- the answer, and the machine whose lists have these records stored to them
 abbrev stored_in : Machine → Buffers → Placed → Stepped
 stored_in m b p =

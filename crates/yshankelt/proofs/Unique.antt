@@ -147,7 +147,7 @@ pub ysh_machine_new_one : OneWith 1 ysh_machine_new_kinds.ps ysh_machine_new_kin
 ysh_machine_new_one κs a x x' s s' z p q = (ap (λ (o : Rowed). o.number) (p ∙ sym q), ap (λ (o : Rowed). o.words) (p ∙ sym q))
 
 pub ysh_operate_one : OneWith 7 ysh_operate_kinds.ps ysh_operate_kinds.r ysh_operate_reads.Pre ysh_operate_reads.Post (ℕ × ℕ × List ℕ × Buffers)
-    (λ κs s. (s.1.1.1.1.1.1.0.s.1.1.1.1.1.1.1.0.now, s.0.now, buffers (s.1.0.now) (s.1.1.0.now) (s.1.1.1.0.now)))
+    (λ κs s. (s.1.1.1.1.1.1.0.now, s.1.1.1.1.1.1.1.0.now, s.0.now, buffers s.1.0.now s.1.1.0.now s.1.1.1.0.now))
 ysh_operate_one κs a x x' s s' z p q = (ap (λ (o : Call). o.number) (p ∙ sym q), ap lent (p ∙ sym q))
   where
     lent : Call → ℕ × ℕ × List ℕ × Buffers

@@ -1,5 +1,4 @@
 use Rattle.lent.specs.{Fuel.charged_by, stages.Fuel.left_of}
-use borrow.Author.Rules.{rules}
 use Rattle.lent.proofs.fuel.charged_by.Goals as goal
 
 pub returns-in-Refused : goal.returns-in-Refused

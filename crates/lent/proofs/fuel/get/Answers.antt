@@ -1,4 +1,4 @@
-use Rattle.types.proofs.Prelude.{sym, rules}
+use Rattle.types.proofs.Prelude.{sym}
 use Rattle.lent.specs.stages.Fuel.{left_of}
 use Rattle.lent.proofs.fuel.get.Goals as goal
 

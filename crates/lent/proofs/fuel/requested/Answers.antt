@@ -1,5 +1,4 @@
 use Rattle.lent.specs.Fuel.{requested}
-use borrow.Author.Rules.{rules}
 use Rattle.lent.proofs.fuel.requested.Goals as goal
 
 pub returns-in-Set : goal.returns-in-Set

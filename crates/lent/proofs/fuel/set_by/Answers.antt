@@ -1,5 +1,4 @@
 use Rattle.lent.specs.{Fuel.set_by, stages.Fuel.left_of}
-use borrow.Author.Rules.{rules}
 use Rattle.lent.proofs.fuel.set_by.Goals as goal
 
 pub returns-in-Refused : goal.returns-in-Refused

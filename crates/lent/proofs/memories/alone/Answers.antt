@@ -1,4 +1,4 @@
-use Rattle.types.proofs.Prelude.{ap, rules}
+use Rattle.types.proofs.Prelude.{ap}
 use Rattle.machine.specs.{Machine.fresh_machine, declared.records.Machine.Machine}
 use Rattle.lent.specs.stages.Growth.{memories_alone}
 use Rattle.lent.proofs.memories.alone.Goals as goal

@@ -1,4 +1,4 @@
-use Rattle.types.proofs.{Prelude.refl, Prelude.lt-ltb, Prelude.le-ltb, Prelude.not-true, Prelude.not-false, Prelude.rules, Dones.done_as}
+use Rattle.types.proofs.{Prelude.refl, Prelude.lt-ltb, Prelude.le-ltb, Dones.done_as}
 use Rattle.lent.proofs.GrowthLaws.{exit_19, exit_16, exit_grown}
 use Rattle.lent.proofs.memories.grow_checked.Goals as goal
 

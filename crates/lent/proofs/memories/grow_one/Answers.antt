@@ -1,4 +1,4 @@
-use Rattle.types.proofs.Prelude.{ap, rules}
+use Rattle.types.proofs.Prelude.{ap}
 use Rattle.lent.specs.stages.Growth.{memory_back}
 use Rattle.lent.proofs.memories.grow_one.Goals as goal
 

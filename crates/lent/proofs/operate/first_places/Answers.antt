@@ -1,5 +1,4 @@
 use Rattle.lent.specs.stages.Places.{first_places}
-use borrow.Author.Rules.{rules}
 use Rattle.lent.proofs.operate.first_places.Goals as goal
 
 pub returns : goal.returns

@@ -1,4 +1,4 @@
-use Rattle.types.proofs.Prelude.{ap, ◌∙◌, rules}
+use Rattle.types.proofs.Prelude.{ap, ◌∙◌}
 use Rattle.lent.specs.{declared.operate.Placed.Placed, stages.Places.placing, stages.Places.placing_of, stages.Places.place}
 use Rattle.lent.proofs.operate.place.Goals as goal
 

@@ -1,5 +1,4 @@
 use Rattle.lent.specs.stages.Places.{placed_of}
-use borrow.Author.Rules.{rules}
 use Rattle.lent.proofs.operate.places_of.Goals as goal
 
 pub returns : goal.returns

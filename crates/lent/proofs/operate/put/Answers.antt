@@ -1,4 +1,4 @@
-use Rattle.types.proofs.Prelude.{refl, rules}
+use Rattle.types.proofs.Prelude.{refl}
 use Rattle.lent.specs.stages.Places.{put}
 use Rattle.lent.proofs.operate.put.Goals as goal
 

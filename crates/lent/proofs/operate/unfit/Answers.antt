@@ -1,4 +1,4 @@
-use Rattle.types.proofs.Prelude.{cases, rules}
+use Rattle.types.proofs.Prelude.{cases}
 use Rattle.lent.specs.Records.{unfit}
 use Rattle.lent.proofs.operate.unfit.Goals as goal
 

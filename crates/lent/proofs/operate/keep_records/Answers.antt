@@ -1,0 +1,15 @@
+use Rattle.types.proofs.Prelude.{rules}
+use Rattle.types.specs.Raw.{raw_bytes}
+use Rattle.machine.specs.Machine.{buffers}
+use Rattle.lent.specs.Records.{lent, lent_stepped}
+use Rattle.lent.proofs.RecordLaws.{kept_step}
+use Rattle.lent.proofs.operate.keep_records.Goals as goal
+
+pub returns : goal.returns
+returns c =
+    let a = c.args in
+    let o = c.operate_lent-answer in
+    let n = o.new in
+    kept_step raw_bytes a.memories a.tables a.segments a.standing a.fuel (buffers a.bytes.now a.cells.now a.items.now) a.op
+    (search rules) (search rules) (search rules)
+    (lent_stepped o.result (lent n.memories n.tables n.segments n.standing n.fuel) (buffers n.bytes n.cells n.items)) o.ensures
