@@ -1,7 +1,7 @@
 -- What an operation leaves of two machines that agree and accept it: the room left, the watched instances, segments and items are the same. Assumes nothing.
 use Rattle.types.proofs.Prelude.{refl, sym, ap, ◌∙◌, arith, length-replicate, ltb-true, both_1, both_2}
 use Rattle.types.proofs.{Picks.pick_same, Picks.pick_ap, Spans.within_is}
-use Rattle.types.specs.Prelude.{ℕ, ◌+◌, ◌-◌, ◌*◌, ◌/◌, ◌≤◌, ◌<◌, ◌≡◌, true, false, List, eqb, ltb, length, replicate}
+use Rattle.std.specs.Prelude.{ℕ, ◌+◌, ◌-◌, ◌*◌, ◌/◌, ◌≤◌, ◌<◌, ◌≡◌, true, false, List, eqb, ltb, length, replicate}
 use Rattle.types.specs.Names.{page_bytes, cut, over, MemoryType, WantedMemory, TypedRawRef, CopySpan, WantedTable}
 use Rattle.memory.specs.{Names.width_bytes, Names.store_width, Names.le_bytes, Names.grown_size, Names.Memory, Memory.pages_of, New.least_bytes as least_of}
 use Rattle.memory.proofs.{Sounds.sound_is, Sounds.sound_used, Bytes.length_bytes, Growths.reach_more}

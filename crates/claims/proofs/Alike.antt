@@ -1,7 +1,7 @@
 -- Machines that agree on what an operation names and on fuel, script, numbers, room left and segments: the same answer, fuel and script. Assumes nothing.
 use Rattle.types.proofs.Prelude.{refl, sym, ap, ◌∙◌, arith, leb-false, ltb-true, pick_true, pick_false, both_true, both_1, both_2, either}
 use Rattle.types.proofs.Picks.{pick_ap}
-use Rattle.types.specs.Prelude.{ℕ, ◌+◌, ◌-◌, ◌<◌, ◌≡◌, Bool, true, false, List, leb, length, get_or}
+use Rattle.std.specs.Prelude.{ℕ, ◌+◌, ◌-◌, ◌<◌, ◌≡◌, Bool, true, false, List, leb, length, get_or}
 use Rattle.types.specs.Names.{pick, Done, done, Answer, Spanned, Limiter, TypedRawRef, CopySpan, WantedMemory, WantedTable}
 use Rattle.memory.specs.Names.{width_bytes, load_width, sound_memory, LoadKind, StoreKind, Memory, GrownMemory, CreatedMemory}
 use Rattle.memory.specs.{LittleEndian.le_value, Access.address_of, Access.extend, Access.loaded_of, Access.load_found, Access.load_at, Access.store_found}

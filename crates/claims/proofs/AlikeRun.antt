@@ -1,6 +1,7 @@
 -- Machines that agree on watched instances answer alike an operation that names no other and agree again, and so to the end of any list. Assumes nothing.
 use Rattle.types.proofs.Prelude.{refl, sym, ap, subst, ◌∙◌, both_1, both_2, either}
-use Rattle.types.specs.{Prelude.ℕ, Prelude.◌≡◌, Prelude.true, Prelude.List, Prelude.[], Prelude.◌∷◌, Names.Fuel, Names.Limiter}
+use Rattle.std.specs.Prelude.{ℕ, ◌≡◌, true, List, [], ◌∷◌}
+use Rattle.types.specs.{Names.Fuel, Names.Limiter}
 use Rattle.memory.specs.Names.{Memory}
 use Rattle.table.specs.Names.{Table}
 use Rattle.machine.specs.Names.{Buffers, buffers, sound_over, metered, Stepped, step, Machine, Operation}

@@ -1,6 +1,6 @@
 -- A list with one entry for each record in use, as records change and are added. Assumes nothing.
 use Rattle.types.proofs.Prelude.{refl, sym, ap, subst, ◌∙◌, arith, length-set, length-append, leb-true, eqb-true, eqb-false, both_1, either}
-use Rattle.types.specs.Prelude.{ℕ, ◌+◌, ◌<◌, ◌≡◌, Bool, true, List, [], ◌∷◌, ◌++◌, eqb, length, get_or, set}
+use Rattle.std.specs.Prelude.{ℕ, ◌+◌, ◌<◌, ◌≡◌, Bool, true, List, [], ◌∷◌, ◌++◌, eqb, length, get_or, set}
 use lib.{ListN.get_or-append, Seq.set-get_or, Seq.get_or-set_same, Seq.get_or-set_other, Seq.get_or-append_seam}
 use Rattle.machine.specs.Sound.{sound_list}
 use Rattle.machine.proofs.ListLaws.{placed}

@@ -1,7 +1,7 @@
 -- Demand 3's bound: the bytes written are at most B times the units paid and B - 1 for each operation that passed the fuel step. Assumes nothing.
 use Rattle.types.proofs.Prelude.{refl, sym, ap, subst, ◌∙◌, false≢true, arith, leb-true, ltb-true, ne_eqb, pick_true, pick_false, both_true, both_1, both_2}
 use Rattle.types.proofs.{Prelude.either, Prices.price_covers, Spans.within_is}
-use Rattle.types.specs.Prelude.{ℕ, ◌+◌, ◌-◌, ◌*◌, ◌^◌, ◌≤◌, ◌<◌, ◌≡◌, Bool, true, false, List, [], ◌∷◌, eqb, ltb, length}
+use Rattle.std.specs.Prelude.{ℕ, ◌+◌, ◌-◌, ◌*◌, ◌^◌, ◌≤◌, ◌<◌, ◌≡◌, Bool, true, false, List, [], ◌∷◌, eqb, ltb, length}
 use Rattle.types.specs.Names.{pick, both, price, left, paid, inside, page_bytes, Fuel, FuelCosts, Limiter}
 use native.Mathlib.{Nat.mul-le-mul, Nat.mul-le-mul_right}
 use Rattle.memory.specs.{Names.pages_of, Grow.may_have}

@@ -1,6 +1,7 @@
 -- The worked cases hold: one claim, computed; of P11 the length of its buffer, too long to be made, is a law. Assumes nothing.
 use Rattle.types.proofs.Prelude.{refl, ap, length-replicate, pick_true}
-use Rattle.types.specs.{Prelude.ℕ, Prelude.◌-◌, Prelude.◌^◌, Prelude.true, Prelude.◌≡◌, Prelude.List, Prelude.[], Prelude.◌∷◌, Prelude.length, Names.Done}
+use Rattle.std.specs.Prelude.{ℕ, ◌-◌, ◌^◌, true, ◌≡◌, List, [], ◌∷◌, length}
+use Rattle.types.specs.Names.{Done}
 use Rattle.types.specs.{Pick.pick, Pick.both, Price.capped, Price.price, Span.inside, Span.cut, Span.over, Answer.bits_of, Answer.float32}
 use Rattle.types.specs.{Answer.float64, Answer.number_of, Answer.shown_of, Fuel.set_fuel, Fuel.get_fuel, Limiter.padded, Limiter.no_limiter}
 use Rattle.types.specs.{Limiter.says_of, Limiter.moved, Limiter.heard_of, Limits.valid_limits, Limits.valid_maximum, Limits.admits_of}

@@ -1,5 +1,6 @@
 -- What an operation's checks come to: with one more before them, of a growth, and where the limiter is asked. Assumes nothing.
-use Rattle.types.specs.{Prelude.ℕ, Prelude.◌≡◌, Prelude.Bool, Prelude.true, Prelude.false, Prelude.eqb, Names.pick, Pick.both}
+use Rattle.std.specs.Prelude.{ℕ, ◌≡◌, Bool, true, false, eqb}
+use Rattle.types.specs.{Names.pick, Pick.both}
 use mathlib.Core.{Path.refl, Path.sym, Path.ap, Path.◌∙◌, Bool.false≢true}
 use Rattle.types.proofs.Picks.{pick_ap, pick_false, both_1, both_2}
 use Rattle.claims.specs.Occasions.{Checks, Unasked, Asked, given, holds, comes}

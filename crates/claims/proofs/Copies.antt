@@ -1,6 +1,6 @@
 -- A copy by two numbers, equal or not, is the standard's steps. Assumes nothing.
 use Rattle.types.proofs.Prelude.{refl, false≢true}
-use Rattle.types.specs.Prelude.{ℕ, ◌≡◌, true}
+use Rattle.std.specs.Prelude.{ℕ, ◌≡◌, true}
 use Rattle.types.specs.{Names.Done, Names.Answer, Names.Value, Names.CopySpan, Steps.copy_steps}
 use Rattle.table.proofs.Frames.{copy_frame}
 use Rattle.machine.specs.{Names.Buffers, Names.table_at, Names.Machine, Tables.copy_on, Step.Performed, Step.on_cells, Step.perform, Step.decide, Step.step}

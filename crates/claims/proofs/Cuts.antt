@@ -1,5 +1,5 @@
 -- Cells of spans in two lists: a part of a span, a span with some cells replaced or with more cells at its end, a new span. Assumes nothing.
-use Rattle.types.specs.Prelude.{ℕ, ◌+◌, ◌-◌, ◌≤◌, ◌<◌, ◌≡◌, List, ◌++◌, length, take, drop, get_or, replicate}
+use Rattle.std.specs.Prelude.{ℕ, ◌+◌, ◌-◌, ◌≤◌, ◌<◌, ◌≡◌, List, ◌++◌, length, take, drop, get_or, replicate}
 use Rattle.types.specs.{Names.over, Span.cut}
 use mathlib.Core.Path.{refl, sym, ap, ◌∙◌}
 use native.Mathlib.{Omega.arith, Nat.add-zero}

@@ -1,5 +1,6 @@
 -- How an operation ends: accepted where a test holds, or refused, with all that it leaves. Assumes nothing.
-use Rattle.types.specs.{Prelude.ℕ, Prelude.◌≡◌, Prelude.Bool, Prelude.true, Prelude.false, Names.pick, Names.paid, Names.Refusal, Names.Fuel, Names.Limiter}
+use Rattle.std.specs.Prelude.{ℕ, ◌≡◌, Bool, true, false}
+use Rattle.types.specs.{Names.pick, Names.paid, Names.Refusal, Names.Fuel, Names.Limiter}
 use Rattle.machine.specs.Names.{Buffers, sound_over, metered, Stepped, step, Machine, Operation}
 use Rattle.claims.specs.{Answers.accepted, Answers.listed, Metered.price_of, Metered.paid_refusal, Effects.effects, Effects.accepted_step}
 use Rattle.claims.specs.{Script.heard, Script.moved_by}

@@ -1,7 +1,7 @@
 -- What every proof of an operation's exits uses: a step comes to its checks, a check has two ways, and each exit is described. Assumes nothing.
 use Rattle.types.proofs.Prelude.{refl, sym, ap, subst, ◌∙◌, arith, leb-true, ltb-true, ltb-false, le-leb, lt-leb, pick_true, pick_false, both_true, both_left}
 use Rattle.types.proofs.{Prelude.both_right, Prelude.both_then, Picks.pick_same}
-use Rattle.types.specs.Prelude.{ℕ, ◌+◌, ◌-◌, ◌≤◌, ◌<◌, ◌≡◌, Bool, true, false, List, eqb, leb, ltb}
+use Rattle.std.specs.Prelude.{ℕ, ◌+◌, ◌-◌, ◌≤◌, ◌<◌, ◌≡◌, Bool, true, false, List, eqb, leb, ltb}
 use Rattle.types.specs.Names.{unless, Done, done, span_done, refusal, refuse, accept, short, paid, says_of, moved, no_limiter, Answer, Refusal, Fuel}
 use Rattle.types.specs.{Names.Spanned, Names.Limiter, Pick.pick, Pick.both, Answer.number_of, Limiter.heard_of}
 use Rattle.machine.specs.Names.{Buffers, sound_over, well_formed, standing, metered, Stepped, Machine, Counts}

@@ -1,6 +1,7 @@
 -- Every operation on every machine: the claims on answers, refusals and occasions. Assumes nothing.
 use Rattle.types.proofs.Prelude.{refl, sym, ap, subst, ◌∙◌, false≢true, arith, pick_true, pick_false, both_left, both_right, both_then, either}
-use Rattle.types.specs.{Prelude.ℕ, Prelude.◌≡◌, Prelude.Bool, Prelude.true, Prelude.false, Prelude.eqb, Names.refusal, Names.refuse, Names.Answer}
+use Rattle.std.specs.Prelude.{ℕ, ◌≡◌, Bool, true, false, eqb}
+use Rattle.types.specs.{Names.refusal, Names.refuse, Names.Answer}
 use Rattle.types.specs.{Pick.pick, Pick.both, Answer.number_of}
 use Rattle.machine.specs.Names.{Buffers, sound_over, well_formed, metered, Stepped, Machine, Operation}
 use Rattle.machine.specs.{Outcome.keeps, Outcome.changed, Outcome.settled, Step.on_none, Step.after, Step.decide, Step.step}

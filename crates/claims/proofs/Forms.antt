@@ -1,7 +1,7 @@
 -- A row in form is in form after every operation: flags and costs as they were, and a script of answers of at most 2. Assumes nothing.
 use Rattle.types.proofs.Prelude.{sym, subst, ◌∙◌, arith, length-append, length-drop, leb-true, both_1, both_2, either}
 use Rattle.types.proofs.{Scripts.well_short}
-use Rattle.types.specs.Prelude.{ℕ, zero, suc, ◌+◌, ◌≤◌, ◌<◌, ◌≡◌, true, List, [], ◌∷◌, ◌++◌, leb, length, get_or, drop, replicate}
+use Rattle.std.specs.Prelude.{ℕ, zero, suc, ◌+◌, ◌≤◌, ◌<◌, ◌≡◌, true, List, [], ◌∷◌, ◌++◌, leb, length, get_or, drop, replicate}
 use Rattle.types.specs.{Names.Fuel, Names.FuelCosts, Names.Limiter, Limiter.moved, Limiter.padded, Limiter.all_answers, Limiter.well_formed}
 use Rattle.machine.specs.Names.{Buffers, script_of, Stepped, step, Machine, Operation, FuelOp}
 use Rattle.machine.specs.{Row.InRow, Row.operate_row, stages.Rows.Shaped}

@@ -1,7 +1,7 @@
 -- How a growth ends, of a memory or of a table: before the limiter's question or at it, after it with notice, or grown. Assumes nothing.
 use Rattle.types.proofs.Prelude.{refl, sym, ap, subst, ◌∙◌, false≢true, arith, lt-ltb, eqb-true, eqb-false, pick_true, pick_false, both_true, both_left}
 use Rattle.types.proofs.Prelude.{both_right, both_then, either}
-use Rattle.types.specs.Prelude.{ℕ, ◌≡◌, Bool, true, false, eqb, ltb}
+use Rattle.std.specs.Prelude.{ℕ, ◌≡◌, Bool, true, false, eqb, ltb}
 use Rattle.types.specs.Names.{unless, both, refusal, refuse, short, paid, noticed, Answer, Refusal, Fuel, Limiter}
 use Rattle.types.specs.{Pick.pick, Answer.number_of, Limiter.says_of, Limiter.moved, Limiter.heard_of, Limiter.no_limiter}
 use Rattle.machine.specs.Names.{Buffers, sound_over, well_formed, metered, Stepped, step, Machine, Operation}

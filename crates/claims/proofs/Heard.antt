@@ -1,6 +1,7 @@
 -- How many questions and notices the limiter hears, by how an operation ends. Assumes nothing.
 use Rattle.types.proofs.Prelude.{sym, ap, ◌∙◌, pick_true, pick_false, both_true, both_right}
-use Rattle.types.specs.{Prelude.ℕ, Prelude.◌≡◌, Prelude.true, Prelude.false, Names.moved, Names.Limiter}
+use Rattle.std.specs.Prelude.{ℕ, ◌≡◌, true, false}
+use Rattle.types.specs.{Names.moved, Names.Limiter}
 use Rattle.machine.specs.Names.{Buffers, sound_over, well_formed, step, Machine, Operation}
 use Rattle.claims.specs.{Answers.accepted, Occasions.granted, Occasions.question, Script.asks, Script.heard, Script.moved_by, Script.script_after}
 

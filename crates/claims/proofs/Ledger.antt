@@ -1,7 +1,7 @@
 -- The ledger: the fuel left and the charges since make up the amount last set. Assumes nothing.
 use Rattle.types.proofs.Prelude.{refl, sym, ap, subst, ◌∙◌, false≢true, arith, lt-ltb, leb-true, ltb-true, eqb-true, pick_true, pick_false, both_left}
 use Rattle.types.proofs.Prelude.{both_right, both_1, both_2, either}
-use Rattle.types.specs.Prelude.{ℕ, ◌+◌, ◌-◌, ◌*◌, ◌^◌, ◌≤◌, ◌<◌, ◌≡◌, Bool, true, false, List, [], ◌∷◌, ◌++◌, eqb, leb, ltb, get_or, set}
+use Rattle.std.specs.Prelude.{ℕ, ◌+◌, ◌-◌, ◌*◌, ◌^◌, ◌≤◌, ◌<◌, ◌≡◌, Bool, true, false, List, [], ◌∷◌, ◌++◌, eqb, leb, ltb, get_or, set}
 use Rattle.types.specs.Names.{price, refusal, paid, admits_of, page_bytes, page_of, valid_exponent, Answer, Refusal, Fuel, FuelCosts, Limiter}
 use Rattle.types.specs.Names.{TypedRawRef, WantedMemory, WantedTable}
 use Rattle.types.specs.{Pick.pick, Pick.both, Answer.number_of, Limiter.heard_of, declared.memory_ty.PageSize.TheVariants.One}

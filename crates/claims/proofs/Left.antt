@@ -1,6 +1,6 @@
 -- What an operation that a sound machine accepts leaves of it: records, sizes and the room left; and what a refused one leaves. Assumes nothing.
 use Rattle.types.proofs.Prelude.{sym, ap, subst, ◌∙◌, arith, leb-true, lt-ltb, ltb-true, eqb-false, ne_eqb, pick_true, pick_false, both_1, both_2, either}
-use Rattle.types.specs.Prelude.{ℕ, ◌+◌, ◌-◌, ◌≤◌, ◌<◌, ◌≡◌, true, false, List, eqb, length, get_or}
+use Rattle.std.specs.Prelude.{ℕ, ◌+◌, ◌-◌, ◌≤◌, ◌<◌, ◌≡◌, true, false, List, eqb, length, get_or}
 use Rattle.types.specs.Names.{pick, WantedMemory, TypedRawRef, WantedTable}
 use lib.Seq.{get_or-set_same}
 use Rattle.memory.specs.{Names.memory_of, Names.Memory, New.wanted as type_of, New.least_bytes as least_of}

@@ -1,7 +1,7 @@
 -- How every operation on fuel, limiter and memories ends: accepted on its occasion, or refused with all that it leaves. Assumes nothing.
 use Rattle.types.proofs.Prelude.{refl, sym, ap, ◌∙◌, arith, ltb-true, ltb-false, le-ltb, le-leb, lt-leb, pick_true, pick_false, both_true, both_left}
 use Rattle.types.proofs.{Prelude.both_right, Prelude.both_then, Prelude.both_2, Spans.over_nil}
-use Rattle.types.specs.Prelude.{ℕ, ◌+◌, ◌-◌, ◌*◌, ◌/◌, ◌≡◌, Bool, true, false, List, leb, ltb, length, replicate}
+use Rattle.std.specs.Prelude.{ℕ, ◌+◌, ◌-◌, ◌*◌, ◌/◌, ◌≡◌, Bool, true, false, List, leb, ltb, length, replicate}
 use Rattle.types.specs.Names.{Done, done, over, refusal, accept, price, paid, moved, Answer, Refusal, Fuel, FuelStep, Limiter, HandedOver, page_bytes}
 use Rattle.types.specs.{Names.BuiltMemory, Names.WantedMemory, Pick.pick, Pick.both, Limiter.hand_over, MemoryType.build_memory}
 use Rattle.types.specs.Fuel.{set_fuel, get_fuel, consume, consume_unchecked}

@@ -1,6 +1,7 @@
 -- No run from a fresh machine over sound buffers answers 19. Assumes nothing.
 use Rattle.types.proofs.Prelude.{refl, ◌∙◌, ne_eqb, pick_false}
-use Rattle.types.specs.{Prelude.ℕ, Prelude.◌≡◌, Prelude.Bool, Prelude.true, Prelude.List, Prelude.[], Prelude.◌∷◌, Prelude.length, Names.FuelCosts}
+use Rattle.std.specs.Prelude.{ℕ, ◌≡◌, Bool, true, List, [], ◌∷◌, length}
+use Rattle.types.specs.Names.{FuelCosts}
 use Rattle.machine.specs.{Names.Buffers, Names.fresh_machine, Names.sound_references, Names.sound_over, Names.step, Names.Machine, Names.Operation, Step.run}
 use Rattle.machine.proofs.Kept.{step_sound, fresh_sound}
 use Rattle.claims.specs.Answers.{never}

@@ -1,8 +1,8 @@
 -- The bound of demand 3 is the least: a run that writes as many bytes as it allows, for any B, F and K at least 1. Assumes nothing.
 use Rattle.types.proofs.Prelude.{refl, sym, ap, subst, ◌∙◌, arith, length-replicate, le-leb, lt-ltb, eqb-true, eqb-false, ne_eqb, pick_true, pick_false}
 use Rattle.types.proofs.{Prelude.both_true, Prelude.both_left, Picks.pick_same, Prices.price_word}
-use Rattle.types.specs.Prelude.{ℕ, zero, suc, ◌+◌, ◌-◌, ◌*◌, ◌/◌, ◌^◌, ◌≤◌, ◌<◌, ◌≡◌, Bool, true, false, List, [], ◌∷◌, eqb, leb, ltb, length}
-use Rattle.types.specs.{Prelude.replicate, Names.price, Names.paid, Names.Fuel, Names.Limiter, Names.null_of}
+use Rattle.std.specs.Prelude.{ℕ, zero, suc, ◌+◌, ◌-◌, ◌*◌, ◌/◌, ◌^◌, ◌≤◌, ◌<◌, ◌≡◌, Bool, true, false, List, [], ◌∷◌, eqb, leb, ltb, length, replicate}
+use Rattle.types.specs.{Names.price, Names.paid, Names.Fuel, Names.Limiter, Names.null_of}
 use Rattle.types.specs.{Pick.pick, Pick.both, Span.inside, Limiter.padded, Limiter.no_limiter, Limiter.says_of, Limiter.moved, Limits.admits_of}
 use Rattle.types.specs.{Limits.valid_limits, MemoryType.page_bound, MemoryType.valid_memory, TableType.table_bound, TableType.valid_table}
 use Rattle.types.specs.{TableType.element_matches, declared.index_ty.IndexType.TheVariants.I64, declared.memory_ty.PageSize.TheVariants.One}

@@ -1,6 +1,7 @@
 -- The script after every operation, accepted or refused. Assumes nothing.
 use Rattle.types.proofs.Prelude.{sym, ap, ◌∙◌, pick_true, both_1, both_2, either}
-use Rattle.types.specs.{Prelude.ℕ, Prelude.◌≡◌, Prelude.true, Names.Limiter}
+use Rattle.std.specs.Prelude.{ℕ, ◌≡◌, true}
+use Rattle.types.specs.Names.{Limiter}
 use Rattle.machine.specs.Names.{Buffers, sound_over, well_formed, Stepped, step, Machine, Operation}
 use Rattle.claims.specs.{Answers.accepted, Occasions.checks, Occasions.occasion, Effects.asked, Effects.accepted_step, Script.replaced, Script.script_after}
 use Rattle.claims.proofs.{Checks.grant_of_lem, Exiting.branch, Exits.refusal_script, Exits.accepted_when_lem, Exits.accepted_does}

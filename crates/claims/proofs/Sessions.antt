@@ -1,5 +1,5 @@
 -- A session's bytes are the answer lines of the run of what its lines say. Assumes nothing.
-use Rattle.types.specs.Prelude.{ℕ, ◌≡◌, true, false, List, [], ◌∷◌, ◌++◌}
+use Rattle.std.specs.Prelude.{ℕ, ◌≡◌, true, false, List, [], ◌∷◌, ◌++◌}
 use Rattle.types.specs.{Names.Answer, Names.refuse, Names.accept, Pick.pick}
 use mathlib.Core.Path.{refl, ap}
 use Rattle.machine.specs.{Names.Buffers, Names.fresh_machine, Names.step, Names.Machine, Names.Operation, Step.run}

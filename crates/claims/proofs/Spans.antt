@@ -2,7 +2,7 @@
 use Rattle.types.proofs.Prelude.{refl, sym, ap, subst, ◌∙◌, false≢true, arith, length-replicate, le-leb, leb-true, ltb-true, eqb-true, pick_true, pick_false}
 use Rattle.types.proofs.Prelude.{both_true, both_right, both_1, both_2, either}
 use Rattle.types.proofs.{Spans.within_is, Spans.length_over, Spans.over_before, Spans.over_after, Moves.length_cut}
-use Rattle.types.specs.Prelude.{ℕ, ◌+◌, ◌-◌, ◌*◌, ◌≤◌, ◌≡◌, Bool, true, false, List, eqb, ltb, length, get_or, replicate}
+use Rattle.std.specs.Prelude.{ℕ, ◌+◌, ◌-◌, ◌*◌, ◌≤◌, ◌≡◌, Bool, true, false, List, eqb, ltb, length, get_or, replicate}
 use Rattle.types.specs.{Names.cut, Names.over, Names.page_bytes, Span.inside}
 use lib.{Seq.get_or-take, Seq.get_or-drop}
 use Rattle.memory.specs.Names.{width_bytes, store_width, le_bytes, least_bytes, grown_size}

@@ -1,7 +1,7 @@
 -- Small laws of how operations on tables and segments end: spans of no cells, and what is soundly made or named. Assumes nothing.
 use Rattle.types.proofs.Prelude.{ap, subst, ◌∙◌, arith, le-leb, ltb-true, ltb-false, eqb-true, eqb-false, pick_true, both_true, both_1, both_2, either}
 use Rattle.types.proofs.{Spans.over_nil, Picks.pick_same}
-use Rattle.types.specs.Prelude.{ℕ, ◌-◌, ◌^◌, ◌≤◌, ◌<◌, ◌≡◌, true, List, eqb, leb, ltb, length}
+use Rattle.std.specs.Prelude.{ℕ, ◌-◌, ◌^◌, ◌≤◌, ◌<◌, ◌≡◌, true, List, eqb, leb, ltb, length}
 use Rattle.types.specs.Names.{pick, over}
 use Rattle.types.specs.Span.{inside, cut}
 use Rattle.table.specs.{Names.Table, Table.sound_buffer, Copy.rooms_apart, Copy.sound_two}

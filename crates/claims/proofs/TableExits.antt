@@ -1,7 +1,7 @@
 -- How every operation on tables and segments ends: accepted on its occasion, or refused with all that it leaves. Assumes nothing.
 use Rattle.types.proofs.Prelude.{refl, sym, ap, ◌∙◌, arith, leb-true, leb-false, ltb-true, lt-ltb, le-ltb, eqb-true, eqb-false, pick_true, pick_false}
 use Rattle.types.proofs.{Prelude.both_true, Prelude.both_left, Prelude.both_right, Prelude.both_then, Prelude.both_1, Prelude.both_2, Spans.over_nil}
-use Rattle.types.specs.Prelude.{ℕ, ◌+◌, ◌≡◌, Bool, true, false, List, leb, ltb, length, replicate}
+use Rattle.std.specs.Prelude.{ℕ, ◌+◌, ◌≡◌, Bool, true, false, List, leb, ltb, length, replicate}
 use Rattle.types.specs.Names.{Done, done, over, refusal, accept, paid, moved, Answer, Spanned, RefType, TypedRawRef, max_size, admits_of}
 use Rattle.types.specs.{Names.element_matches, Names.WantedTable, Names.CopySpan, Pick.both}
 use Rattle.table.specs.Names.{resized, sound_table, Table, GrownTable, CreatedTable, MadeSegment}

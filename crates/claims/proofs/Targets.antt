@@ -1,6 +1,6 @@
 -- The instance that an operation may change: targets of two kinds differ, and of one kind by their numbers. Assumes nothing.
 use Rattle.types.proofs.Prelude.{sym, ap, subst, eqb-true, eqb-false, either}
-use Rattle.types.specs.Prelude.{ℕ, ◌≡◌, false, eqb}
+use Rattle.std.specs.Prelude.{ℕ, ◌≡◌, false, eqb}
 use Rattle.machine.specs.Frame.{Target, None, InMemory, InTable, InSegment, NewItems}
 
 -- what kind of instance an operation's target is

@@ -1,5 +1,5 @@
 -- Document 01, "The machine": answers, later ones too, depend on the instances named, and on others only through fuel, script, room, numbers and segments.
-use Rattle.types.specs.Prelude.{ℕ, ◌-◌, ◌<◌, ◌≡◌, Bool, true, List, [], ◌∷◌, length}
+use Rattle.std.specs.Prelude.{ℕ, ◌-◌, ◌<◌, ◌≡◌, Bool, true, List, [], ◌∷◌, length}
 use Rattle.types.specs.Names.{both, cut}
 use Rattle.machine.specs.Names.{Buffers, memory_at, table_at, next_byte, next_cell, Stepped, Machine, Operation}
 use Rattle.machine.specs.Step.{Ran}

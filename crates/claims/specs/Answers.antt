@@ -1,5 +1,5 @@
 -- Document 01, "Numbers given back": an answer is either a value or a refusal with its number; amounts other than for 7 are 0.
-use Rattle.types.specs.Prelude.{ℕ, Bool, true, false, List, [], ◌∷◌, eqb, leb}
+use Rattle.std.specs.Prelude.{ℕ, Bool, true, false, List, [], ◌∷◌, eqb, leb}
 use Rattle.types.specs.Names.{pick, both, number_of, Refusal, Answer}
 
 -- an answer that is a value

@@ -1,5 +1,5 @@
 -- Demand 3, and document 01, "Fuel": an accepted growth, fill, copy or init writes its whole byte length; a refused one nothing.
-use Rattle.types.specs.Prelude.{ℕ, ◌+◌, ◌-◌, ◌*◌, true, false, List, [], ◌∷◌, eqb, replicate}
+use Rattle.std.specs.Prelude.{ℕ, ◌+◌, ◌-◌, ◌*◌, true, false, List, [], ◌∷◌, eqb, replicate}
 use Rattle.types.specs.Names.{pick, both, null_of, RefType}
 use Rattle.machine.specs.Names.{Buffers, buffers, no_limits, step, Machine, Operation, FuelOp, MemoryOp, TableOp}
 use Rattle.claims.specs.{Answers.accepted, Metered.metering, Metered.passes}

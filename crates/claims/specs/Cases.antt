@@ -1,5 +1,5 @@
 -- Document 01, "Checked by proof", P1 to P11: the definitions, computed, as one list with one claim.
-use Rattle.types.specs.Prelude.{ℕ, ◌+◌, ◌-◌, ◌^◌, Bool, true, false, List, [], ◌∷◌, ◌++◌, eqb, replicate}
+use Rattle.std.specs.Prelude.{ℕ, ◌+◌, ◌-◌, ◌^◌, Bool, true, false, List, [], ◌∷◌, ◌++◌, eqb, replicate}
 use Rattle.types.specs.Names.{both, price, new_fuel, no_limiter, number_of, shown_of, build_memory, null_of, raw_bytes}
 use Rattle.types.specs.Names.{Answer, IndexType, Limits, BuiltMemory, RefType}
 use Rattle.memory.specs.Names.{LoadKind, StoreKind}

@@ -1,5 +1,5 @@
 -- Document 01, "First check wins", "Fuel" and "Operation lines": what an accepted operation answers, changes, takes and writes.
-use Rattle.types.specs.Prelude.{ℕ, ◌+◌, ◌-◌, List, length, get_or, replicate}
+use Rattle.std.specs.Prelude.{ℕ, ◌+◌, ◌-◌, List, length, get_or, replicate}
 use Rattle.types.specs.Names.{pick, cut, accept, left, paid, limiter_of, moved, match_memory, Answer, Fuel, Limiter}
 use Rattle.memory.specs.Names.{loaded_of, le_bytes, width_bytes, store_width, resized as resized_memory, pages_of, memory_of, grown_size}
 use Rattle.memory.specs.Names.{wanted as type_of, least_bytes as least_of, Memory}

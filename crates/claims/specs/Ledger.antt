@@ -1,5 +1,5 @@
 -- Demand 3's ledger: the amount last set and the charges since, from the operations, their answers and the limiter's alone.
-use Rattle.types.specs.Prelude.{ℕ, ◌+◌, ◌-◌, ◌^◌, Bool, true, List, [], ◌∷◌, ◌++◌, eqb, leb, ltb, length, get_or, set}
+use Rattle.std.specs.Prelude.{ℕ, ◌+◌, ◌-◌, ◌^◌, Bool, true, List, [], ◌∷◌, ◌++◌, eqb, leb, ltb, length, get_or, set}
 use Rattle.types.specs.Names.{pick, both, price, number_of, admits_of, Answer, Limits}
 use Rattle.machine.specs.Names.{Buffers, no_limits, step, Machine, Operation, FuelOp}
 use Rattle.claims.specs.{Answers.accepted, Metered.Metering, Metered.table_metering, Metered.metering_of, Script.heard, Script.says_to}

@@ -1,6 +1,6 @@
 -- Document 01, "Fuel" and "First check wins": which operations meet the fuel step, the bytes and the price of each, and which pass it.
 -- "Numbers given back", and demand 1: what a refusal leaves, and the fuel that it takes.
-use Rattle.types.specs.Prelude.{ℕ, ◌*◌, ◌≡◌, Bool, true, false, eqb, leb, ltb}
+use Rattle.std.specs.Prelude.{ℕ, ◌*◌, ◌≡◌, Bool, true, false, eqb, leb, ltb}
 use Rattle.types.specs.Names.{pick, both, price, paid, number_of, no_limiter, says_of, page_bytes}
 use Rattle.machine.specs.Names.{Buffers, memory_at, metered, Stepped, step, Machine, Operation, MemoryOp, TableOp}
 use Rattle.claims.specs.Answers.{accepted}

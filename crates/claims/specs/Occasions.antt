@@ -1,5 +1,5 @@
 -- Document 01, "First check wins", "Access" and "Types", read from the other side: when each operation is accepted.
-use Rattle.types.specs.Prelude.{ℕ, ◌+◌, ◌-◌, Bool, true, false, eqb, leb, ltb, length}
+use Rattle.std.specs.Prelude.{ℕ, ◌+◌, ◌-◌, Bool, true, false, eqb, leb, ltb, length}
 use Rattle.types.specs.Names.{word64, pick, both, inside, says_of, well_formed as well_formed_script, max_size, admits_of, valid_exponent, valid_memory}
 use Rattle.types.specs.Names.{valid_table, element_matches, WantedMemory, CopySpan}
 use Rattle.memory.specs.Names.{width_bytes, load_width, store_width, pages_of, wanted as type_of, least_bytes as least_of, may_have, grown_size, Memory}

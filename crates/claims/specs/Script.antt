@@ -1,5 +1,5 @@
 -- Document 01, "Numbers given back" and "First check wins": the limiter script moves on by each question and notice; 04 replaces it, and at 18 the old one stays.
-use Rattle.types.specs.Prelude.{ℕ, zero, suc, Bool, List, [], ◌∷◌}
+use Rattle.std.specs.Prelude.{ℕ, zero, suc, Bool, List, [], ◌∷◌}
 use Rattle.types.specs.Names.{pick, both, says_of, moved, Limiter}
 use Rattle.machine.specs.Names.{Buffers, sound_over, well_formed, step, Machine, Operation}
 use Rattle.claims.specs.{Answers.accepted, Occasions.granted, Occasions.question, Effects.effect_of, Effects.spent}

@@ -1,5 +1,5 @@
 -- Document 01, "Operation lines": the bytes of a session, said by the operations that its lines say and by what a run of them answers.
-use Rattle.types.specs.Prelude.{ℕ, List, [], ◌∷◌, ◌++◌}
+use Rattle.std.specs.Prelude.{ℕ, List, [], ◌∷◌, ◌++◌}
 use Rattle.types.specs.Names.{refuse, accept, Answer, Fuel}
 use Rattle.machine.specs.Names.{Buffers, fresh_machine, step, Machine, Operation}
 use Rattle.lines.specs.{AnswerLine.answer_line, Code.read_line, Session.costs_of, declared.code.Read.Read}

@@ -1,5 +1,5 @@
 -- Document 01, "First check wins" and "Fuel": the one span of one buffer that an accepted operation writes, and its bytes.
-use Rattle.types.specs.Prelude.{ℕ, ◌+◌, ◌*◌, ◌<◌, ◌≤◌, ◌≡◌, Bool, true, List, length, get_or}
+use Rattle.std.specs.Prelude.{ℕ, ◌+◌, ◌*◌, ◌<◌, ◌≤◌, ◌≡◌, Bool, true, List, length, get_or}
 use Rattle.types.specs.Names.{inside, over}
 use Rattle.machine.specs.Names.{Buffers, buffers}
 

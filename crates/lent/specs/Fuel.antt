@@ -1,5 +1,5 @@
 -- Document 01, "Fuel": the fuel record is lent and charged where it stands.
-use Rattle.types.specs.Prelude.{◌≡◌}
+use Rattle.std.specs.Prelude.{◌≡◌}
 use Rattle.types.specs.Names.{accept, set_fuel, get_fuel, consume, consume_if, consume_unchecked, Answer, Fuel, FuelStep}
 use Rattle.lent.specs.declared.fuel.FuelRequest.{FuelRequest}
 

@@ -1,5 +1,5 @@
 -- Document 01, "Where each form goes": one record of a lent list is read and grown, and its new size stored; fuel and limiter are lent too.
-use Rattle.types.specs.Prelude.{ℕ, Bool, List}
+use Rattle.std.specs.Prelude.{ℕ, Bool, List}
 use Rattle.types.specs.Names.{unless, refuse, Answer, Fuel, Limiter}
 
 -- what is lent to a growth: the list of records, the buffer behind them, the fuel record and the limiter

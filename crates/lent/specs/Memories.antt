@@ -1,5 +1,5 @@
 -- Document 01, "The machine": memories stand in a lent list of records. The record of one is read and grown, and its size stored.
-use Rattle.types.specs.Prelude.{ℕ, Bool, List, ◌≡◌, ltb, length, get_or, set}
+use Rattle.std.specs.Prelude.{ℕ, Bool, List, ◌≡◌, ltb, length, get_or, set}
 use Rattle.types.specs.Names.{Done, Answer, Fuel, Limiter}
 use Rattle.memory.specs.Names.{sound_memory, grow_memory, Memory, GrownMemory}
 use Rattle.machine.specs.Names.{no_memory, memory_end, sound_list}

@@ -1,5 +1,5 @@
 -- Document 01, "The machine": records stand in lent lists, and the fuel record is lent and charged where it stands. One operation on all that is lent.
-use Rattle.types.specs.Prelude.{ℕ, Bool, List, ◌≡◌, ◌++◌, leb, length, take, drop}
+use Rattle.std.specs.Prelude.{ℕ, Bool, List, ◌≡◌, ◌++◌, leb, length, take, drop}
 use Rattle.types.specs.Names.{unless, both, refuse, Answer, Fuel}
 use Rattle.memory.specs.Names.{Memory}
 use Rattle.table.specs.Names.{Table, ElementSegment}

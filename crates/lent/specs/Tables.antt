@@ -1,6 +1,6 @@
 -- Document 01, "The machine": tables stand in a lent list of records. The record of one is read and grown, and its size stored.
 -- R, the bytes that a reference counts, is the first argument of a growth.
-use Rattle.types.specs.Prelude.{ℕ, Bool, List, ◌≡◌, leb, ltb, length, get_or, set}
+use Rattle.std.specs.Prelude.{ℕ, Bool, List, ◌≡◌, leb, ltb, length, get_or, set}
 use Rattle.types.specs.Names.{word32, both, Done, Answer, Fuel, Limiter, TypedRawRef}
 use Rattle.table.specs.Names.{sound_table, grow_table, Table, GrownTable}
 use Rattle.machine.specs.Names.{no_table, table_end, sound_list}

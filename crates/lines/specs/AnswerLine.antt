@@ -1,5 +1,5 @@
 -- Document 01, "Operation lines": an answer line has the number, the value or amount, and the fuel left, in hexadecimal.
-use Rattle.types.specs.Prelude.{ℕ, Bool, true, false, List, [], ◌∷◌, ◌++◌, ltb, length}
+use Rattle.std.specs.Prelude.{ℕ, Bool, true, false, List, [], ◌∷◌, ◌++◌, ltb, length}
 use Rattle.types.specs.Names.{pick, over, Done, done, number_of, shown_of, Answer, Fuel}
 use Rattle.lines.specs.{Hex.hex_text, Line.space, Line.lf}
 

@@ -1,5 +1,5 @@
 -- Document 01, "Operation lines": what a line says, by its code, its number of fields and their ranges. Codes are hexadecimal, as in the text.
-use Rattle.types.specs.Prelude.{ℕ, ◌+◌, min, Bool, true, List, leb, ltb, eqb}
+use Rattle.std.specs.Prelude.{ℕ, ◌+◌, min, Bool, true, List, leb, ltb, eqb}
 use Rattle.types.specs.Names.{word32, pick, both, WantedMemory, WantedTable, CopySpan}
 use Rattle.machine.specs.Names.{Items, FuelOp, MemoryOp, TableOp, Operation}
 use Rattle.lines.specs.Fields.{binary, yes, kind_of, reference_of, limit_ranges, limits_of, load_kind_of, store_kind_of}

@@ -1,5 +1,5 @@
 -- Document 01, "Operation lines": what the numbers of fields stand for, their ranges, and the way back.
-use Rattle.types.specs.Prelude.{ℕ, Bool, true, false, List, [], ◌∷◌, eqb, ltb, get_or}
+use Rattle.std.specs.Prelude.{ℕ, Bool, true, false, List, [], ◌∷◌, eqb, ltb, get_or}
 use Rattle.types.specs.Names.{pick, both, typed_of, Limits, RefType, TypedRawRef, WantedMemory, WantedTable}
 use Rattle.types.specs.declared.raw.RefType.TheVariants.{Func, Extern}
 use Rattle.memory.specs.Names.{LoadKind, StoreKind}

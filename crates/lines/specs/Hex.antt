@@ -1,5 +1,5 @@
 -- Document 01, "Operation lines": lower-case hexadecimal, and a number of so many digits.
-use Rattle.types.specs.Prelude.{ℕ, zero, suc, ◌+◌, ◌-◌, ◌*◌, ◌/◌, ◌%◌, List, [], ◌∷◌, ◌++◌, ltb, leb}
+use Rattle.std.specs.Prelude.{ℕ, zero, suc, ◌+◌, ◌-◌, ◌*◌, ◌/◌, ◌%◌, List, [], ◌∷◌, ◌++◌, ltb, leb}
 use Rattle.types.specs.Names.{pick}
 use Rattle.lines.specs.declared.field.Field.{Field}
 

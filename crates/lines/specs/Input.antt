@@ -1,5 +1,5 @@
 -- Document 01, "Operation lines": what a host does with its input. What a piece left comes to the start before more is read; a last line may lack LF.
-use Rattle.types.specs.Prelude.{ℕ, ◌+◌, Bool, true, List, [], ◌∷◌, eqb, leb, length, take, drop, set}
+use Rattle.std.specs.Prelude.{ℕ, ◌+◌, Bool, true, List, [], ◌∷◌, eqb, leb, length, take, drop, set}
 use Rattle.types.specs.Names.{pick, unless, over, Done, done}
 use Rattle.lines.specs.{Line.lf, Pieces.Host, Pieces.fed}
 

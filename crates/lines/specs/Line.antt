@@ -1,5 +1,5 @@
 -- Document 01, "Operation lines": a two-digit code, then fields of 16 digits, each behind a single space.
-use Rattle.types.specs.Prelude.{ℕ, zero, suc, true, false, List, [], ◌∷◌, ◌++◌, eqb, ltb, length, drop, get_or, replicate}
+use Rattle.std.specs.Prelude.{ℕ, zero, suc, true, false, List, [], ◌∷◌, ◌++◌, eqb, ltb, length, drop, get_or, replicate}
 use Rattle.types.specs.Names.{pick, over, Done, done}
 use Rattle.lines.specs.{Hex.hex_from, Hex.hex_text, declared.field.Field.Field, declared.line.Line.Line}
 

@@ -1,6 +1,6 @@
 -- Document 01, "Operation lines": a session whose input comes in pieces. A piece is what was left of the last one and the bytes that came in.
 -- A line of over 160 characters is malformed; what of it no piece can hold is passed over, and it has one answer.
-use Rattle.types.specs.Prelude.{ℕ, zero, suc, ◌+◌, Bool, true, false, List, [], ◌∷◌, ◌++◌, ltb, leb, eqb, length, take, drop}
+use Rattle.std.specs.Prelude.{ℕ, zero, suc, ◌+◌, Bool, true, false, List, [], ◌∷◌, ◌++◌, ltb, leb, eqb, length, take, drop}
 use Rattle.types.specs.Names.{pick}
 use Rattle.lines.specs.{Line.lf, Line.longest, Session.Held, Session.malformed, Session.turn_of, Session.text_of}
 

@@ -1,5 +1,5 @@
 -- Document 01, "Operation lines", a session in pieces: what is given back for one, beside the row and the buffers that are lent.
-use Rattle.types.specs.Prelude.{ℕ, ◌/◌, List, ◌++◌, length, drop}
+use Rattle.std.specs.Prelude.{ℕ, ◌/◌, List, ◌++◌, length, drop}
 use Rattle.types.specs.Names.{unless, both, over, raw_bytes}
 use Rattle.machine.specs.Names.{Buffers, buffers, sound_over}
 use Rattle.machine.specs.Words.{row_length, words_of, machine_from, in_form}

@@ -1,5 +1,5 @@
 -- Document 01, "Operation lines", what a line can say: fields below 2^64, an absent maximum 0, an exponent of at most 255, and of a segment at most 4 items, zeros past them.
-use Rattle.types.specs.Prelude.{ℕ, ◌<◌, ◌≤◌, ◌≡◌, true, false, List, [], ◌∷◌}
+use Rattle.std.specs.Prelude.{ℕ, ◌<◌, ◌≤◌, ◌≡◌, true, false, List, [], ◌∷◌}
 use Rattle.types.specs.Names.{word64, Limits, WantedMemory}
 use Rattle.machine.specs.Names.{item_fields, MemoryOp, Operation}
 use Rattle.lines.specs.Writing.{numbers_of}

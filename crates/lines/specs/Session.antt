@@ -1,5 +1,5 @@
 -- Document 01, "Operation lines": a session, from the bytes that go in to the bytes that come out.
-use Rattle.types.specs.Prelude.{ℕ, Bool, false, List, [], ◌∷◌, ◌++◌, eqb}
+use Rattle.std.specs.Prelude.{ℕ, Bool, false, List, [], ◌∷◌, ◌++◌, eqb}
 use Rattle.types.specs.Names.{pick, refuse, accept, default_costs, Answer, FuelCosts}
 use Rattle.machine.specs.Names.{Buffers, fresh_machine, step, Machine}
 use Rattle.lines.specs.{Line.lf, Code.read_line, AnswerLine.answer_line, declared.code.Read.Read}

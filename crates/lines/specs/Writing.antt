@@ -1,5 +1,5 @@
 -- Document 01, "Operation lines", the way back: an operation's code and fields, and its line of text.
-use Rattle.types.specs.Prelude.{ℕ, Bool, List, [], ◌∷◌}
+use Rattle.std.specs.Prelude.{ℕ, Bool, List, [], ◌∷◌}
 use Rattle.machine.specs.Names.{items_of, FuelOp, MemoryOp, TableOp, Operation}
 use Rattle.lines.specs.Line.{line_text}
 use Rattle.lines.specs.Fields.{flag, kind_number, load_number, store_number, reference_fields, memory_fields, table_fields}

@@ -1,5 +1,5 @@
 -- Document 01, "The machine": an operation changes cells and size of one instance at most (in a table copy, the destination).
-use Rattle.types.specs.Prelude.{ℕ, ◌<◌, ◌≡◌, ◌⊎◌}
+use Rattle.std.specs.Prelude.{ℕ, ◌<◌, ◌≡◌, ◌⊎◌}
 use Rattle.types.specs.Names.{cut}
 use Rattle.memory.specs.Names.{resized as resized_memory}
 use Rattle.table.specs.Names.{resized as resized_table, dropped}

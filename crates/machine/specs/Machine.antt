@@ -1,5 +1,5 @@
 -- Document 01, "The machine": its records by number, and where the next room starts.
-use Rattle.types.specs.Prelude.{ℕ, ◌+◌, ◌-◌, Bool, false, List, eqb, get_or, replicate}
+use Rattle.std.specs.Prelude.{ℕ, ◌+◌, ◌-◌, Bool, false, List, eqb, get_or, replicate}
 use Rattle.types.specs.Names.{pick, new_fuel, no_limiter, FuelCosts, IndexType, PageSize, RefType, Limits}
 use Rattle.memory.specs.Names.{Memory}
 use Rattle.table.specs.Names.{Table, ElementSegment}

@@ -1,5 +1,5 @@
 -- Document 01, operations 10 to 14 and 30: memories. 16 is tested once, then an operation is one on the memory's own record.
-use Rattle.types.specs.Prelude.{ℕ, ◌-◌, List, leb, ltb, length}
+use Rattle.std.specs.Prelude.{ℕ, ◌-◌, List, leb, ltb, length}
 use Rattle.types.specs.Names.{pick, unless, both, Done, done, accept, build_memory, match_memory}
 use Rattle.types.specs.Names.{Answer, Fuel, Limiter, BuiltMemory, MemoryType, WantedMemory}
 use Rattle.memory.specs.Names.{pages_of, load_memory, store_memory, new_memory, grow_memory, Memory, GrownMemory, MadeMemory, CreatedMemory}

@@ -1,5 +1,5 @@
 -- Document 01, "Operation lines": what an operation can still say wrongly where every field has its type (18).
-use Rattle.types.specs.Prelude.{ℕ, zero, suc, ◌-◌, ◌/◌, ◌%◌, Bool, true, false, List, [], ◌∷◌, ◌++◌, eqb, leb, ltb, take}
+use Rattle.std.specs.Prelude.{ℕ, zero, suc, ◌-◌, ◌/◌, ◌%◌, Bool, true, false, List, [], ◌∷◌, ◌++◌, eqb, leb, ltb, take}
 use Rattle.types.specs.Names.{word32, pick, both, longest_script, CopySpan}
 use Rattle.memory.specs.Names.{StoreKind}
 use Rattle.machine.specs.declared.operation.{Script.Script, Items.Items, FuelOp.FuelOp, MemoryOp.MemoryOp, Operation.Operation}

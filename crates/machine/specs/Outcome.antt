@@ -1,5 +1,5 @@
 -- Document 01, "The machine": an operation changes one record at most; what it gives back, and the machine after it.
-use Rattle.types.specs.Prelude.{ℕ, ◌+◌, List, ltb, set}
+use Rattle.std.specs.Prelude.{ℕ, ◌+◌, List, ltb, set}
 use Rattle.types.specs.Names.{pick, Done, done, refuse, accept, Answer, Fuel, Limiter}
 use Rattle.memory.specs.Names.{Memory}
 use Rattle.table.specs.Names.{Table, ElementSegment}

@@ -1,5 +1,5 @@
 -- Document 01, "First check wins", in place: one operation on the machine that a row says, whose words then stand in the row.
-use Rattle.types.specs.Prelude.{ℕ, ◌+◌, ◌*◌, Bool, false, List, leb, ltb, length}
+use Rattle.std.specs.Prelude.{ℕ, ◌+◌, ◌*◌, Bool, false, List, leb, ltb, length}
 use Rattle.types.specs.Names.{unless, over, refuse, accept, new_fuel, Answer, Fuel, FuelCosts}
 use Rattle.memory.specs.Names.{pages_of}
 use Rattle.machine.specs.{Machine.Buffers, Machine.buffers, Machine.memory_at, Machine.table_at, Machine.fresh_machine, Operation.well_formed}

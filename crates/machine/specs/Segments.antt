@@ -1,5 +1,5 @@
 -- Document 01, operations 27 to 29: segments. R, the bytes that a reference counts, is the first argument of an init.
-use Rattle.types.specs.Prelude.{ℕ, ◌-◌, List, leb, ltb, length}
+use Rattle.std.specs.Prelude.{ℕ, ◌-◌, List, leb, ltb, length}
 use Rattle.types.specs.Names.{unless, both, Done, done, refuse, accept, Answer, RefType, CopySpan}
 use Rattle.table.specs.Names.{init_table, dropped, new_segment, MadeSegment}
 use Rattle.machine.specs.Machine.{capacity, table_at, segment_at, next_item}

@@ -1,5 +1,5 @@
 -- Document 01, "The machine" and "Numbers given back" (19): when records and buffers are sound.
-use Rattle.types.specs.Prelude.{ℕ, Bool, true, List, [], ◌∷◌, eqb, leb, length, take}
+use Rattle.std.specs.Prelude.{ℕ, Bool, true, List, [], ◌∷◌, eqb, leb, length, take}
 use Rattle.types.specs.Names.{word32, both}
 use Rattle.memory.specs.Names.{sound_memory, Memory}
 use Rattle.table.specs.Names.{sound_table, sound_segment, Table, ElementSegment}

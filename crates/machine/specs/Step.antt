@@ -1,6 +1,6 @@
 -- Document 01, "First check wins" and "Operation lines": one operation on a machine. 18, 19, then 16 or 17, then the operation's own checks.
 -- R, the bytes that a reference counts, is the first argument throughout.
-use Rattle.types.specs.Prelude.{ℕ, List, [], ◌∷◌}
+use Rattle.std.specs.Prelude.{ℕ, List, [], ◌∷◌}
 use Rattle.types.specs.Names.{unless, Done, refuse, Answer}
 use Rattle.machine.specs.{Machine.Buffers, Machine.buffers, Sound.sound_over, Operation.well_formed, Operation.items_of, Outcome.keeps}
 use Rattle.machine.specs.{Outcome.settled, Fueling.on_fuel, Memories.new_memory_on, Memories.on_memory, Tables.new_table_on, Tables.on_table}

@@ -1,6 +1,6 @@
 -- Document 01, operations 20 to 26: tables. 16 is tested once, then an operation is one on the table's own record.
 -- R, the bytes that a reference counts, is the first argument throughout.
-use Rattle.types.specs.Prelude.{ℕ, ◌-◌, List, leb, ltb, length}
+use Rattle.std.specs.Prelude.{ℕ, ◌-◌, List, leb, ltb, length}
 use Rattle.types.specs.Names.{unless, both, Done, done, accept, Answer, Fuel, Limiter, Spanned, TypedRawRef, CopySpan, WantedTable}
 use Rattle.table.specs.Names.{get_table, set_table, new_table, grow_table, fill_table, copy_table, Table, GrownTable, MadeTable, CreatedTable}
 use Rattle.machine.specs.{Machine.capacity, Machine.table_at, Machine.next_cell, Outcome.leaves, Outcome.creates, Outcome.refused, Outcome.one_table_more}

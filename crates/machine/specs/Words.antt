@@ -1,5 +1,5 @@
 -- Document 01, "The machine", in place: its records, fuel and limiter as a row of 64-bit words that whoever runs it lends, and when a row is in form.
-use Rattle.types.specs.Prelude.{ℕ, zero, suc, ◌+◌, ◌*◌, ◌%◌, Bool, true, false, List, [], ◌∷◌, ◌++◌, eqb, leb, ltb, length, get_or}
+use Rattle.std.specs.Prelude.{ℕ, zero, suc, ◌+◌, ◌*◌, ◌%◌, Bool, true, false, List, [], ◌∷◌, ◌++◌, eqb, leb, ltb, length, get_or}
 use Rattle.types.specs.Names.{word8, word32, both, is64, index_of, longest_script, Fuel, Limiter, Limits, PageSize, RefType}
 use Rattle.memory.specs.Names.{Memory}
 use Rattle.table.specs.Names.{Table, ElementSegment}

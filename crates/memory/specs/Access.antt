@@ -1,6 +1,5 @@
 -- Loads and stores: document 01, "Access"; WebAssembly Core Specification 3.0, Execution, Instructions, memory instructions.
-use Rattle.types.specs.Prelude.{ℕ, ◌+◌, List, ltb, length}
-use Rattle.std.specs.Prelude.{pos}
+use Rattle.std.specs.Prelude.{ℕ, ◌+◌, List, ltb, length, pos}
 use Rattle.std.specs.Int.{w8, w16, w32, w64}
 use Rattle.std.proofs.Common.{to_z}
 use Rattle.types.specs.Names.{word64, pick, Done, done, inside, cut, over, float32, float64, refuse, accept, Answer, Value}

@@ -1,6 +1,6 @@
 -- Document 01, "First check wins", grow memory: by 0 accepted; 6 beyond the bounds; limiter 6/4 without notice; 7 with notice; 8 with notice.
 -- WebAssembly Core Specification 3.0, Execution, Modules, growing memories: the answer is the size before, and the new bytes are 0.
-use Rattle.types.specs.Prelude.{ℕ, ◌+◌, ◌-◌, ◌*◌, Bool, List, eqb, leb, ltb, length, replicate}
+use Rattle.std.specs.Prelude.{ℕ, ◌+◌, ◌-◌, ◌*◌, Bool, List, eqb, leb, ltb, length, replicate}
 use Rattle.types.specs.Names.{word64, pick, unless, both, Done, done, over, refuse, accept, price, short, paid, says_of, moved, noticed, admits_of}
 use Rattle.types.specs.Names.{page_bytes, page_bound, Answer, Fuel, Limiter, MemoryType}
 use Rattle.memory.specs.Memory.{pages_of, resized, sound_memory}

@@ -1,5 +1,5 @@
 -- Document 01, "Access": host reads and writes of any length; length 0 passes at the size and not beyond.
-use Rattle.types.specs.Prelude.{ℕ, ◌+◌, List, length}
+use Rattle.std.specs.Prelude.{ℕ, ◌+◌, List, length}
 use Rattle.types.specs.Names.{pick, Done, done, inside, cut, over, refuse, accept, Answer}
 use Rattle.memory.specs.{Memory.sound_memory, declared.memory.Memory.Memory}
 

@@ -1,5 +1,5 @@
 -- WebAssembly Core Specification 3.0, Execution, Numerics, storage: the bytes of an integer, the lowest first; reading is the inverse.
-use Rattle.types.specs.Prelude.{ℕ, zero, suc, ◌+◌, ◌*◌, ◌/◌, ◌%◌, List, [], ◌∷◌}
+use Rattle.std.specs.Prelude.{ℕ, zero, suc, ◌+◌, ◌*◌, ◌/◌, ◌%◌, List, [], ◌∷◌}
 use Rattle.types.specs.Names.{word8}
 
 -- the n low bytes of a number

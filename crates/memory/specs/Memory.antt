@@ -1,5 +1,5 @@
 -- Document 01, "The machine": a memory's record, its size, and when it is sound; WebAssembly Core Specification 3.0, Execution, Runtime structure, memory instances.
-use Rattle.types.specs.Prelude.{ℕ, ◌+◌, ◌/◌, ◌%◌, Bool, List, eqb, leb, length}
+use Rattle.std.specs.Prelude.{ℕ, ◌+◌, ◌/◌, ◌%◌, Bool, List, eqb, leb, length}
 use Rattle.types.specs.Names.{pick, both, Done, done, admits_of, page_bytes, page_bound, valid_memory, dynamic_memory, refuse, Answer, MemoryType}
 use Rattle.memory.specs.Access.{load_at, store_at}
 use Rattle.memory.specs.declared.{access.LoadKind.LoadKind, access.StoreKind.StoreKind, memory.Memory.Memory}

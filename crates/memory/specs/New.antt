@@ -1,5 +1,5 @@
 -- Document 01, "First check wins", new memory: 1, 2, limiter 3/4, room 5 with notice; not metered; cells become 0.
-use Rattle.types.specs.Prelude.{ℕ, ◌+◌, ◌*◌, List, eqb, leb, ltb, length, replicate}
+use Rattle.std.specs.Prelude.{ℕ, ◌+◌, ◌*◌, List, eqb, leb, ltb, length, replicate}
 use Rattle.types.specs.Names.{word64, pick, unless, both, Done, done, over, refusal, says_of, moved, heard_of, page_bytes, page_of, memory_type}
 use Rattle.types.specs.Names.{valid_exponent, valid_memory, Refusal, Limiter, MemoryType, WantedMemory}
 use Rattle.memory.specs.declared.{memory.Memory.Memory, new.MadeMemory.MadeMemory, new.CreatedMemory.CreatedMemory}

@@ -1,5 +1,5 @@
 -- Document 01, "First check wins", copy: 14, 12, 7, at length 0 too; WebAssembly Core Specification 3.0, Execution, Instructions, table.copy, whose steps leave this span.
-use Rattle.types.specs.Prelude.{ℕ, ◌+◌, Bool, true, List, eqb, leb, length}
+use Rattle.std.specs.Prelude.{ℕ, ◌+◌, Bool, true, List, eqb, leb, length}
 use Rattle.types.specs.Names.{pick, unless, both, inside, cut, over, refuse, accept, short, paid, Done, span_done, element_matches}
 use Rattle.types.specs.Names.{Fuel, Spanned, CopySpan}
 use Rattle.table.specs.{Table.sound_table, Grow.cells_price, declared.table.Table.Table}

@@ -1,5 +1,5 @@
 -- Document 01, "The machine": element segments; WebAssembly Core Specification 3.0, Execution, Instructions, elem.drop.
-use Rattle.types.specs.Prelude.{ℕ, ◌+◌, Bool, List, leb, length, get_or}
+use Rattle.std.specs.Prelude.{ℕ, ◌+◌, Bool, List, leb, length, get_or}
 use Rattle.types.specs.Names.{pick, both, Done, done, over, refusal, refuse, accept, Answer, RefType}
 use Rattle.table.specs.{Table.sound_buffer, declared.element.ElementSegment.ElementSegment, declared.element.MadeSegment.MadeSegment}
 

@@ -1,5 +1,5 @@
 -- Document 01, "First check wins", fill: 14, 11, 7; WebAssembly Core Specification 3.0, Execution, Instructions, table.fill, whose steps leave this span.
-use Rattle.types.specs.Prelude.{ℕ, ◌+◌, List, length, replicate}
+use Rattle.std.specs.Prelude.{ℕ, ◌+◌, List, length, replicate}
 use Rattle.types.specs.Names.{pick, unless, inside, over, refuse, accept, short, paid, Done, span_done, element_matches}
 use Rattle.types.specs.Names.{Fuel, Spanned, FillSpan, TypedRawRef}
 use Rattle.table.specs.{Table.sound_table, Grow.cells_price, declared.table.Table.Table}

@@ -1,6 +1,6 @@
 -- Document 01, "First check wins", grow table: 14; by 0 accepted; 6 at the index type's largest size; limiter 6/4; 6 with notice above the maximum; 7 and 8 with notice.
 -- WebAssembly Core Specification 3.0, Execution, Modules, growing tables: the new cells hold the reference given. R is the bytes that a reference counts.
-use Rattle.types.specs.Prelude.{ℕ, ◌+◌, ◌*◌, List, eqb, leb, ltb, length, replicate}
+use Rattle.std.specs.Prelude.{ℕ, ◌+◌, ◌*◌, List, eqb, leb, ltb, length, replicate}
 use Rattle.types.specs.Names.{pick, unless, Done, done, over, refuse, accept, price, short, paid, says_of, moved, noticed, max_size, admits_of}
 use Rattle.types.specs.Names.{element_matches, Answer, Fuel, Limiter, TypedRawRef}
 use Rattle.table.specs.{Table.resized, Table.sound_table, declared.table.Table.Table, declared.grow.GrownTable.GrownTable}

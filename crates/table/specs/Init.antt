@@ -1,5 +1,5 @@
 -- Document 01, "First check wins", init: 14, 13, length 0 accepted without fuel, 7; WebAssembly Core Specification 3.0, Execution, Instructions, table.init, whose steps leave this span.
-use Rattle.types.specs.Prelude.{ℕ, ◌+◌, List, eqb, length}
+use Rattle.std.specs.Prelude.{ℕ, ◌+◌, List, eqb, length}
 use Rattle.types.specs.Names.{pick, unless, both, inside, cut, over, refuse, accept, short, paid, Done, span_done, element_matches}
 use Rattle.types.specs.Names.{Fuel, Spanned, CopySpan}
 use Rattle.table.specs.{Table.sound_table, Grow.cells_price, Element.sound_segment}

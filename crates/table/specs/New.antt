@@ -1,5 +1,5 @@
 -- Document 01, "First check wins", new table: 1, 14, limiter 3/4, room 5 with notice; not metered; cells become the initial reference.
-use Rattle.types.specs.Prelude.{ℕ, List, eqb, leb, length, replicate}
+use Rattle.std.specs.Prelude.{ℕ, List, eqb, leb, length, replicate}
 use Rattle.types.specs.Names.{pick, unless, Done, done, over, refusal, says_of, moved, heard_of, table_type, valid_table, element_matches}
 use Rattle.types.specs.Names.{Refusal, Limiter, TypedRawRef, TableType, WantedTable}
 use Rattle.table.specs.Table.{sound_buffer}

@@ -1,5 +1,5 @@
 -- Document 01, "The machine": a table's record, and when it is sound; WebAssembly Core Specification 3.0, Execution, Runtime structure, table instances, and table.get, table.set.
-use Rattle.types.specs.Prelude.{ℕ, ◌+◌, Bool, List, leb, length, get_or, replicate}
+use Rattle.std.specs.Prelude.{ℕ, ◌+◌, Bool, List, leb, length, get_or, replicate}
 use Rattle.types.specs.Names.{word32, pick, both, Done, done, inside, over, admits_of, table_bound, valid_table, element_matches, refuse, accept}
 use Rattle.types.specs.Names.{Answer, TypedRawRef}
 use Rattle.table.specs.declared.table.Table.{Table}

@@ -1,5 +1,5 @@
 -- One operation again and again on a machine in place, for the benches.
-use Rattle.types.specs.Prelude.{ℕ, zero, suc, ◌≡◌, Bool, List}
+use Rattle.std.specs.Prelude.{ℕ, zero, suc, ◌≡◌, Bool, List}
 use Rattle.types.specs.Names.{pick, raw_bytes}
 use Rattle.machine.specs.Names.{Buffers, buffers, Operation}
 use Rattle.machine.specs.Row.{InRow, operate_row, fuel_of}

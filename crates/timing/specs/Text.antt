@@ -1,5 +1,5 @@
 -- What is left of lines that are read, answered and run for the benches.
-use Rattle.types.specs.Prelude.{ℕ, ◌≡◌, true, false, List, replicate}
+use Rattle.std.specs.Prelude.{ℕ, ◌≡◌, true, false, List, replicate}
 use Rattle.types.specs.Fuel.{default_costs}
 use Rattle.machine.specs.Names.{Buffers, buffers}
 use Rattle.machine.specs.Words.{row_length}

@@ -1,5 +1,5 @@
 -- Document 01, "Numbers given back": an answer's number, and its value or amount; "Access": float bits stay, NaN payloads too.
-use Rattle.types.specs.Prelude.{ℕ}
+use Rattle.std.specs.Prelude.{ℕ}
 use Rattle.std.specs.Float.{binary32, binary64}
 use Rattle.std.specs.Float.Ieee.{of_bits, to_bits, nan_bits}
 use Rattle.std.specs.Int.{w32, w64}

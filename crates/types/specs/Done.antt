@@ -1,5 +1,5 @@
 -- What every operation that is lent a buffer leaves behind: memories, tables and element segments alike.
-use Rattle.types.specs.Prelude.{ℕ, List}
+use Rattle.std.specs.Prelude.{ℕ, List}
 use Rattle.types.specs.declared.{answer.Answer.Answer, fuel.Fuel.Fuel, grant.Spanned.Spanned}
 
 -- a function's result, and the cells of the buffer that it is lent after it

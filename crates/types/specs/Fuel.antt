@@ -1,5 +1,5 @@
 -- Document 01, "Fuel" and "Numbers given back" (7, 15): the fuel record and its charges.
-use Rattle.types.specs.Prelude.{ℕ, ◌-◌, Bool, ltb}
+use Rattle.std.specs.Prelude.{ℕ, ◌-◌, Bool, ltb}
 use Rattle.types.specs.{Pick.pick, Pick.both, Answer.refusal, Answer.refuse, Answer.accept}
 use Rattle.types.specs.declared.{answer.Answer.Answer, fuel.FuelCosts.FuelCosts, fuel.Fuel.Fuel, fuel.FuelStep.FuelStep}
 

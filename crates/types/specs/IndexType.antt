@@ -1,5 +1,5 @@
 -- WebAssembly Core Specification 3.0, Structure, Types, address types; document 01, "Modules in port order": index type; largest size 2^32 or 2^64.
-use Rattle.types.specs.Prelude.{ℕ, ◌^◌, Bool, true, false}
+use Rattle.std.specs.Prelude.{ℕ, ◌^◌, Bool, true, false}
 use Rattle.types.specs.declared.index_ty.IndexType.{IndexType}
 use Rattle.types.specs.declared.index_ty.IndexType.TheVariants.{I32, I64}
 

@@ -1,4 +1,3 @@
-pub mod Prelude
 pub mod Numbers
 pub mod Pick
 pub mod Done

@@ -1,5 +1,5 @@
 -- Document 01, "Numbers given back": the limiter is a byte script, 0 yes, 1 no, 2 its own error; past its end it answers 0.
-use Rattle.types.specs.Prelude.{ℕ, ◌+◌, Bool, true, List, [], ◌∷◌, ◌++◌, eqb, leb, ltb, length, take, drop, get_or, replicate}
+use Rattle.std.specs.Prelude.{ℕ, ◌+◌, Bool, true, List, [], ◌∷◌, ◌++◌, eqb, leb, ltb, length, take, drop, get_or, replicate}
 use Rattle.types.specs.{Pick.pick, Pick.both, Answer.refusal, Answer.refuse, Answer.accept}
 use Rattle.types.specs.declared.{answer.Answer.Answer, answer.Refusal.Refusal, limiter.Limiter.Limiter, limiter.Permit.Permit}
 use Rattle.types.specs.declared.{limiter.Asked.Asked, limiter.Noticed.Noticed, limiter.HandedOver.HandedOver}

@@ -1,5 +1,5 @@
 -- WebAssembly Core Specification 3.0, Validation, Types and Matching, memory types; document 01, "Types", for the page exponent and the page bound.
-use Rattle.types.specs.Prelude.{ℕ, ◌*◌, ◌/◌, ◌^◌, Bool, true, false, eqb, ltb}
+use Rattle.std.specs.Prelude.{ℕ, ◌*◌, ◌/◌, ◌^◌, Bool, true, false, eqb, ltb}
 use Rattle.types.specs.{Numbers.word64, Pick.pick, Pick.both, Answer.refusal, IndexType.max_size, IndexType.index_of, IndexType.same_index}
 use Rattle.types.specs.{Limits.valid_limits, Limits.match_limits, Limits.from_minimum}
 use Rattle.types.specs.declared.{limits.Limits.Limits, memory_ty.PageSize.PageSize, memory_ty.MemoryType.MemoryType}

@@ -1,5 +1,5 @@
 -- Document 01, "Access", "Fuel" and "Operation lines": how many values a byte and numbers of 32 and 64 bits have.
-use Rattle.types.specs.Prelude.{ℕ, ◌-◌, ◌^◌}
+use Rattle.std.specs.Prelude.{ℕ, ◌-◌, ◌^◌}
 
 -- every byte is below this
 abbrev pub word8 : ℕ

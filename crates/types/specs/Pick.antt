@@ -1,5 +1,5 @@
 -- First check wins (document 01, "Numbers given back"): a test picks one of two values. Used by every definition below.
-use Rattle.types.specs.Prelude.{Bool, true, false}
+use Rattle.std.specs.Prelude.{Bool, true, false}
 
 -- the first value where the test holds, else the second
 unfoldable pub pick : {A : Type 0} → Bool → A → A → A

@@ -1,5 +1,5 @@
 -- Document 01, "Fuel": the price of a byte length.
-use Rattle.types.specs.Prelude.{ℕ, ◌/◌, min, eqb}
+use Rattle.std.specs.Prelude.{ℕ, ◌/◌, min, eqb}
 use Rattle.types.specs.{Numbers.max_word, Pick.pick}
 
 -- at most 2^64-1

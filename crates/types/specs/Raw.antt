@@ -1,5 +1,5 @@
 -- Document 01, "The machine" and "Fuel": references of 64 bits, their kinds (func, extern), and the R bytes that one counts.
-use Rattle.types.specs.Prelude.{ℕ, Bool, true, false, eqb}
+use Rattle.std.specs.Prelude.{ℕ, Bool, true, false, eqb}
 use Rattle.types.specs.declared.raw.{RefType.RefType, RawRef.RawRef, TypedRawRef.TypedRawRef}
 use Rattle.types.specs.declared.raw.RefType.TheVariants.{Func, Extern}
 

@@ -1,5 +1,5 @@
 -- Spans of cells, over cells of any size: WebAssembly Core Specification 3.0, Execution, Instructions (the bounds of memory and table instructions).
-use Rattle.types.specs.Prelude.{ℕ, ◌+◌, Bool, List, ◌++◌, leb, length, take, drop}
+use Rattle.std.specs.Prelude.{ℕ, ◌+◌, Bool, List, ◌++◌, leb, length, take, drop}
 
 -- len cells from start on lie within size cells: the sum is exact
 unfoldable pub inside : ℕ → ℕ → ℕ → Bool

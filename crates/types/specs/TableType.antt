@@ -1,5 +1,5 @@
 -- WebAssembly Core Specification 3.0, Validation, Types and Matching, table types; document 01, "Types".
-use Rattle.types.specs.Prelude.{ℕ, ◌-◌, Bool}
+use Rattle.std.specs.Prelude.{ℕ, ◌-◌, Bool}
 use Rattle.types.specs.{Pick.pick, Pick.both, IndexType.max_size, IndexType.index_of, IndexType.same_index, Limits.valid_limits}
 use Rattle.types.specs.{Limits.match_limits, Limits.from_minimum, Raw.same_kind, Answer.refusal}
 use Rattle.types.specs.declared.{limits.Limits.Limits, raw.RefType.RefType, table_ty.TableType.TableType, table_ty.BuiltTable.BuiltTable}

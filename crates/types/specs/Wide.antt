@@ -1,5 +1,5 @@
 -- Document 01, "What must change shape": bounds that do not fit 64 bits are two 64-bit halves.
-use Rattle.types.specs.Prelude.{ℕ, ◌+◌, ◌*◌, ◌/◌, ◌%◌}
+use Rattle.std.specs.Prelude.{ℕ, ◌+◌, ◌*◌, ◌/◌, ◌%◌}
 use Rattle.types.specs.{Numbers.word64, declared.wide.Wide.Wide}
 
 -- the number that two halves stand for

@@ -1,5 +1,5 @@
 -- Document 01, "Access" and "Numbers given back": what C gets of an answer. The number is the result; a refusal leaves the out parameter alone.
-use Rattle.types.specs.Prelude.{ℕ, ◌≡◌, List}
+use Rattle.std.specs.Prelude.{ℕ, ◌≡◌, List}
 use Rattle.types.specs.Names.{bits_of, number_of, Done, Answer}
 use Rattle.types.specs.declared.answer.Answer.TheVariants as answer
 

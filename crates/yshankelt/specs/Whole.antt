@@ -1,5 +1,5 @@
 -- Document 01, "Operation lines", for C: one operation on a machine in a row of words, by its code and fields. A fresh row and the sizes are the machine's own.
-use Rattle.types.specs.Prelude.{ℕ, true, List, eqb, leb, length, replicate}
+use Rattle.std.specs.Prelude.{ℕ, true, List, eqb, leb, length, replicate}
 use Rattle.types.specs.Names.{pick, over, number_of, shown_of, raw_bytes}
 use Rattle.machine.specs.{Machine.Buffers, Row.InRow, Row.row_keeps, Row.operate_row, Row.fuel_of}
 use Rattle.lines.specs.{Line.most_fields, Line.no_line, Code.operation_of, AnswerLine.fuel_shown, declared.line.Line.Line, declared.code.Read.Read}

@@ -1,5 +1,5 @@
 -- For the code alone: a line's numbers field by field, and an operation as a line's numbers.
-use Rattle.types.specs.Prelude.{ℕ, ◌+◌, Bool, true, List, [], ◌∷◌, length, replicate}
+use Rattle.std.specs.Prelude.{ℕ, ◌+◌, Bool, true, List, [], ◌∷◌, length, replicate}
 use Rattle.types.specs.Names.{over, WantedMemory}
 use Rattle.machine.specs.Names.{Operation}
 use Rattle.lines.specs.Line.{Got, none, some, no_line}

@@ -1,5 +1,5 @@
 -- For the code alone: what its functions of one code and of one type read.
-use Rattle.types.specs.Prelude.{ℕ, min, Bool, leb, ltb}
+use Rattle.std.specs.Prelude.{ℕ, min, Bool, leb, ltb}
 use Rattle.types.specs.Names.{word32, both, WantedMemory, WantedTable}
 use Rattle.lines.specs.Fields.{binary, yes, kind_of, limit_ranges, limits_of}
 use Rattle.lines.specs.Code.{taken, by_code}

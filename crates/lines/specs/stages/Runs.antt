@@ -1,5 +1,5 @@
 -- For the code alone: what the functions of a session give back, beside the row and the buffers that they are lent.
-use Rattle.types.specs.Prelude.{ℕ, ◌+◌, ◌-◌, ◌/◌, ◌≤◌, ◌≡◌, Bool, true, List, ◌++◌, ltb, leb, length, drop}
+use Rattle.std.specs.Prelude.{ℕ, ◌+◌, ◌-◌, ◌/◌, ◌≤◌, ◌≡◌, Bool, true, List, ◌++◌, ltb, leb, length, drop}
 use Rattle.types.specs.Names.{pick, over, raw_bytes, Answer}
 use Rattle.machine.specs.Names.{Buffers, buffers, sound_over, Machine}
 use Rattle.machine.specs.{Words.row_length, Words.words_of, Words.machine_from, stages.Rows.Holds}
