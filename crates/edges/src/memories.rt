@@ -7,6 +7,7 @@ use memory::access::{LoadKind, StoreKind};
 use memory::grow::GrownMemory;
 use memory::memory::Memory;
 use memory::new::{CreatedMemory, MadeMemory};
+use std::io;
 use types::answer::{Answer, Refusal, Value};
 use types::fuel::{Fuel, FuelCosts};
 use types::index_ty::IndexType;
@@ -145,11 +146,17 @@ fn read_to(x: Order, m: GrownMemory, bytes: &[u8], to: &mut [u8]) -> GrownMemory
 }
 
 // The caller has four bytes a5, which are printed.
-fn read(name: &[u8], x: Order, m: GrownMemory, bytes: &[u8]) -> GrownMemory {
+fn read(
+    rt: &impl Print,
+    name: &[u8],
+    x: Order,
+    m: GrownMemory,
+    bytes: &[u8],
+) -> io::Result<GrownMemory> {
     let mut to = [0xa5u8; 4];
     let next = read_to(x, m, bytes, &mut to);
-    print::memory(name, next, &to);
-    next
+    print::memory(rt, name, next, &to)?;
+    Ok(next)
 }
 
 // Offset and bytes, which stand in the row after it.
@@ -247,19 +254,19 @@ fn act(x: Order, low: &[u8], m: GrownMemory, bytes: &mut [u8]) -> GrownMemory {
 }
 
 // One line.
-fn obey(line: &[u8], m: GrownMemory, bytes: &mut [u8]) -> GrownMemory {
+fn obey(rt: &impl Print, line: &[u8], m: GrownMemory, bytes: &mut [u8]) -> io::Result<GrownMemory> {
     if text::passed_over(line) {
-        return m;
+        return Ok(m);
     }
     let mut low = [0u8; 20];
     let end = text::find(line, 0, b' ');
     let x = text::read_order(&line[end..line.len()], &mut low);
     if x.key == words::READ {
-        return read(&line[0..end], x, m, bytes);
+        return read(rt, &line[0..end], x, m, bytes);
     }
     let next = act(x, &low, m, bytes);
-    print::memory(&line[0..end], next, bytes);
-    next
+    print::memory(rt, &line[0..end], next, bytes)?;
+    Ok(next)
 }
 
 // No bytes yet.
@@ -274,25 +281,25 @@ fn fresh() -> GrownMemory {
 }
 
 // The lines from a place on, up to the next section; answers where that is.
-fn lines(input: &[u8], from: usize, bytes: &mut [u8]) -> usize {
+fn lines(rt: &impl Print, input: &[u8], from: usize, bytes: &mut [u8]) -> io::Result<usize> {
     let mut m = fresh();
     let mut at = from;
     while at < input.len() {
         let end = text::find(input, at, b'\n');
-        m = obey(&input[at..end], m, bytes);
+        m = obey(rt, &input[at..end], m, bytes)?;
         if input.len() <= end {
-            return end;
+            return Ok(end);
         }
         at = end + 1;
         if text::section_at(input, at) {
-            return at;
+            return Ok(at);
         }
     }
-    at
+    Ok(at)
 }
 
 // A section starts with dirty bytes.
-pub(crate) fn section(input: &[u8], from: usize) -> usize {
+pub(crate) fn section(rt: &impl Print, input: &[u8], from: usize) -> io::Result<usize> {
     let mut bytes = dirty();
-    lines(input, from, &mut bytes)
+    lines(rt, input, from, &mut bytes)
 }

@@ -1,71 +1,76 @@
 // The line that a case prints.
 use memory::grow::GrownMemory;
+use std::io;
 use table::grow::GrownTable;
 use types::answer::Answer;
 
 // A space and a number.
-fn number(n: u64) {
-    io::write_all(1, b" ");
-    io::print_decimal(1, n);
+fn number(rt: &impl Print, n: u64) -> io::Result<()> {
+    print!(rt; " {n}")
 }
 
 // The line up to the cells; answers whether they are to follow. 18 stands for a malformed line, and without a name nothing is said.
-fn head(name: &[u8], answer: Answer, size: u64, fuel: u64, place: u64) -> bool {
+fn head(
+    rt: &impl Print,
+    name: &[u8],
+    answer: Answer,
+    size: u64,
+    fuel: u64,
+    place: u64,
+) -> io::Result<bool> {
     let refused = answer.number();
     if refused == 18 {
-        io::write_all(1, name);
-        io::write_all(1, b" ?\n");
-        return false;
+        rt.write_all(name)?;
+        rt.write_all(b" ?\n")?;
+        return Ok(false);
     }
     if name.len() == 0 {
-        return false;
+        return Ok(false);
     }
-    io::write_all(1, name);
-    number(refused as u64);
-    io::write_all(1, b" ");
-    io::print_hex(1, answer.shown(), 16);
-    number(size);
-    number(fuel);
-    number(place);
-    true
+    rt.write_all(name)?;
+    number(rt, refused as u64)?;
+    let shown = answer.shown();
+    print!(rt; " {shown:016x}")?;
+    number(rt, size)?;
+    number(rt, fuel)?;
+    number(rt, place)?;
+    Ok(true)
 }
 
 // Bytes, two digits each.
-fn bytes(bytes: &[u8]) {
-    io::write_all(1, b" ");
-    let mut i = 0;
-    while i < bytes.len() {
-        io::print_hex(1, bytes[i] as u64, 2);
-        i += 1;
+fn bytes(rt: &impl Print, bytes: &[u8]) -> io::Result<()> {
+    rt.write_all(b" ")?;
+    for b in bytes {
+        print!(rt; "{b:02x}")?;
     }
-    io::write_all(1, b"\n");
+    rt.write_all(b"\n")
 }
 
 // The low 16 bits of each cell, four digits each.
-fn cells(cells: &[u64]) {
-    let mut i = 0;
-    while i < cells.len() {
-        io::write_all(1, b" ");
-        io::print_hex(1, cells[i] % 65536, 4);
-        i += 1;
+fn cells(rt: &impl Print, cells: &[u64]) -> io::Result<()> {
+    for cell in cells {
+        let low = *cell % 65536;
+        print!(rt; " {low:04x}")?;
     }
-    io::write_all(1, b"\n");
+    rt.write_all(b"\n")
 }
 
 // What a memory answered.
-pub(crate) fn memory(name: &[u8], m: GrownMemory, shown: &[u8]) {
+pub(crate) fn memory(rt: &impl Print, name: &[u8], m: GrownMemory, shown: &[u8]) -> io::Result<()> {
     let answer = m.answer;
     let place = m.limiter.at as u64;
-    if head(name, answer, m.memory.size, m.fuel.remaining, place) {
-        bytes(shown);
+    if head(rt, name, answer, m.memory.size, m.fuel.remaining, place)? {
+        bytes(rt, shown)?;
     }
+    Ok(())
 }
 
 // What a table answered.
-pub(crate) fn table(name: &[u8], t: GrownTable, shown: &[u64]) {
+pub(crate) fn table(rt: &impl Print, name: &[u8], t: GrownTable, shown: &[u64]) -> io::Result<()> {
     let answer = t.answer;
     let place = t.limiter.at as u64;
-    if head(name, answer, t.table.size, t.fuel.remaining, place) {
-        cells(shown);
+    if head(rt, name, answer, t.table.size, t.fuel.remaining, place)? {
+        cells(rt, shown)?;
     }
+    Ok(())
 }

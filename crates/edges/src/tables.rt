@@ -3,6 +3,7 @@ ghost use Rattle.std.specs.Prelude.{◌≡◌, length};
 
 use super::text::Order;
 use super::{print, settings, text, words};
+use std::io;
 use table::element::ElementSegment;
 use table::grow::GrownTable;
 use table::new::{CreatedTable, MadeTable};
@@ -274,16 +275,22 @@ fn act(x: Order, low: &[u8], t: GrownTable, cells: &mut [u64], items: &[u64]) ->
 }
 
 // One line.
-fn obey(line: &[u8], t: GrownTable, cells: &mut [u64], items: &[u64]) -> GrownTable {
+fn obey(
+    rt: &impl Print,
+    line: &[u8],
+    t: GrownTable,
+    cells: &mut [u64],
+    items: &[u64],
+) -> io::Result<GrownTable> {
     if text::passed_over(line) {
-        return t;
+        return Ok(t);
     }
     let mut low = [0u8; 20];
     let end = text::find(line, 0, b' ');
     let x = text::read_order(&line[end..line.len()], &mut low);
     let next = act(x, &low, t, cells, items);
-    print::table(&line[0..end], next, cells);
-    next
+    print::table(rt, &line[0..end], next, cells)?;
+    Ok(next)
 }
 
 // No cells yet.
@@ -298,28 +305,34 @@ fn fresh() -> GrownTable {
 }
 
 // The lines from a place on, up to the next section; answers where that is.
-fn lines(input: &[u8], from: usize, cells: &mut [u64], items: &[u64]) -> usize {
+fn lines(
+    rt: &impl Print,
+    input: &[u8],
+    from: usize,
+    cells: &mut [u64],
+    items: &[u64],
+) -> io::Result<usize> {
     let mut t = fresh();
     let mut at = from;
     while at < input.len() {
         let end = text::find(input, at, b'\n');
-        t = obey(&input[at..end], t, cells, items);
+        t = obey(rt, &input[at..end], t, cells, items)?;
         if input.len() <= end {
-            return end;
+            return Ok(end);
         }
         at = end + 1;
         if text::section_at(input, at) {
-            return at;
+            return Ok(at);
         }
     }
-    at
+    Ok(at)
 }
 
 // A section starts with dirty cells, and five items: 41 to 43 at the places from 1 on, beside dirty ones.
-pub(crate) fn section(input: &[u8], from: usize) -> usize {
+pub(crate) fn section(rt: &impl Print, input: &[u8], from: usize) -> io::Result<usize> {
     let mut cells = dirty();
     let mut items = [0xa5a5a5a5a5a5a5a5u64; 5];
     let given = [41u64, 42, 43];
     ElementSegment::new(RefType::Func, 1, &mut items, &given);
-    lines(input, from, &mut cells, &items)
+    lines(rt, input, from, &mut cells, &items)
 }

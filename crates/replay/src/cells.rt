@@ -3,35 +3,34 @@ ghost use Rattle.std.specs.Prelude.{◌+◌, ◌*◌, ◌≤◌, ◌<◌, length
 
 use machine::records::{CAPACITY, Machine};
 use memory::memory::Memory;
+use std::io;
 use table::table::Table;
 
+// Whether a write went well; where it did not, standard error says so.
+fn sent(rt: &impl Eprint, done: io::Result<()>) -> bool {
+    match done {
+        Ok(()) => true,
+        Err(error) => {
+            let _ = eprintln!(rt; "replay: standard output cannot be written: {error}");
+            false
+        }
+    }
+}
+
 // What a part of a buffer is called, its number and its size.
-fn head(name: &[u8], number: usize, size: u64) -> bool {
-    if !io::write_all(libc::STDOUT_FILENO, name) {
+fn head(rt: &(impl Print + Eprint), name: &[u8], number: usize, size: u64) -> bool {
+    if !sent(rt, rt.write_all(name)) {
         return false;
     }
-    if !io::print_hex(libc::STDOUT_FILENO, number as u64, 1) {
-        return false;
-    }
-    if !io::write_all(libc::STDOUT_FILENO, b" ") {
-        return false;
-    }
-    if !io::print_hex(libc::STDOUT_FILENO, size, 16) {
-        return false;
-    }
-    io::write_all(libc::STDOUT_FILENO, b"\n")
+    sent(rt, println!(rt; "{number:x} {size:016x}"))
 }
 
 // The first so many bytes of a buffer.
-pub(crate) fn send(out: &[u8], n: usize) -> bool {
+pub(crate) fn send(rt: &(impl Print + Eprint), out: &[u8], n: usize) -> bool {
     if out.len() < n {
         return false;
     }
-    if io::write_all(libc::STDOUT_FILENO, &out[0..n]) {
-        return true;
-    }
-    os::fail(b"replay: standard output cannot be written");
-    false
+    sent(rt, rt.write_all(&out[0..n]))
 }
 
 fn put_two(out: &mut [u8], at: usize, first: u8, second: u8)
@@ -45,25 +44,24 @@ fn put_two(out: &mut [u8], at: usize, first: u8, second: u8)
 fn put_byte(out: &mut [u8], at: usize, b: u8)
     requires { at + 2 ≤ length out.old }
 {
-    let mut text = [0u8; 16];
-    io::hex(b as u64, 2, &mut text);
-    put_two(out, at, text[0], text[1]);
+    let digits = b"0123456789abcdef";
+    let high = digits[(b / 16) as usize];
+    let low = digits[(b % 16) as usize];
+    put_two(out, at, high, low);
 }
 
 // Two digits for each byte, and LF.
 fn put_line(out: &mut [u8], part: &[u8])
     requires { 2 * length part.now < length out.old }
 {
-    let mut i = 0;
-    while i < part.len() {
-        put_byte(out, 2 * i, part[i]);
-        i += 1;
+    for (i, b) in part.iter().enumerate() {
+        put_byte(out, 2 * i, *b);
     }
-    out[2 * i] = 10;
+    out[2 * part.len()] = 10;
 }
 
 // A line of at most 32 bytes.
-fn byte_line(part: &[u8], out: &mut [u8]) -> bool {
+fn byte_line(rt: &(impl Print + Eprint), part: &[u8], out: &mut [u8]) -> bool {
     if 32 < part.len() {
         return false;
     }
@@ -71,45 +69,40 @@ fn byte_line(part: &[u8], out: &mut [u8]) -> bool {
         return false;
     }
     put_line(out, part);
-    send(out, 2 * part.len() + 1)
+    send(rt, out, 2 * part.len() + 1)
 }
 
 // Bytes in lines of 32.
-fn byte_lines(bytes: &[u8], out: &mut [u8]) -> bool {
-    let mut at = 0;
-    while at < bytes.len() {
-        if bytes.len() - at < 32 {
-            return byte_line(&bytes[at..bytes.len()], out);
-        }
-        let end = at + 32;
-        if !byte_line(&bytes[at..end], out) {
+fn byte_lines(rt: &(impl Print + Eprint), bytes: &[u8], out: &mut [u8]) -> bool {
+    for part in bytes.chunks(32) {
+        if !byte_line(rt, part, out) {
             return false;
         }
-        at = end;
     }
     true
 }
 
 // A reference in a line of its own.
-fn cell_line(cell: u64) -> bool {
-    if !io::print_hex(libc::STDOUT_FILENO, cell, 16) {
-        return false;
-    }
-    io::write_all(libc::STDOUT_FILENO, b"\n")
+fn cell_line(rt: &(impl Print + Eprint), cell: u64) -> bool {
+    sent(rt, println!(rt; "{cell:016x}"))
 }
 
-fn cell_lines(cells: &[u64]) -> bool {
-    let mut i = 0;
-    while i < cells.len() {
-        if !cell_line(cells[i]) {
+fn cell_lines(rt: &(impl Print + Eprint), cells: &[u64]) -> bool {
+    for cell in cells {
+        if !cell_line(rt, *cell) {
             return false;
         }
-        i += 1;
     }
     true
 }
 
-fn memory(number: usize, memory: Memory, bytes: &[u8], out: &mut [u8]) -> bool {
+fn memory(
+    rt: &(impl Print + Eprint),
+    number: usize,
+    memory: Memory,
+    bytes: &[u8],
+    out: &mut [u8],
+) -> bool {
     let start = memory.start;
     let size = memory.size;
     if bytes.len() < start {
@@ -119,13 +112,13 @@ fn memory(number: usize, memory: Memory, bytes: &[u8], out: &mut [u8]) -> bool {
         return false;
     }
     let end = start + (size as usize);
-    if !head(b"memory ", number, size) {
+    if !head(rt, b"memory ", number, size) {
         return false;
     }
-    byte_lines(&bytes[start..end], out)
+    byte_lines(rt, &bytes[start..end], out)
 }
 
-fn table(number: usize, table: Table, cells: &[u64]) -> bool {
+fn table(rt: &(impl Print + Eprint), number: usize, table: Table, cells: &[u64]) -> bool {
     let start = table.start;
     let size = table.size;
     if cells.len() < start {
@@ -135,46 +128,48 @@ fn table(number: usize, table: Table, cells: &[u64]) -> bool {
         return false;
     }
     let end = start + (size as usize);
-    if !head(b"table ", number, size) {
+    if !head(rt, b"table ", number, size) {
         return false;
     }
-    cell_lines(&cells[start..end])
+    cell_lines(rt, &cells[start..end])
 }
 
-fn memories(machine: Machine, bytes: &[u8], out: &mut [u8]) -> bool {
+fn memories(rt: &(impl Print + Eprint), machine: Machine, bytes: &[u8], out: &mut [u8]) -> bool {
     let count = machine.counts.memories;
-    let mut i = 0;
-    while i < CAPACITY {
+    for i in 0..CAPACITY {
         if count <= i {
             return true;
         }
-        if !memory(i, machine.memories[i], bytes, out) {
+        if !memory(rt, i, machine.memories[i], bytes, out) {
             return false;
         }
-        i += 1;
     }
     true
 }
 
-fn tables(machine: Machine, cells: &[u64]) -> bool {
+fn tables(rt: &(impl Print + Eprint), machine: Machine, cells: &[u64]) -> bool {
     let count = machine.counts.tables;
-    let mut i = 0;
-    while i < CAPACITY {
+    for i in 0..CAPACITY {
         if count <= i {
             return true;
         }
-        if !table(i, machine.tables[i], cells) {
+        if !table(rt, i, machine.tables[i], cells) {
             return false;
         }
-        i += 1;
     }
     true
 }
 
 // Every memory's bytes, by way of a buffer, then every table's references; false where not all of them are written.
-pub(crate) fn send_all(machine: Machine, bytes: &[u8], cells: &[u64], out: &mut [u8]) -> bool {
-    if !memories(machine, bytes, out) {
+pub(crate) fn send_all(
+    rt: &(impl Print + Eprint),
+    machine: Machine,
+    bytes: &[u8],
+    cells: &[u64],
+    out: &mut [u8],
+) -> bool {
+    if !memories(rt, machine, bytes, out) {
         return false;
     }
-    tables(machine, cells)
+    tables(rt, machine, cells)
 }

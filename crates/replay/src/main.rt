@@ -4,7 +4,7 @@
 
 mod cells;
 
-ghost use Rattle.std.specs.Prelude.{◌≤◌, length};
+ghost use Rattle.std.specs.Prelude.{◌≤◌, length, IfOk};
 
 use lent::operate::{Operated, operate_kept};
 use lines::answer_line::write_answer_line;
@@ -12,6 +12,8 @@ use lines::code::{Read, read_line};
 use lines::input::end_line;
 use lines::session::Session;
 use machine::records::Machine;
+use std::io;
+use std::io::Read as _;
 use types::answer::{Answer, Refusal, Value};
 use types::fuel::FuelCosts;
 
@@ -22,22 +24,40 @@ struct Replayed {
     fine: bool,
 }
 
+// Reads until the row is full or the input ends; answers how many bytes came.
+fn read_full(from: &mut impl io::Read, row: &mut [u8]) -> io::Result<usize>
+    ensures { IfOk result (λ n. n ≤ length row.new) }
+{
+    let mut done = 0;
+    while done < row.len() {
+        let n = from.read(&mut row[done..])?;
+        if n == 0 {
+            return Ok(done);
+        }
+        done += n;
+    }
+    Ok(done)
+}
+
+// Standard error says that a read failed.
+fn unread(rt: &impl Eprint, error: io::Error) {
+    let _ = eprintln!(rt; "replay: standard input cannot be read: {error}");
+}
+
 // Whether the input is at its end; where it is not, standard error says so.
-fn at_end() -> bool {
+fn at_end(rt: &impl Eprint, from: &mut impl io::Read) -> bool {
     let mut one = [0u8; 1];
-    let got = libc::read(libc::STDIN_FILENO, &mut one);
-    if got < 0 {
-        os::fail(b"replay: standard input cannot be read");
-        return false;
+    match from.read(&mut one) {
+        Ok(0) => true,
+        Ok(_) => {
+            let _ = eprintln!(rt; "replay: the input has more than 262144 bytes");
+            false
+        }
+        Err(error) => {
+            unread(rt, error);
+            false
+        }
     }
-    if got > 0 {
-        io::write_all(
-            libc::STDERR_FILENO,
-            b"replay: the input has more than 262144 bytes\n",
-        );
-        return false;
-    }
-    true
 }
 
 // 18: the machine stays.
@@ -83,14 +103,14 @@ fn one_line(
 }
 
 // The answer's line is written and sent.
-fn tell(out: &mut [u8], done: Operated) -> bool {
+fn tell(rt: &(impl Print + Eprint), out: &mut [u8], done: Operated) -> bool {
     let answer = done.answer;
     let machine = done.machine;
     let fuel = machine.fuel;
     if !write_answer_line(out, answer, fuel) {
         return false;
     }
-    cells::send(out, 37)
+    cells::send(rt, out, 37)
 }
 
 // The first line's end from a place on, or the length.
@@ -110,6 +130,7 @@ fn line_end(input: &[u8], from: usize) -> usize
 
 // All lines of the input, the last of which ends in LF.
 fn answer_all(
+    rt: &(impl Print + Eprint),
     start: Machine,
     bytes: &mut [u8],
     cells: &mut [u64],
@@ -123,7 +144,7 @@ fn answer_all(
         let e = line_end(input, at);
         let done = one_line(machine, at == 0, bytes, cells, items, &input[at..e]);
         machine = done.machine;
-        if !tell(out, done) {
+        if !tell(rt, out, done) {
             return Replayed {
                 machine,
                 fine: false,
@@ -159,6 +180,7 @@ fn ended(input: &mut [u8], n: usize) -> usize {
 
 // The answers to the first bytes of the input, then the cells.
 fn replay(
+    rt: &(impl Print + Eprint),
     bytes: &mut [u8],
     cells: &mut [u64],
     items: &mut [u64],
@@ -170,37 +192,56 @@ fn replay(
         return;
     }
     let start = Machine::new(true, FuelCosts::default_costs());
-    let last = answer_all(start, bytes, cells, items, &input[0..end], out);
+    let last = answer_all(rt, start, bytes, cells, items, &input[0..end], out);
     if !last.fine {
-        io::write_all(libc::STDERR_FILENO, b"replay: not all lines are answered\n");
+        let _ = eprintln!(rt; "replay: not all lines are answered");
         return;
     }
     let machine = last.machine;
-    if !cells::send_all(machine, bytes, cells, out) {
-        os::fail(b"replay: not all cells are written");
+    if !cells::send_all(rt, machine, bytes, cells, out) {
+        let _ = eprintln!(rt; "replay: not all cells are written");
     }
 }
 
 // All of the input, or nothing where it does not fit.
-fn run(bytes: &mut [u8], cells: &mut [u64], items: &mut [u64], input: &mut [u8], out: &mut [u8]) {
+fn run(
+    rt: &(impl Print + Eprint),
+    from: &mut impl io::Read,
+    bytes: &mut [u8],
+    cells: &mut [u64],
+    items: &mut [u64],
+    input: &mut [u8],
+    out: &mut [u8],
+) {
     let room = input.len();
     if room == 0 {
         return;
     }
     // the last place is for an LF
-    let got = io::read_full(libc::STDIN_FILENO, &mut input[0..room - 1]);
-    if !at_end() {
-        return;
+    match read_full(from, &mut input[0..room - 1]) {
+        Ok(got) => {
+            if at_end(rt, from) {
+                let end = ended(input, got);
+                replay(rt, bytes, cells, items, input, end, out);
+            }
+        }
+        Err(error) => unread(rt, error),
     }
-    let end = ended(input, got);
-    replay(bytes, cells, items, input, end, out);
 }
 
-fn main() {
+fn main(rt: HostRuntime) {
     let mut bytes = [0xa5u8; 65536];
     let mut cells = [0x5a5a5a5a5a5a5a5au64; 1024];
     let mut items = [0x5a5a5a5a5a5a5a5au64; 32];
     let mut input = [0u8; 262145];
     let mut out = [0u8; 65536];
-    run(&mut bytes, &mut cells, &mut items, &mut input, &mut out);
+    run(
+        &rt,
+        &mut rt.stdin(),
+        &mut bytes,
+        &mut cells,
+        &mut items,
+        &mut input,
+        &mut out,
+    );
 }

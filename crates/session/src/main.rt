@@ -8,6 +8,7 @@ ghost use Rattle.lines.specs.Input.{kept_of};
 use lines::input::{end_line, keep};
 use lines::session::{Session, piece};
 use machine::row;
+use std::io::Read;
 use types::fuel::FuelCosts;
 
 // A session, how many bytes at the start of the input are still to be used, and whether all went well so far.
@@ -39,31 +40,37 @@ struct Came {
     fine: bool,
 }
 
-fn read_some(part: &mut [u8]) -> Came
+fn read_some(rt: &impl Eprint, from: &mut impl Read, part: &mut [u8]) -> Came
     ensures { result.count ≤ length part.new }
 {
-    let got = libc::read(libc::STDIN_FILENO, part);
-    let fine = got >= 0;
-    if !fine {
-        os::fail(b"session: standard input cannot be read");
+    match from.read(part) {
+        Ok(count) => Came { count, fine: true },
+        Err(error) => {
+            let _ = eprintln!(rt; "session: standard input cannot be read: {error}");
+            Came {
+                count: 0,
+                fine: false,
+            }
+        }
     }
-    let count = io::count(got, part);
-    Came { count, fine }
 }
 
-fn send(out: &[u8], n: usize) -> bool {
+fn send(rt: &(impl Print + Eprint), out: &[u8], n: usize) -> bool {
     if out.len() < n {
         return false;
     }
-    if io::write_all(libc::STDOUT_FILENO, &out[0..n]) {
-        return true;
+    match rt.write_all(&out[0..n]) {
+        Ok(()) => true,
+        Err(error) => {
+            let _ = eprintln!(rt; "session: standard output cannot be written: {error}");
+            false
+        }
     }
-    os::fail(b"session: standard output cannot be written");
-    false
 }
 
 // The lines of a piece, as far as there is room for their answers.
 fn handle(
+    rt: &(impl Print + Eprint),
     session: Session,
     words: &mut [u64],
     bytes: &mut [u8],
@@ -77,12 +84,9 @@ fn handle(
     let p = piece(session, words, bytes, cells, items, input, out);
     let used = p.used;
     let next = p.session;
-    let fine = send(out, p.wrote);
+    let fine = send(rt, out, p.wrote);
     if p.number != 0 {
-        io::write_all(
-            libc::STDERR_FILENO,
-            b"session: the machine's words are damaged\n",
-        );
+        let _ = eprintln!(rt; "session: the machine's words are damaged");
         return Handled {
             session: next,
             used,
@@ -98,6 +102,7 @@ fn handle(
 
 // All whole lines of the input.
 fn drain(
+    rt: &(impl Print + Eprint),
     session: Session,
     words: &mut [u64],
     bytes: &mut [u8],
@@ -112,6 +117,7 @@ fn drain(
     let mut at = 0;
     while at < input.len() {
         let h = handle(
+            rt,
             next,
             words,
             bytes,
@@ -160,6 +166,7 @@ fn settle(h: Handled, input: &mut [u8], end: usize) -> Host
 
 // The whole lines of the first bytes, and what is left of them at the start.
 fn use_up(
+    rt: &(impl Print + Eprint),
     host: Host,
     words: &mut [u64],
     bytes: &mut [u8],
@@ -173,12 +180,14 @@ fn use_up(
     if input.len() < end {
         return host;
     }
-    let h = drain(session, words, bytes, cells, items, &input[0..end], out);
+    let h = drain(rt, session, words, bytes, cells, items, &input[0..end], out);
     settle(h, input, end)
 }
 
 // One read, and the lines in what came.
 fn turn(
+    rt: &(impl Print + Eprint),
+    from: &mut impl Read,
     host: Host,
     words: &mut [u64],
     bytes: &mut [u8],
@@ -192,7 +201,7 @@ fn turn(
         return Turned { host, more: false };
     }
     let room = input.len();
-    let came = read_some(&mut input[kept..room]);
+    let came = read_some(rt, from, &mut input[kept..room]);
     if came.count == 0 {
         let mut last = host;
         last.fine = came.fine;
@@ -202,6 +211,7 @@ fn turn(
         };
     }
     let next = use_up(
+        rt,
         host,
         words,
         bytes,
@@ -219,6 +229,7 @@ fn turn(
 
 // A last line that lacks its LF gets it.
 fn finish(
+    rt: &(impl Print + Eprint),
     host: Host,
     words: &mut [u64],
     bytes: &mut [u8],
@@ -229,11 +240,13 @@ fn finish(
 ) {
     let session = host.session;
     let end = end_line(session, input, host.kept);
-    use_up(host, words, bytes, cells, items, input, out, end);
+    use_up(rt, host, words, bytes, cells, items, input, out, end);
 }
 
-// A proved loop has to end, and nothing says that the input does: the turns are counted down from a number that no run uses up.
+// A proved loop has to end, and nothing says that the input does: the turns are counted up to a number that no run reaches.
 fn read_all(
+    rt: &(impl Print + Eprint),
+    from: &mut impl Read,
     start: Host,
     words: &mut [u64],
     bytes: &mut [u8],
@@ -242,20 +255,20 @@ fn read_all(
     input: &mut [u8],
     out: &mut [u8],
 ) -> Host {
-    let mut turns = u64::MAX;
     let mut host = start;
-    while turns > 0 {
-        let t = turn(host, words, bytes, cells, items, input, out);
+    for _ in 0..u64::MAX {
+        let t = turn(rt, from, host, words, bytes, cells, items, input, out);
         if !t.more {
             return t.host;
         }
         host = t.host;
-        turns -= 1;
     }
     host
 }
 
 fn run(
+    rt: &(impl Print + Eprint),
+    from: &mut impl Read,
     host: Host,
     words: &mut [u64],
     bytes: &mut [u8],
@@ -264,13 +277,13 @@ fn run(
     input: &mut [u8],
     out: &mut [u8],
 ) {
-    let last = read_all(host, words, bytes, cells, items, input, out);
+    let last = read_all(rt, from, host, words, bytes, cells, items, input, out);
     if last.fine {
-        finish(last, words, bytes, cells, items, input, out);
+        finish(rt, last, words, bytes, cells, items, input, out);
     }
 }
 
-fn main() {
+fn main(rt: HostRuntime) {
     let session = Session::new();
     let host = Host {
         session,
@@ -285,6 +298,14 @@ fn main() {
     let mut out = [0u8; 65536];
     row::fresh(&mut words, true, FuelCosts::default_costs());
     run(
-        host, &mut words, &mut bytes, &mut cells, &mut items, &mut input, &mut out,
+        &rt,
+        &mut rt.stdin(),
+        host,
+        &mut words,
+        &mut bytes,
+        &mut cells,
+        &mut items,
+        &mut input,
+        &mut out,
     );
 }

@@ -3,6 +3,7 @@ use super::lines::answer_line;
 use machine::operation::{FuelOp, Items, MemoryOp, Operation};
 use machine::row;
 use memory::access::{LoadKind, StoreKind};
+use std::io;
 use types::fuel::FuelCosts;
 use types::limits::Limits;
 use types::memory_ty::WantedMemory;
@@ -46,33 +47,36 @@ fn new_memory(room: u64, wide: bool, minimum: u64, exponent: u8) -> Operation {
 
 // One operation whose answer is shown.
 fn show(
+    rt: &impl Print,
     name: &[u8],
     words: &mut [u64],
     bytes: &mut [u8],
     cells: &mut [u64],
     items: &mut [u64],
     op: Operation,
-) {
+) -> io::Result<()> {
     let answer = row::operate(words, bytes, cells, items, op);
-    answer_line(name, answer);
+    answer_line(rt, name, answer)
 }
 
 // P6: a minimum of 2^64 bytes.
 pub(crate) fn minimum_of_all(
+    rt: &impl Print,
     words: &mut [u64],
     bytes: &mut [u8],
     cells: &mut [u64],
     items: &mut [u64],
-) {
+) -> io::Result<()> {
     fresh(words, 64);
     show(
+        rt,
         b"P6 creation",
         words,
         bytes,
         cells,
         items,
         new_memory(0, true, 281474976710656, 16),
-    );
+    )
 }
 
 fn two_cells() -> Operation {
@@ -123,24 +127,53 @@ fn empty_init(to: u64) -> Operation {
 }
 
 // P7: init of length 0 at the size, and one further.
-fn two_inits(words: &mut [u64], bytes: &mut [u8], cells: &mut [u64], items: &mut [u64]) {
-    show(b"P7 at the size", words, bytes, cells, items, empty_init(2));
-    show(b"P7 one further", words, bytes, cells, items, empty_init(3));
-}
-
-pub(crate) fn init_at_the_size(
+fn two_inits(
+    rt: &impl Print,
     words: &mut [u64],
     bytes: &mut [u8],
     cells: &mut [u64],
     items: &mut [u64],
-) {
+) -> io::Result<()> {
+    show(
+        rt,
+        b"P7 at the size",
+        words,
+        bytes,
+        cells,
+        items,
+        empty_init(2),
+    )?;
+    show(
+        rt,
+        b"P7 one further",
+        words,
+        bytes,
+        cells,
+        items,
+        empty_init(3),
+    )
+}
+
+pub(crate) fn init_at_the_size(
+    rt: &impl Print,
+    words: &mut [u64],
+    bytes: &mut [u8],
+    cells: &mut [u64],
+    items: &mut [u64],
+) -> io::Result<()> {
     fresh(words, 64);
     table_and_segment(words, bytes, cells, items);
-    two_inits(words, bytes, cells, items);
+    two_inits(rt, words, bytes, cells, items)
 }
 
 // P8: B 0 and fuel 5: a copy and an init of length 0.
-fn copy_and_init(words: &mut [u64], bytes: &mut [u8], cells: &mut [u64], items: &mut [u64]) {
+fn copy_and_init(
+    rt: &impl Print,
+    words: &mut [u64],
+    bytes: &mut [u8],
+    cells: &mut [u64],
+    items: &mut [u64],
+) -> io::Result<()> {
     let copy = Operation::TableCopy {
         into: 0,
         source: 0,
@@ -150,8 +183,8 @@ fn copy_and_init(words: &mut [u64], bytes: &mut [u8], cells: &mut [u64], items: 
             len: 0,
         },
     };
-    show(b"P8 copy", words, bytes, cells, items, copy);
-    show(b"P8 init", words, bytes, cells, items, empty_init(0));
+    show(rt, b"P8 copy", words, bytes, cells, items, copy)?;
+    show(rt, b"P8 init", words, bytes, cells, items, empty_init(0))
 }
 
 fn five_units(words: &mut [u64], bytes: &mut [u8], cells: &mut [u64], items: &mut [u64]) {
@@ -163,14 +196,15 @@ fn five_units(words: &mut [u64], bytes: &mut [u8], cells: &mut [u64], items: &mu
 }
 
 pub(crate) fn length_zero_with_b_zero(
+    rt: &impl Print,
     words: &mut [u64],
     bytes: &mut [u8],
     cells: &mut [u64],
     items: &mut [u64],
-) {
+) -> io::Result<()> {
     five_units(words, bytes, cells, items);
     table_and_segment(words, bytes, cells, items);
-    copy_and_init(words, bytes, cells, items);
+    copy_and_init(rt, words, bytes, cells, items)
 }
 
 fn store_ff() -> Operation {
@@ -204,28 +238,47 @@ fn load(kind: LoadKind, pointer: u64, offset: u64) -> Operation {
 }
 
 // P9.
-fn two_loads(words: &mut [u64], bytes: &mut [u8], cells: &mut [u64], items: &mut [u64]) {
+fn two_loads(
+    rt: &impl Print,
+    words: &mut [u64],
+    bytes: &mut [u8],
+    cells: &mut [u64],
+    items: &mut [u64],
+) -> io::Result<()> {
     let narrow = load(LoadKind::I32From8S, 0, 0);
-    show(b"P9 i32 from 8s", words, bytes, cells, items, narrow);
+    show(rt, b"P9 i32 from 8s", words, bytes, cells, items, narrow)?;
     let wide = load(LoadKind::I64From8U, 0, 0);
-    show(b"P9 i64 from 8u", words, bytes, cells, items, wide);
+    show(rt, b"P9 i64 from 8u", words, bytes, cells, items, wide)
 }
 
 // P10.
-fn far_load(words: &mut [u64], bytes: &mut [u8], cells: &mut [u64], items: &mut [u64]) {
+fn far_load(
+    rt: &impl Print,
+    words: &mut [u64],
+    bytes: &mut [u8],
+    cells: &mut [u64],
+    items: &mut [u64],
+) -> io::Result<()> {
     let far = load(LoadKind::I32From8U, 18446744073709551615, 1);
     show(
+        rt,
         b"P10 pointer 2^64-1, offset 1",
         words,
         bytes,
         cells,
         items,
         far,
-    );
+    )
 }
 
-pub(crate) fn byte_ff(words: &mut [u64], bytes: &mut [u8], cells: &mut [u64], items: &mut [u64]) {
+pub(crate) fn byte_ff(
+    rt: &impl Print,
+    words: &mut [u64],
+    bytes: &mut [u8],
+    cells: &mut [u64],
+    items: &mut [u64],
+) -> io::Result<()> {
     one_byte(words, bytes, cells, items);
-    two_loads(words, bytes, cells, items);
-    far_load(words, bytes, cells, items);
+    two_loads(rt, words, bytes, cells, items)?;
+    far_load(rt, words, bytes, cells, items)
 }
