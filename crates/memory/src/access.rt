@@ -113,6 +113,7 @@ impl StoreKind {
 }
 
 // The address of an access of `n` bytes within `size` bytes: the sum fits, and so do the bytes behind it.
+#[tactic(auto, using(crate::proofs::Accesses::address_over, crate::proofs::Accesses::address_at, crate::proofs::Accesses::address_past, types::proofs::Picks::known_test))]
 pub fn locate(size: u64, ptr: u64, offset: u64, n: u64) -> Address
     ensures { result ≡ address_of size ptr offset n }
 {
