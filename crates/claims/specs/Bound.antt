@@ -30,7 +30,7 @@ totals r m b (op ∷ ops) =
 abbrev pub most_r : ℕ
 most_r = 16
 
--- B-as-F + (B-1)·K
+-- B·F + (B-1)·K
 abbrev pub most_bytes : ℕ → ℕ → ℕ → ℕ
 most_bytes b f k = b * f + (b - 1) * k
 

@@ -40,7 +40,7 @@ pub record Claims : Type 0 where
   pub copy_steps_lem : (r : ℕ) (m : Machine) (b : Buffers) (into source : ℕ) (s : CopySpan) → accepted (step r m b (Operation.TableCopy into source s)).answer ≡ true
       → (step r m b (Operation.TableCopy into source s)).buffers.cells
       ≡ copy_steps s.len b.cells (table_at m into).start s.to (table_at m source).start s.from
-  -- 4. Metering on, B at least 1, R at most 16: the bytes written are at most B-as-F + (B-1)·K.
+  -- 4. Metering on, B at least 1, R at most 16: the bytes written are at most B·F + (B-1)·K.
   pub byte_bound : (r : ℕ) (costs : FuelCosts) (b : Buffers) (ops : List Operation) → r ≤ most_r → 1 ≤ costs.copied
       → (totals r (fresh_machine true costs) b ops).bytes
       ≤ most_bytes costs.copied (totals r (fresh_machine true costs) b ops).units (totals r (fresh_machine true costs) b ops).passed
