@@ -1,14 +1,14 @@
 -- Machines that agree on what an operation names and on fuel, script, numbers, room left and segments: the same answer, fuel and script. Assumes nothing.
 use Rattle.types.proofs.Prelude.{refl, sym, ap, ◌∙◌, arith, leb-false, ltb-true, pick_true, pick_false, both_true, both_1, both_2, either}
 use Rattle.types.proofs.Picks.{pick_ap}
-use Rattle.std.specs.Prelude.{ℕ, ◌+◌, ◌-◌, ◌<◌, ◌≡◌, Bool, true, false, List, leb, length, get_or}
+use Rattle.std.specs.Prelude.{ℕ, ◌+◌, ◌-◌, ◌<◌, ◌≡◌, Bool, true, false, List, leb, length, get_or, Ok, Err, Some, None, Result, Option}
 use Rattle.types.specs.Names.{pick, Done, done, Answer, Spanned, Limiter, TypedRawRef, CopySpan, WantedMemory, WantedTable}
 use Rattle.memory.specs.Names.{width_bytes, load_width, sound_memory, LoadKind, StoreKind, Memory, GrownMemory, CreatedMemory}
 use Rattle.memory.specs.{LittleEndian.le_value, Access.address_of, Access.extend, Access.loaded_of, Access.load_found, Access.load_at, Access.store_found}
-use Rattle.memory.specs.{Access.store_at, Memory.pages_of, Memory.load_memory, Memory.store_memory, Grow.grow_memory, declared.access.Address.Address}
-use Rattle.memory.specs.{declared.access.Address.TheVariants.At, declared.access.Address.TheVariants.Outside, New.new_memory}
+use Rattle.memory.specs.{Access.store_at, Memory.pages_of, Memory.load_memory, Memory.store_memory, Grow.grow_memory}
+use Rattle.memory.specs.{New.new_memory}
 use Rattle.memory.proofs.Accesses.{address_is}
-use Rattle.table.specs.Names.{sound_table, sound_segment, Table, GrownTable, ElementSegment, CreatedTable, MadeSegment}
+use Rattle.table.specs.Names.{sound_table, sound_segment, Table, GrownTable, ElementSegment, CreatedTable}
 use Rattle.table.specs.{Grow.grow_table, Fill.fill_table, Copy.copy_table, Init.init_table, New.new_table}
 use Rattle.table.specs.Table.{get_table, set_sound, set_table}
 use Rattle.machine.specs.Names.{Buffers, buffers, memory_at, table_at, segment_at, next_byte, next_cell, sound_over, well_formed, Stepped, Machine}
@@ -20,11 +20,10 @@ use Rattle.machine.specs.Tables.{perform_table, on_table, made_table, new_table_
 use Rattle.machine.proofs.Rooms.{memory_sound, table_sound, segment_sound, next_byte_inside}
 use Rattle.claims.specs.Alike.{SameMemory, SameTable, Watched, names_only, Agree}
 use Rattle.claims.proofs.{Exiting.room_inside, TableExiting.cells_sound, TableExiting.two_sound, Cuts.part_alike, Cuts.cell_alike}
-use Rattle.types.specs.declared.answer.Answer.TheVariants as answer
-use Rattle.table.specs.declared.element.MadeSegment.TheVariants as making_segment
 use Rattle.machine.specs.declared.operation.Operation.TheVariants as op
 use Rattle.machine.specs.declared.operation.MemoryOp.TheVariants as memory
 use Rattle.machine.specs.declared.operation.TableOp.TheVariants as table
+use Rattle.types.specs.declared.answer.Refusal.{Refusal}
 
 -- what a host sees of a result with its cells; shut, so that it goes down a chain of checks
 unfoldable sight : {A : Type 0} → (A → Fueled) → Done A → Fueled
@@ -101,11 +100,11 @@ module _ (r : ℕ) (m : Machine) (b : Buffers) (ms : List Memory) (ts : List Tab
         n : ℕ
         n = width_bytes (load_width k)
 
-        found : (d : Address) → address_of (memory_at m' i).size ptr offset n ≡ d → load_found k b.bytes (memory_at m i).start d ≡ load_found k bs (memory_at m' i).start d
-        found Outside q = refl
-        found (At x) q =
+        found : (d : Option ℕ) → address_of (memory_at m' i).size ptr offset n ≡ d → load_found k b.bytes (memory_at m i).start d ≡ load_found k bs (memory_at m' i).start d
+        found None q = refl
+        found (Some x) q =
             let g = (address_is (memory_at m' i).size ptr offset n x q).1 in
-            ap (λ (l : List ℕ). answer.Value (extend k (le_value l)))
+            ap (λ (l : List ℕ). Ok (extend k (le_value l)))
             (part_alike b.bytes bs _ _ _ _ x n w.size (omega (arith, w.size)) w.bytes)
 
     -- 14: the answer is the same
@@ -186,10 +185,10 @@ module _ (r : ℕ) (m : Machine) (b : Buffers) (ms : List Memory) (ts : List Tab
   new_table_alike room w v t t' = simp (chain, cells_sound m b e room t, cells_sound m' b' e' room t')
 
   -- 29: a segment made
-  new_segment_alike : (x : MadeSegment) → of_out (made_segment m x) ≡ of_out (made_segment m' x)
+  new_segment_alike : (x : Result ElementSegment Refusal) → of_out (made_segment m x) ≡ of_out (made_segment m' x)
   unfolding made_segment
-  new_segment_alike (making_segment.Refused x) = refl
-  new_segment_alike (making_segment.Made x) = refl
+  new_segment_alike (Err x) = refl
+  new_segment_alike (Ok x) = refl
 
   -- the watched instances are the same in both
   module _ (w : Watched) (g : Agree w m b m' b') where

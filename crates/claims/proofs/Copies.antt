@@ -1,20 +1,19 @@
 -- A copy by two numbers, equal or not, is the standard's steps. Assumes nothing.
 use Rattle.types.proofs.Prelude.{refl, false≢true}
-use Rattle.std.specs.Prelude.{ℕ, ◌≡◌, true}
+use Rattle.std.specs.Prelude.{ℕ, ◌≡◌, true, Ok, Err}
 use Rattle.types.specs.{Names.Done, Names.Answer, Names.Value, Names.CopySpan, Steps.copy_steps}
 use Rattle.table.proofs.Frames.{copy_frame}
 use Rattle.machine.specs.{Names.Buffers, Names.table_at, Names.Machine, Tables.copy_on, Step.Performed, Step.on_cells, Step.perform, Step.decide, Step.step}
 use Rattle.machine.specs.declared.outcome.Outcome.{Outcome}
 use Rattle.claims.specs.Answers.{accepted}
 use Rattle.claims.proofs.Exiting.{branch}
-use Rattle.types.specs.declared.answer.Answer.TheVariants as answer
 use Rattle.machine.specs.declared.operation.Operation.TheVariants as op
 
 -- what is accepted is a value
-valued : (a : Answer) {C : Type 0} → accepted a ≡ true → ((v : Value) → a ≡ answer.Value v → C) → C
+valued : (a : Answer) {C : Type 0} → accepted a ≡ true → ((v : Value) → a ≡ Ok v → C) → C
 unfolding accepted
-valued (answer.Value v) e f = f v refl
-valued (answer.Refusal x) e f = absurd (false≢true e)
+valued (Ok v) e f = f v refl
+valued (Err x) e f = absurd (false≢true e)
 
 module _ (r : ℕ) (m : Machine) (b : Buffers) (into source : ℕ) (s : CopySpan) where
   -- where it is accepted, the cells are those that the steps leave

@@ -1,14 +1,13 @@
 -- How an operation ends: accepted where a test holds, or refused, with all that it leaves. Assumes nothing.
-use Rattle.std.specs.Prelude.{ℕ, ◌≡◌, Bool, true, false}
+use Rattle.std.specs.Prelude.{ℕ, ◌≡◌, Bool, true, false, Err}
 use Rattle.types.specs.{Names.pick, Names.paid, Names.Refusal, Names.Fuel, Names.Limiter}
 use Rattle.machine.specs.Names.{Buffers, sound_over, metered, Stepped, step, Machine, Operation}
 use Rattle.claims.specs.{Answers.accepted, Answers.listed, Metered.price_of, Metered.paid_refusal, Effects.effects, Effects.accepted_step}
 use Rattle.claims.specs.{Script.heard, Script.moved_by}
-use Rattle.types.specs.declared.answer.Answer.TheVariants as answer
 
 -- what a refusal leaves: all but fuel and limiter
 abbrev pub stays : Machine → Buffers → Refusal → Fuel → Limiter → Stepped
-stays m b x f l = record { answer = answer.Refusal x; machine = metered m f l; buffers = b }
+stays m b x f l = record { answer = Err x; machine = metered m f l; buffers = b }
 
 -- a refusal with the fuel and the limiter after it
 pub record Refusing (r : ℕ) (m : Machine) (b : Buffers) (op : Operation) (when : Bool) (x : Refusal) (f : Fuel) (l : Limiter) : Type 0 where

@@ -1,7 +1,7 @@
 -- What every proof of an operation's exits uses: a step comes to its checks, a check has two ways, and each exit is described. Assumes nothing.
 use Rattle.types.proofs.Prelude.{refl, sym, ap, subst, ◌∙◌, arith, leb-true, ltb-true, ltb-false, le-leb, lt-leb, pick_true, pick_false, both_true, both_left}
 use Rattle.types.proofs.{Prelude.both_right, Prelude.both_then, Picks.pick_same}
-use Rattle.std.specs.Prelude.{ℕ, ◌+◌, ◌-◌, ◌≤◌, ◌<◌, ◌≡◌, Bool, true, false, List, eqb, leb, ltb}
+use Rattle.std.specs.Prelude.{ℕ, ◌+◌, ◌-◌, ◌≤◌, ◌<◌, ◌≡◌, Bool, true, false, List, eqb, leb, ltb, Err}
 use Rattle.types.specs.Names.{unless, Done, done, span_done, refusal, refuse, accept, short, paid, says_of, moved, no_limiter, Answer, Refusal, Fuel}
 use Rattle.types.specs.{Names.Spanned, Names.Limiter, Pick.pick, Pick.both, Answer.number_of, Limiter.heard_of}
 use Rattle.machine.specs.Names.{Buffers, sound_over, well_formed, standing, metered, Stepped, Machine, Counts}
@@ -12,7 +12,6 @@ use Rattle.claims.specs.Metered.{metering, price_of, affords, grants, paid_refus
 use Rattle.claims.specs.Effects.{fuel_effect, effect_of, spent, asked, effects, accepted_step}
 use Rattle.claims.proofs.Heard.{Onward, no_question, heard_no, heard_told, moved_once, moved_twice}
 use Rattle.claims.proofs.Exit.{stays, Exit, accepts, refuses}
-use Rattle.types.specs.declared.answer.Answer.TheVariants as answer
 use Rattle.machine.specs.declared.outcome.Change.TheVariants as change
 use Rattle.machine.specs.declared.operation.Operation.TheVariants as op
 
@@ -94,9 +93,9 @@ nothing_put m = refl
 
 -- a refusal with a change that changes nothing leaves all but fuel and limiter
 pub put_back_stays : (m : Machine) (b : Buffers) (c : Change) → changed c m ≡ m → (x : Refusal) (f : Fuel) (l : Limiter)
-    → after m (on_none (record { answer = answer.Refusal x; change = c; counts = m.counts; fuel = f; limiter = l }) b) ≡ stays m b x f l
+    → after m (on_none (record { answer = Err x; change = c; counts = m.counts; fuel = f; limiter = l }) b) ≡ stays m b x f l
 unfolding settled
-put_back_stays m b c k x f l = ap (λ (n : Machine). record { answer = answer.Refusal x; machine = standing n m.counts f l; buffers = b }) k
+put_back_stays m b c k x f l = ap (λ (n : Machine). record { answer = Err x; machine = standing n m.counts f l; buffers = b }) k
 
 -- the fuel and the limiter after an operation: of 01 to 04 their own, else as they come
 pub by_kind : (m : Machine) (b : Buffers) (f : Fuel) (l : Limiter) (x : Operation) (P : Fuel → Limiter → Type 0)
@@ -242,14 +241,14 @@ module _ {r : ℕ} {m : Machine} {b : Buffers} {op : Operation} where
   module _ (c : Change) (k : changed c m ≡ m) (g : ltb 0 (metering r m op).more ≡ false) where
     -- refused, no growth, with a change that changes nothing
     pub refusing_by : (x : Refusal) (l : Limiter) → Named x → occasion r m b op ≡ false
-        → Onward r m b op l → Ends r m b op (on_none (record { answer = answer.Refusal x; change = c; counts = m.counts; fuel = m.fuel; limiter = l }) b)
+        → Onward r m b op l → Ends r m b op (on_none (record { answer = Err x; change = c; counts = m.counts; fuel = m.fuel; limiter = l }) b)
     unfolding paid_refusal
     refusing_by x l h o t q = refused_with h o (q ∙ put_back_stays m b c k x m.fuel l) (sym (pick_false _ _ _ (both_left _ _ g))) t
 
     module _ (u : question r m b op ≡ false) where
       -- that asks the limiter nothing
       pub refusing : (x : Refusal) → Named x → occasion r m b op ≡ false
-          → Ends r m b op (on_none (record { answer = answer.Refusal x; change = c; counts = m.counts; fuel = m.fuel; limiter = m.limiter }) b)
+          → Ends r m b op (on_none (record { answer = Err x; change = c; counts = m.counts; fuel = m.fuel; limiter = m.limiter }) b)
       refusing x h o = refusing_by x m.limiter h o (λ n. no_question r m b op u)
 
       -- the last check of a span operation: 7, else the price is paid and the cells are new
@@ -286,12 +285,12 @@ module _ {r : ℕ} {m : Machine} {b : Buffers} {op : Operation} where
 
   -- refused, no growth, with no change
   pub leaving_by : (x : Refusal) (l : Limiter) → Named x → ltb 0 (metering r m op).more ≡ false → occasion r m b op ≡ false → Onward r m b op l
-      → Ends r m b op (on_none (leaves m (answer.Refusal x) m.fuel l) b)
+      → Ends r m b op (on_none (leaves m (Err x) m.fuel l) b)
   leaving_by x l h g o t = refusing_by change.Nothing (nothing_put m) g x l h o t
 
   -- that asks the limiter nothing
   pub leaving : (x : Refusal) → Named x → ltb 0 (metering r m op).more ≡ false → question r m b op ≡ false → occasion r m b op ≡ false
-      → Ends r m b op (on_none (keeps m (answer.Refusal x)) b)
+      → Ends r m b op (on_none (keeps m (Err x)) b)
   leaving x h g u o = leaving_by x m.limiter h g o (λ n. no_question r m b op u)
 
   -- 16, whatever is not in use

@@ -1,6 +1,6 @@
 -- Every operation on every machine: the claims on answers, refusals and occasions. Assumes nothing.
 use Rattle.types.proofs.Prelude.{refl, sym, ap, subst, ◌∙◌, false≢true, arith, pick_true, pick_false, both_left, both_right, both_then, either}
-use Rattle.std.specs.Prelude.{ℕ, ◌≡◌, Bool, true, false, eqb}
+use Rattle.std.specs.Prelude.{ℕ, ◌≡◌, Bool, true, false, eqb, Ok, Err}
 use Rattle.types.specs.{Names.refusal, Names.refuse, Names.Answer}
 use Rattle.types.specs.{Pick.pick, Pick.both, Answer.number_of}
 use Rattle.machine.specs.Names.{Buffers, sound_over, well_formed, metered, Stepped, Machine, Operation}
@@ -10,14 +10,13 @@ use Rattle.claims.specs.{Effects.accepted_step, Script.asks, Script.heard, Scrip
 use Rattle.claims.proofs.{Heard.unasked, Exit.Exit, Exit.accepts, Exit.refuses, Exiting.stays_number, Exiting.unpaid, Growth.value_number}
 use Rattle.claims.proofs.{MemoryExits.fuel_exit, MemoryExits.new_memory_exit, MemoryExits.memory_exit}
 use Rattle.claims.proofs.TableExits.{new_table_exit, table_exit, table_copy_exit, table_init_exit, drop_segment_exit, new_segment_exit}
-use Rattle.types.specs.declared.answer.Answer.TheVariants as answer
 use Rattle.machine.specs.declared.operation.Operation.TheVariants as op
 
 -- every value is one of the list's answers
 value_listed : (a : Answer) → accepted a ≡ true → value_or_listed a ≡ true
 unfolding accepted value_or_listed
-value_listed (answer.Value v) e = refl
-value_listed (answer.Refusal x) e = absurd (false≢true e)
+value_listed (Ok v) e = refl
+value_listed (Err x) e = absurd (false≢true e)
 
 -- the two refusals that stand before all others are of the list
 first_listed : (listed (refusal 18 0) ≡ true) × (listed (refusal 19 0) ≡ true)

@@ -1,7 +1,7 @@
 -- How a growth ends, of a memory or of a table: before the limiter's question or at it, after it with notice, or grown. Assumes nothing.
 use Rattle.types.proofs.Prelude.{refl, sym, ap, subst, ◌∙◌, false≢true, arith, lt-ltb, eqb-true, eqb-false, pick_true, pick_false, both_true, both_left}
 use Rattle.types.proofs.Prelude.{both_right, both_then, either}
-use Rattle.std.specs.Prelude.{ℕ, ◌≡◌, Bool, true, false, eqb, ltb}
+use Rattle.std.specs.Prelude.{ℕ, ◌≡◌, Bool, true, false, eqb, ltb, Ok, Err}
 use Rattle.types.specs.Names.{unless, both, refusal, refuse, short, paid, noticed, Answer, Refusal, Fuel, Limiter}
 use Rattle.types.specs.{Pick.pick, Answer.number_of, Limiter.says_of, Limiter.moved, Limiter.heard_of, Limiter.no_limiter}
 use Rattle.machine.specs.Names.{Buffers, sound_over, well_formed, metered, Stepped, step, Machine, Operation}
@@ -13,7 +13,6 @@ use Rattle.claims.proofs.Heard.{onward, no_question, heard_no, heard_told, moved
 use Rattle.claims.proofs.Exit.{stays, Exit, accepts}
 use Rattle.claims.proofs.Exiting.{branch, Named, named, named_7, heard_named, grants_no, grants_error, grants_yes, short_not, affords_all}
 use Rattle.claims.proofs.Exiting.{step_is, number, quiet, stays_number, paid_is, unpaid, refused_with}
-use Rattle.types.specs.declared.answer.Answer.TheVariants as answer
 
 -- no limiter grants all, and hears of a refusal
 none_says : says_of no_limiter ≡ 0
@@ -32,8 +31,8 @@ limiter_sound m b l e = e
 -- a value has the number 0
 pub value_number : (a : Answer) → accepted a ≡ true → number_of a ≡ 0
 unfolding accepted number_of
-value_number (answer.Value v) e = refl
-value_number (answer.Refusal x) e = absurd (false≢true e)
+value_number (Ok v) e = refl
+value_number (Err x) e = absurd (false≢true e)
 
 -- the number of a refusal of which the limiter is told: its own, or 4
 heard_number : (said : ℕ) (x : Refusal) (P : ℕ → Type 0) → P 4 → P x.number → P (heard_of said x).number

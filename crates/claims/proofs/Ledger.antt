@@ -1,7 +1,7 @@
 -- The ledger: the fuel left and the charges since make up the amount last set. Assumes nothing.
 use Rattle.types.proofs.Prelude.{refl, sym, ap, subst, ◌∙◌, false≢true, arith, lt-ltb, leb-true, ltb-true, eqb-true, pick_true, pick_false, both_left}
 use Rattle.types.proofs.Prelude.{both_right, both_1, both_2, either}
-use Rattle.std.specs.Prelude.{ℕ, ◌+◌, ◌-◌, ◌*◌, ◌^◌, ◌≤◌, ◌<◌, ◌≡◌, Bool, true, false, List, [], ◌∷◌, ◌++◌, eqb, leb, ltb, get_or, set}
+use Rattle.std.specs.Prelude.{ℕ, ◌+◌, ◌-◌, ◌*◌, ◌^◌, ◌≤◌, ◌<◌, ◌≡◌, Bool, true, false, List, [], ◌∷◌, ◌++◌, eqb, leb, ltb, get_or, set, Err}
 use Rattle.types.specs.Names.{price, refusal, paid, admits_of, page_bytes, page_of, valid_exponent, Answer, Refusal, Fuel, FuelCosts, Limiter}
 use Rattle.types.specs.Names.{TypedRawRef, WantedMemory, WantedTable}
 use Rattle.types.specs.{Pick.pick, Pick.both, Answer.number_of, Limiter.heard_of, declared.memory_ty.PageSize.TheVariants.One}
@@ -22,7 +22,6 @@ use Rattle.claims.proofs.{Checks.given_1, Exit.stays, Exiting.branch, Exiting.su
 use Rattle.claims.proofs.{TableExits.table_grew, Exits.refusal_leaves, Exits.accepted_when_lem, Exits.accepted_does, Bound.payable}
 use Rattle.claims.proofs.{Bound.affords_is, Bound.fuel_after}
 use Rattle.claims.proofs.Beside.{Beside, beside_same, beside_set, beside_add, beside_none}
-use Rattle.types.specs.declared.answer.Answer.TheVariants as answer
 use Rattle.machine.specs.declared.outcome.Change.TheVariants as change
 use Rattle.machine.specs.declared.operation.Operation.TheVariants as op
 use Rattle.machine.specs.declared.operation.FuelOp.TheVariants as fuel
@@ -82,17 +81,17 @@ module _ (k : Book) (said : List ℕ) (admits : Bool) (p : ℕ) where
   noted a = growth_charge k a said admits p
 
   -- refused at 8 it had paid
-  noted_8 : (x : Refusal) → eqb x.number 8 ≡ true → noted (answer.Refusal x) ≡ p
+  noted_8 : (x : Refusal) → eqb x.number 8 ≡ true → noted (Err x) ≡ p
   unfolding growth_charge accepted number_of
   noted_8 x e = pick_false _ _ _ refl ∙ pick_true _ _ _ e
 
   -- at 4 where it had erred
-  noted_4 : noted (answer.Refusal (refusal 4 0)) ≡ pick (erred k said admits p) p 0
+  noted_4 : noted (Err (refusal 4 0)) ≡ pick (erred k said admits p) p 0
   unfolding growth_charge accepted number_of both pick
   noted_4 = refl
 
   -- else not
-  noted_else : (x : Refusal) → eqb x.number 8 ≡ false → both (eqb x.number 4) (erred k said admits p) ≡ false → noted (answer.Refusal x) ≡ 0
+  noted_else : (x : Refusal) → eqb x.number 8 ≡ false → both (eqb x.number 4) (erred k said admits p) ≡ false → noted (Err x) ≡ 0
   unfolding growth_charge accepted number_of
   noted_else x e d = pick_false _ _ _ refl ∙ pick_false _ _ _ e ∙ pick_false _ _ _ d
 
@@ -176,10 +175,10 @@ module _ (r c : ℕ) (m : Machine) (b : Buffers) (k : Book) (w : Balanced c m k)
 
     -- a refusal of which the limiter is told is noted where it paid
     noted_told : (told j a : ℕ) → used ≡ true → heard r m b op ≡ 2 → eqb j 4 ≡ false → eqb j 8 ≡ both may (affords m (price_of r m op))
-        → noted k said admits p (answer.Refusal (heard_of told (refusal j a))) ≡ pick (eqb j 8) p 0
+        → noted k said admits p (Err (heard_of told (refusal j a))) ≡ pick (eqb j 8) p 0
     unfolding heard_of
     noted_told told j a u h d e =
-        branch (λ (x : Refusal). noted k said admits p (answer.Refusal x) ≡ pick (eqb j 8) p 0) _ _ _
+        branch (λ (x : Refusal). noted k said admits p (Err x) ≡ pick (eqb j 8) p 0) _ _ _
         (λ t. noted_4 k said admits p ∙ ap (λ (t : Bool). pick t p 0) (erred_twice h ∙ (λ i. both (sym (same u).1 i) (sym (there_by_book u) i)) ∙ sym e))
         (λ t.
         either (eqb j 8)

@@ -1,15 +1,14 @@
 -- How every operation on fuel, limiter and memories ends: accepted on its occasion, or refused with all that it leaves. Assumes nothing.
 use Rattle.types.proofs.Prelude.{refl, sym, ap, ◌∙◌, arith, ltb-true, ltb-false, le-ltb, le-leb, lt-leb, pick_true, pick_false, both_true, both_left}
 use Rattle.types.proofs.{Prelude.both_right, Prelude.both_then, Prelude.both_2, Spans.over_nil}
-use Rattle.std.specs.Prelude.{ℕ, ◌+◌, ◌-◌, ◌*◌, ◌/◌, ◌≡◌, Bool, true, false, List, leb, ltb, length, replicate}
-use Rattle.types.specs.Names.{Done, done, over, refusal, accept, price, paid, moved, Answer, Refusal, Fuel, FuelStep, Limiter, HandedOver, page_bytes}
-use Rattle.types.specs.{Names.BuiltMemory, Names.WantedMemory, Pick.pick, Pick.both, Limiter.hand_over, MemoryType.build_memory}
+use Rattle.std.specs.Prelude.{ℕ, ◌+◌, ◌-◌, ◌*◌, ◌/◌, ◌≡◌, Bool, true, false, List, leb, ltb, length, replicate, Err, Some, None, Result, Option}
+use Rattle.types.specs.Names.{Done, done, over, refusal, accept, price, paid, moved, Answer, Refusal, Fuel, Limiter, HandedOver, page_bytes}
+use Rattle.types.specs.{Names.WantedMemory, Pick.pick, Pick.both, Limiter.hand_over, MemoryType.build_memory}
 use Rattle.types.specs.Fuel.{set_fuel, get_fuel, consume, consume_unchecked}
 use native.Mathlib.{Nat.add-mul, Nat.div-add-mod'}
 use Rattle.memory.specs.Names.{resized, sound_memory, may_have, grown_size, Memory, GrownMemory, CreatedMemory}
 use Rattle.memory.specs.{Access.address_of, Access.loaded_of, Access.load_found, Access.load_at, Access.store_found, Access.store_at, Memory.pages_of}
 use Rattle.memory.specs.{Memory.load_memory, Memory.store_memory, New.refused, New.new_memory, Grow.answered, Grow.growth_price, Grow.grow_memory}
-use Rattle.memory.specs.{declared.access.Address.Address, declared.access.Address.TheVariants.At, declared.access.Address.TheVariants.Outside}
 use Rattle.memory.proofs.Sounds.{sound_is}
 use Rattle.machine.specs.Names.{Buffers, buffers, memory_at, sound_over, metered, Machine, Operation, FuelOp, MemoryOp}
 use Rattle.machine.specs.{Operation.well_formed, Operation.memory_well_formed, declared.fueling.Fueled.Fueled, declared.outcome.Outcome.Outcome}
@@ -24,11 +23,11 @@ use Rattle.claims.proofs.{Exit.Exit, Growth.Grew, Growth.grew, Growth.grew_exit}
 use Rattle.claims.proofs.Checks.{given_holds, given_comes, used_holds, used_comes}
 use Rattle.claims.proofs.Exiting.{branch, surely, room_inside, put_back_stays, named, named_7, Ends, accepted_is, ending}
 use Rattle.claims.proofs.Exiting.{accepting, accepting_by, refusing, leaving_by, leaving, creating, unknown}
-use Rattle.types.specs.declared.answer.Answer.TheVariants as answer
 use Rattle.machine.specs.declared.outcome.Change.TheVariants as change
 use Rattle.machine.specs.declared.operation.Operation.TheVariants as op
 use Rattle.machine.specs.declared.operation.FuelOp.TheVariants as fuel
 use Rattle.machine.specs.declared.operation.MemoryOp.TheVariants as memory
+use Rattle.types.specs.declared.memory_ty.MemoryType.{MemoryType}
 
 module _ (r : ℕ) (m : Machine) (b : Buffers) where
   -- what is shown of an operation on fuel and limiter that comes to this
@@ -40,7 +39,7 @@ module _ (r : ℕ) (m : Machine) (b : Buffers) where
   unfolding perform on_fuel perform_fuel set_by set_fuel get_fuel charged_by consume consume_unchecked hand_over holds checks_of given fuel_occasion effect_of fuel_effect metering_of comes put accepted
   fuel_exit (fuel.SetFuel amount) e w =
       ending e w
-      (branch (λ (s : FuelStep). Fuels (fuel.SetFuel amount) (set_by s m.fuel m.limiter)) _ _ _
+      (branch (λ (s : Result Fuel Refusal). Fuels (fuel.SetFuel amount) (set_by s m.fuel m.limiter)) _ _ _
       (λ t. accepting refl refl t refl)
       (λ t. leaving (refusal 15 0) (named 15 refl refl) refl refl t))
   fuel_exit fuel.GetFuel e w =
@@ -50,9 +49,9 @@ module _ (r : ℕ) (m : Machine) (b : Buffers) where
       (λ t. leaving (refusal 15 0) (named 15 refl refl) refl refl t))
   fuel_exit (fuel.Charge units) e w =
       ending e w
-      (branch (λ (s : FuelStep). Fuels (fuel.Charge units) (charged_by s m.fuel m.limiter)) _ _ _
+      (branch (λ (s : Result Fuel Refusal). Fuels (fuel.Charge units) (charged_by s m.fuel m.limiter)) _ _ _
       (λ t.
-      branch (λ (s : FuelStep). Fuels (fuel.Charge units) (charged_by s m.fuel m.limiter)) _ _ _
+      branch (λ (s : Result Fuel Refusal). Fuels (fuel.Charge units) (charged_by s m.fuel m.limiter)) _ _ _
       (λ y. leaving (refusal 7 units) (named_7 units) refl refl (both_right _ _ (lt-leb units _ (ltb-true _ units y))))
       (λ y. accepting refl refl (both_true _ _ t (le-leb units _ (ltb-false _ units y))) refl))
       (λ t. leaving (refusal 15 0) (named 15 refl refl) refl refl (both_left _ _ t)))
@@ -76,8 +75,8 @@ module _ (r : ℕ) (m : Machine) (b : Buffers) where
       (λ h. leaving (refusal 17 0) (named 17 refl refl) refl (both_left _ _ h) (both_left _ _ (both_left _ _ h))))
 
 -- an address that an access reaches, or none
-reaching : (m : Machine) (i pointer offset n : ℕ) (P : Address → Type 0) → (reaches (memory_at m i) pointer offset n ≡ true → P (At (pointer + offset)))
-    → (reaches (memory_at m i) pointer offset n ≡ false → P Outside) → P (address_of (memory_at m i).size pointer offset n)
+reaching : (m : Machine) (i pointer offset n : ℕ) (P : Option ℕ → Type 0) → (reaches (memory_at m i) pointer offset n ≡ true → P (Some (pointer + offset)))
+    → (reaches (memory_at m i) pointer offset n ≡ false → P None) → P (address_of (memory_at m i).size pointer offset n)
 unfolding address_of reaches
 reaching m i pointer offset n P f g =
     branch P _ _ _
@@ -120,7 +119,7 @@ module _ (r : ℕ) (m : Machine) (b : Buffers) (i : ℕ) where
       out d = on_bytes (memory_done m i d) b
 
       abbrev kept : Refusal → Fuel → Limiter → Done GrownMemory
-      kept x f l = done (answered (answer.Refusal x) old f l) b.bytes
+      kept x f l = done (answered (Err x) old f l) b.bytes
 
       -- the bounds allow the new pages, and the room holds them
       abbrev may : Bool
@@ -178,19 +177,19 @@ module _ (r : ℕ) (m : Machine) (b : Buffers) (i : ℕ) where
   used_memory memory.Size e h s = accepting refl refl (both_true _ _ h refl) refl
   used_memory (memory.Load kind pointer offset) e h s =
       surely (Answers (memory.Load kind pointer offset)) _ _ _ s
-      (reaching m i pointer offset _ (λ (a : Address). Answers (memory.Load kind pointer offset) (load_found kind b.bytes old.start a))
+      (reaching m i pointer offset _ (λ (a : Option ℕ). Answers (memory.Load kind pointer offset) (load_found kind b.bytes old.start a))
       (λ y. accepting refl refl (both_true _ _ h y) refl)
       (λ y. refusing (change.Memory i old) (memory_put_back m i) refl refl (refusal 9 0) (named 9 refl refl) (both_right _ _ y)))
   used_memory (memory.Store kind pointer offset bits) e h s =
       surely Stores _ _ _ s
-      (reaching m i pointer offset _ (λ (a : Address). Stores (store_found kind b.bytes old.start bits a))
+      (reaching m i pointer offset _ (λ (a : Option ℕ). Stores (store_found kind b.bytes old.start bits a))
       (λ y. accepting refl refl (both_true _ _ h y) refl)
       (λ y. refusing (change.Memory i old) (memory_put_back m i) refl refl (refusal 9 0) (named 9 refl refl) (both_right _ _ y)))
     where
       Stores : Done Answer → Type 0
       Stores d = On (memory.Store kind pointer offset bits) (memory_stored old m.fuel m.limiter d)
   used_memory (memory.LinkCheck wanted) e h s =
-      branch (λ (t : BuiltMemory). Answers (memory.LinkCheck wanted) (linked old.ty t)) _ _ _
+      branch (λ (t : Result MemoryType Refusal). Answers (memory.LinkCheck wanted) (linked old.ty t)) _ _ _
       (λ y. accepting refl refl (both_true _ _ h y) refl)
       (λ y. refusing (change.Memory i old) (memory_put_back m i) refl refl (refusal 1 0) (named 1 refl refl) (both_right _ _ y))
 

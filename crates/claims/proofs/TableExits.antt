@@ -1,10 +1,10 @@
 -- How every operation on tables and segments ends: accepted on its occasion, or refused with all that it leaves. Assumes nothing.
 use Rattle.types.proofs.Prelude.{refl, sym, ap, ◌∙◌, arith, leb-true, leb-false, ltb-true, lt-ltb, le-ltb, eqb-true, eqb-false, pick_true, pick_false}
 use Rattle.types.proofs.{Prelude.both_true, Prelude.both_left, Prelude.both_right, Prelude.both_then, Prelude.both_1, Prelude.both_2, Spans.over_nil}
-use Rattle.std.specs.Prelude.{ℕ, ◌+◌, ◌≡◌, Bool, true, false, List, leb, ltb, length, replicate}
+use Rattle.std.specs.Prelude.{ℕ, ◌+◌, ◌≡◌, Bool, true, false, List, leb, ltb, length, replicate, Err, Result}
 use Rattle.types.specs.Names.{Done, done, over, refusal, accept, paid, moved, Answer, Spanned, RefType, TypedRawRef, max_size, admits_of}
 use Rattle.types.specs.{Names.element_matches, Names.WantedTable, Names.CopySpan, Pick.both}
-use Rattle.table.specs.Names.{resized, sound_table, Table, GrownTable, CreatedTable, MadeSegment}
+use Rattle.table.specs.Names.{resized, sound_table, Table, GrownTable, CreatedTable}
 use Rattle.table.specs.{Table.get_table, Table.set_sound, Table.set_table, New.refused, New.new_table, Grow.answered, Grow.cells_price, Grow.grow_table}
 use Rattle.table.specs.{Fill.fill_table, Copy.copy_table, Init.init_table, Element.new_segment}
 use Rattle.machine.specs.Names.{Buffers, buffers, table_at, sound_over, metered, Machine, Items, Operation, TableOp}
@@ -21,10 +21,11 @@ use Rattle.claims.proofs.Checks.{given_holds, given_comes, growing, used_holds, 
 use Rattle.claims.proofs.Exiting.{branch, surely, put_back_stays, named, nothing_put, Ends, accepted_is, ending, accepting}
 use Rattle.claims.proofs.Exiting.{accepting_paid, accepting_by, refusing, leaving_by, leaving, creating, paying, spanning, unknown}
 use Rattle.claims.proofs.TableExiting.{cells_sound, items_sound, over_none, two_sound}
-use Rattle.types.specs.declared.answer.Answer.TheVariants as answer
 use Rattle.machine.specs.declared.outcome.Change.TheVariants as change
 use Rattle.machine.specs.declared.operation.Operation.TheVariants as op
 use Rattle.machine.specs.declared.operation.TableOp.TheVariants as table
+use Rattle.table.specs.declared.element.ElementSegment.{ElementSegment}
+use Rattle.types.specs.declared.answer.Refusal.{Refusal}
 
 module _ (r : ℕ) (m : Machine) (b : Buffers) where
   -- 20: 17, 1, 14, limiter 3/4, 5 with notice
@@ -56,7 +57,7 @@ module _ (r : ℕ) (m : Machine) (b : Buffers) where
       ending e w
       (branch (λ (d : Done Outcome). Ends r m b (op.NewSegment element items) (on_items d b)) _ _ _
       (λ h.
-      surely (λ (s : Done MadeSegment). Ends r m b (op.NewSegment element items) (on_items (segment_made m s) b)) _ _ _
+      surely (λ (s : Done (Result ElementSegment Refusal)). Ends r m b (op.NewSegment element items) (on_items (segment_made m s) b)) _ _ _
       (items_sound m b e _ (both_2 _ _ h)) (accepting refl refl h refl))
       (λ h. leaving (refusal 17 0) (named 17 refl refl) refl refl h))
 
@@ -144,7 +145,7 @@ module _ (r : ℕ) (m : Machine) (b : Buffers) (i : ℕ) where
     unfolding both perform on_table perform_table grow_table well_formed holds checks_of given table_checks comes effect_of table_effect metering_of table_metering put accepted
     table_grew =
         grew r m b grow (ltb i m.counts.tables) n (admits_of old.ty.limits (old.size + n)) out
-        (λ x f l. done (answered (answer.Refusal x) old f l) b.cells)
+        (λ x f l. done (answered (Err x) old f l) b.cells)
         (λ l. done (answered (accept old.size) old m.fuel l) b.cells)
         (λ l.
         done (answered (accept old.size) (resized old (old.size + n)) (paid m.fuel (cells_price r n m.fuel)) (moved l))

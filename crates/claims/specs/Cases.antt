@@ -1,11 +1,13 @@
 -- Document 01, "Checked by proof", P1 to P11: the definitions, computed, as one list with one claim.
-use Rattle.std.specs.Prelude.{ℕ, ◌+◌, ◌-◌, ◌^◌, Bool, true, false, List, [], ◌∷◌, ◌++◌, eqb, replicate}
+use Rattle.std.specs.Prelude.{ℕ, ◌+◌, ◌-◌, ◌^◌, Bool, true, false, List, [], ◌∷◌, ◌++◌, eqb, replicate, Ok, Err, Result}
 use Rattle.types.specs.Names.{both, price, new_fuel, no_limiter, number_of, shown_of, build_memory, null_of, raw_bytes}
-use Rattle.types.specs.Names.{Answer, IndexType, Limits, BuiltMemory, RefType}
+use Rattle.types.specs.Names.{Answer, IndexType, Limits, RefType}
 use Rattle.memory.specs.Names.{LoadKind, StoreKind}
 use Rattle.table.specs.Names.{grow_table, Table}
 use Rattle.machine.specs.Names.{buffers, fresh_machine, run, Operation, FuelOp, MemoryOp, TableOp}
 use Rattle.lines.specs.Session.{costs_of}
+use Rattle.types.specs.declared.memory_ty.MemoryType.{MemoryType}
+use Rattle.types.specs.declared.answer.Refusal.{Refusal}
 
 -- every test of a list holds
 unfoldable pub all_hold : List Bool → Bool
@@ -13,9 +15,9 @@ all_hold [] = true
 all_hold (b ∷ bs) = both b (all_hold bs)
 
 -- the number that building a type gives
-unfoldable pub built_number : BuiltMemory → ℕ
-built_number (BuiltMemory.Built t) = 0
-built_number (BuiltMemory.Refused r) = r.number
+unfoldable pub built_number : Result MemoryType Refusal → ℕ
+built_number (Ok t) = 0
+built_number (Err r) = r.number
 
 -- limits with a minimum alone
 abbrev pub at_least : ℕ → Limits

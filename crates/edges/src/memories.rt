@@ -6,7 +6,7 @@ use super::{print, settings, text, words};
 use memory::access::{LoadKind, StoreKind};
 use memory::grow::GrownMemory;
 use memory::memory::Memory;
-use memory::new::{CreatedMemory, MadeMemory};
+use memory::new::CreatedMemory;
 use std::io;
 use types::answer::{Answer, Refusal, Value};
 use types::fuel::{Fuel, FuelCosts};
@@ -39,7 +39,7 @@ fn answered(m: GrownMemory, answer: Answer) -> GrownMemory {
 fn malformed(m: GrownMemory) -> GrownMemory {
     answered(
         m,
-        Answer::Refusal(Refusal {
+        Err(Refusal {
             number: 18,
             amount: 0,
         }),
@@ -52,17 +52,17 @@ fn created(m: GrownMemory, done: CreatedMemory) -> GrownMemory {
     let limiter = done.limiter;
     let made = done.made;
     match made {
-        MadeMemory::Made(memory) => GrownMemory {
-            answer: Answer::Value(Value::Number(0)),
+        Ok(memory) => GrownMemory {
+            answer: Ok(Value::Number(0)),
             memory,
             fuel,
             limiter,
         },
-        MadeMemory::Refused(refusal) => {
+        Err(refusal) => {
             let mut memory = m.memory;
             memory.size = 0;
             GrownMemory {
-                answer: Answer::Refusal(refusal),
+                answer: Err(refusal),
                 memory,
                 fuel,
                 limiter,
@@ -179,7 +179,7 @@ fn with(x: Order, low: &[u8], m: GrownMemory) -> GrownMemory {
     let fuel = means.fuel;
     let limiter = means.limiter;
     GrownMemory {
-        answer: Answer::Value(Value::Number(0)),
+        answer: Ok(Value::Number(0)),
         memory,
         fuel,
         limiter,
@@ -214,7 +214,7 @@ fn record(x: Order, m: GrownMemory) -> GrownMemory {
     let memory = record_of(x);
     let mut next = m;
     next.memory = memory;
-    answered(next, Answer::Value(Value::Number(0)))
+    answered(next, Ok(Value::Number(0)))
 }
 
 // By how many pages.
@@ -226,7 +226,7 @@ fn grow(x: Order, m: GrownMemory, bytes: &mut [u8]) -> GrownMemory {
 // The size in pages.
 fn pages(m: GrownMemory) -> GrownMemory {
     let memory = m.memory;
-    answered(m, Answer::Value(Value::Number(memory.pages())))
+    answered(m, Ok(Value::Number(memory.pages())))
 }
 
 // What changes no byte.
@@ -273,7 +273,7 @@ fn obey(rt: &impl Print, line: &[u8], m: GrownMemory, bytes: &mut [u8]) -> io::R
 fn fresh() -> GrownMemory {
     let memory = record_of(text::no_order());
     GrownMemory {
-        answer: Answer::Value(Value::Number(0)),
+        answer: Ok(Value::Number(0)),
         memory,
         fuel: Fuel::new(true, FuelCosts::default_costs()),
         limiter: Limiter::none(),

@@ -18,7 +18,7 @@ fn head(
     fuel: u64,
     place: u64,
 ) -> io::Result<bool> {
-    let refused = answer.number();
+    let refused = types::answer::number(answer);
     if refused == 18 {
         rt.write_all(name)?;
         rt.write_all(b" ?\n")?;
@@ -29,7 +29,7 @@ fn head(
     }
     rt.write_all(name)?;
     number(rt, refused as u64)?;
-    let shown = answer.shown();
+    let shown = types::answer::shown(answer);
     print!(rt; " {shown:016x}")?;
     number(rt, size)?;
     number(rt, fuel)?;

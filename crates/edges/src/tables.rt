@@ -6,7 +6,7 @@ use super::{print, settings, text, words};
 use std::io;
 use table::element::ElementSegment;
 use table::grow::GrownTable;
-use table::new::{CreatedTable, MadeTable};
+use table::new::CreatedTable;
 use table::table::Table;
 use types::answer::{Answer, Refusal, Value};
 use types::fuel::{Fuel, FuelCosts};
@@ -78,7 +78,7 @@ fn answered(t: GrownTable, answer: Answer) -> GrownTable {
 fn malformed(t: GrownTable) -> GrownTable {
     answered(
         t,
-        Answer::Refusal(Refusal {
+        Err(Refusal {
             number: 18,
             amount: 0,
         }),
@@ -100,17 +100,17 @@ fn created(t: GrownTable, done: CreatedTable) -> GrownTable {
     let limiter = done.limiter;
     let made = done.made;
     match made {
-        MadeTable::Made(table) => GrownTable {
-            answer: Answer::Value(Value::Number(0)),
+        Ok(table) => GrownTable {
+            answer: Ok(Value::Number(0)),
             table,
             fuel,
             limiter,
         },
-        MadeTable::Refused(refusal) => {
+        Err(refusal) => {
             let mut table = t.table;
             table.size = 0;
             GrownTable {
-                answer: Answer::Refusal(refusal),
+                answer: Err(refusal),
                 table,
                 fuel,
                 limiter,
@@ -213,7 +213,7 @@ fn with(x: Order, low: &[u8], t: GrownTable) -> GrownTable {
     let fuel = means.fuel;
     let limiter = means.limiter;
     GrownTable {
-        answer: Answer::Value(Value::Number(0)),
+        answer: Ok(Value::Number(0)),
         table,
         fuel,
         limiter,
@@ -225,7 +225,7 @@ fn record(x: Order, t: GrownTable) -> GrownTable {
     let table = table_of(x.a, x.b, x.c, x.d, x.e);
     let mut next = t;
     next.table = table;
-    answered(next, Answer::Value(Value::Number(0)))
+    answered(next, Ok(Value::Number(0)))
 }
 
 // An index.
@@ -297,7 +297,7 @@ fn obey(
 fn fresh() -> GrownTable {
     let table = table_of(0, 0, 0, 0, 0);
     GrownTable {
-        answer: Answer::Value(Value::Number(0)),
+        answer: Ok(Value::Number(0)),
         table,
         fuel: Fuel::new(true, FuelCosts::default_costs()),
         limiter: Limiter::none(),
@@ -333,6 +333,6 @@ pub(crate) fn section(rt: &impl Print, input: &[u8], from: usize) -> io::Result<
     let mut cells = dirty();
     let mut items = [0xa5a5a5a5a5a5a5a5u64; 5];
     let given = [41u64, 42, 43];
-    ElementSegment::new(RefType::Func, 1, &mut items, &given);
+    let _ = ElementSegment::new(RefType::Func, 1, &mut items, &given);
     lines(rt, input, from, &mut cells, &items)
 }

@@ -2,7 +2,7 @@
 use Rattle.types.proofs.Prelude.{ℕ, ◌≤◌, ◌<◌, ◌-◌, ◌≡◌, refl, ap, sym, subst, ◌∙◌, Bool, true, false, List, arith, leb, ltb, length, get_or, set, ltb-true}
 use Rattle.types.proofs.Prelude.{leb-true, pick_true, pick_false, both_1, both_2}
 use Rattle.types.specs.{Numbers.word32, Pick.pick, Pick.both, Done.Done, Done.done, Answer.refuse, Fuel.left, Fuel.paid, Limiter.moved}
-use Rattle.types.specs.{declared.answer.Answer.Answer, declared.fuel.Fuel.Fuel, declared.limiter.Limiter.Limiter, declared.raw.TypedRawRef.TypedRawRef}
+use Rattle.types.specs.{Answer.Answer, declared.fuel.Fuel.Fuel, declared.limiter.Limiter.Limiter, declared.raw.TypedRawRef.TypedRawRef}
 use Rattle.memory.specs.Memory as memory
 use Rattle.memory.specs.Grow as memory_grow
 use Rattle.memory.specs.{declared.memory.Memory.Memory, declared.grow.GrownMemory.GrownMemory}

@@ -2,7 +2,7 @@
 use Rattle.types.proofs.Prelude.{ℕ, zero, suc, ◌≤◌, ◌<◌, ◌≡◌, refl, sym, ap, ◌∙◌, Bool, true, false, List, [], ◌∷◌, arith, leb, ltb, length, take, leb-true}
 use Rattle.types.proofs.Prelude.{leb-false, le-leb, lt-ltb, pick_true, pick_false, both_true, both_1, both_2, both_left, both_right, both_then, either}
 use lib.ListN.{take-append-drop}
-use Rattle.types.specs.{Numbers.word32, Pick.pick, Pick.both, Answer.refuse, Done.Done, declared.answer.Answer.Answer, declared.raw.TypedRawRef.TypedRawRef}
+use Rattle.types.specs.{Numbers.word32, Pick.pick, Pick.both, Answer.refuse, Done.Done, Answer.Answer, declared.raw.TypedRawRef.TypedRawRef}
 use Rattle.memory.specs.{Memory.sound_memory, Grow.grow_memory, declared.memory.Memory.Memory, declared.grow.GrownMemory.GrownMemory}
 use Rattle.table.specs.{Table.sound_table, Grow.grow_table, declared.table.Table.Table, declared.grow.GrownTable.GrownTable}
 use Rattle.machine.specs.{Machine.Buffers, Machine.buffers, Machine.no_memory, Machine.no_table, Machine.memory_at, Machine.table_at, Machine.memory_end}

@@ -3,7 +3,7 @@
 use Rattle.types.proofs.Prelude.{◌≡◌, sym, ◌∙◌, ap, List, ℕ}
 use Rattle.types.proofs.One.{OneWith}
 use Rattle.machine.specs.{Machine.Buffers, Machine.buffers, Step.Stepped, declared.operation.Operation.Operation}
-use Rattle.types.specs.{declared.answer.Answer.Answer, declared.fuel.Fuel.Fuel, declared.limiter.Limiter.Limiter, declared.raw.TypedRawRef.TypedRawRef}
+use Rattle.types.specs.{Answer.Answer, declared.fuel.Fuel.Fuel, declared.limiter.Limiter.Limiter, declared.raw.TypedRawRef.TypedRawRef}
 use Rattle.memory.specs.declared.memory.Memory.{Memory}
 use Rattle.table.specs.{declared.table.Table.Table, declared.element.ElementSegment.ElementSegment}
 use Rattle.lent.specs.{declared.fuel.FuelRequest.FuelRequest, declared.operate.Standing.Standing, declared.operate.Operated.Operated, Fuel.FuelDone, Fuel.Requests, Growth.Lending}

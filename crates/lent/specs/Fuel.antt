@@ -1,7 +1,8 @@
 -- Document 01, "Fuel": the fuel record is lent and charged where it stands.
-use Rattle.std.specs.Prelude.{◌≡◌}
-use Rattle.types.specs.Names.{accept, set_fuel, get_fuel, consume, consume_if, consume_unchecked, Answer, Fuel, FuelStep}
+use Rattle.std.specs.Prelude.{◌≡◌, Ok, Err, Result}
+use Rattle.types.specs.Names.{accept, set_fuel, get_fuel, consume, consume_if, consume_unchecked, Answer, Fuel}
 use Rattle.lent.specs.declared.fuel.FuelRequest.{FuelRequest}
+use Rattle.types.specs.declared.answer.Refusal.{Refusal}
 
 -- an answer, and the fuel record after it
 pub record FuelDone : Type 0 where
@@ -13,14 +14,14 @@ abbrev pub fuel_done : Answer → Fuel → FuelDone
 fuel_done a f = record { answer = a; fuel = f }
 
 -- a setting answers 0; a refusal leaves the record
-unfoldable pub set_by : Fuel → FuelStep → FuelDone
-set_by f (FuelStep.Refused r) = fuel_done (Answer.Refusal r) f
-set_by f (FuelStep.Done g) = fuel_done (accept 0) g
+unfoldable pub set_by : Fuel → Result Fuel Refusal → FuelDone
+set_by f (Err r) = fuel_done (Err r) f
+set_by f (Ok g) = fuel_done (accept 0) g
 
 -- a charge answers the fuel left; a refusal leaves the record
-unfoldable pub charged_by : Fuel → FuelStep → FuelDone
-charged_by f (FuelStep.Refused r) = fuel_done (Answer.Refusal r) f
-charged_by f (FuelStep.Done g) = fuel_done (accept g.remaining) g
+unfoldable pub charged_by : Fuel → Result Fuel Refusal → FuelDone
+charged_by f (Err r) = fuel_done (Err r) f
+charged_by f (Ok g) = fuel_done (accept g.remaining) g
 
 -- a request to the fuel record, each by its step
 unfoldable pub requested : Fuel → FuelRequest → FuelDone

@@ -4,8 +4,8 @@ ghost use Rattle.lent.specs.Fuel.{set_by, charged_by, fuel_done, requested, Requ
 ghost use Rattle.lent.specs.stages.Fuel.{fuel_left, left_of};
 ghost use Rattle.types.specs.Fuel.{set_fuel, get_fuel, consume, consume_if, consume_unchecked};
 
-use types::answer::{Answer, Value};
-use types::fuel::{Fuel, FuelStep};
+use types::answer::{Answer, Refusal, Value};
+use types::fuel::Fuel;
 
 // What the fuel record is asked for.
 #[derive(Clone, Copy)]
@@ -31,24 +31,22 @@ fn leaves(left: u64, answer: Answer) -> FuelLeft
 }
 
 // By what a setting says.
-fn set_by(fuel: Fuel, step: FuelStep) -> FuelLeft
+fn set_by(fuel: Fuel, step: Result<Fuel, Refusal>) -> FuelLeft
     ensures { result ≡ left_of (set_by fuel step) }
 {
     match step {
-        FuelStep::Refused(refusal) => leaves(fuel.remaining, Answer::Refusal(refusal)),
-        FuelStep::Done(next) => leaves(next.remaining, Answer::Value(Value::Number(0))),
+        Err(refusal) => leaves(fuel.remaining, Err(refusal)),
+        Ok(next) => leaves(next.remaining, Ok(Value::Number(0))),
     }
 }
 
 // By what a charge says.
-fn charged_by(fuel: Fuel, step: FuelStep) -> FuelLeft
+fn charged_by(fuel: Fuel, step: Result<Fuel, Refusal>) -> FuelLeft
     ensures { result ≡ left_of (charged_by fuel step) }
 {
     match step {
-        FuelStep::Refused(refusal) => leaves(fuel.remaining, Answer::Refusal(refusal)),
-        FuelStep::Done(next) => {
-            leaves(next.remaining, Answer::Value(Value::Number(next.remaining)))
-        }
+        Err(refusal) => leaves(fuel.remaining, Err(refusal)),
+        Ok(next) => { leaves(next.remaining, Ok(Value::Number(next.remaining))) }
     }
 }
 

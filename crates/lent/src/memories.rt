@@ -151,7 +151,7 @@ pub fn grow(
         result memories.new bytes.new fuel.new limiter.new }
 {
     if memories.len() < CAPACITY {
-        return Answer::Refusal(Refusal {
+        return Err(Refusal {
             number: 19,
             amount: 0,
         });

@@ -80,12 +80,12 @@ fn unfit(op: Operation) -> Answer
     ensures { result ≡ unfit op }
 {
     if op.is_well_formed() {
-        return Answer::Refusal(Refusal {
+        return Err(Refusal {
             number: 19,
             amount: 0,
         });
     }
-    Answer::Refusal(Refusal {
+    Err(Refusal {
         number: 18,
         amount: 0,
     })
@@ -98,7 +98,7 @@ fn judge(memories: usize, tables: usize, segments: usize, op: Operation) -> Verd
     if long_enough(memories, tables, segments) {
         return Verdict {
             short: false,
-            answer: Answer::Value(Value::Number(0)),
+            answer: Ok(Value::Number(0)),
         };
     }
     let answer = unfit(op);

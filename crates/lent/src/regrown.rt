@@ -23,7 +23,7 @@ pub(crate) fn unchanged(number: u8, size: u64, fuel: Fuel, limiter: Limiter) -> 
     ensures { result ≡ unchanged number size fuel limiter }
 {
     Regrown {
-        answer: Answer::Refusal(Refusal { number, amount: 0 }),
+        answer: Err(Refusal { number, amount: 0 }),
         place: 0,
         size,
         left: fuel.remaining,

@@ -151,7 +151,7 @@ pub fn grow(
         result tables.new cells.new fuel.new limiter.new }
 {
     if tables.len() < CAPACITY {
-        return Answer::Refusal(Refusal {
+        return Err(Refusal {
             number: 19,
             amount: 0,
         });

@@ -1,21 +1,21 @@
 -- A line's text, its code and its fields: each way, and only one text. Assumes nothing.
+use Rattle.std.specs.Prelude.{Some, None, Option}
 use Rattle.types.proofs.Prelude.{◌≡◌, refl, sym, ap, ◌∙◌, true, List, [], ◌∷◌, ◌++◌, ℕ, zero, suc, ◌+◌, ◌<◌, ◌≤◌, arith, eqb, length, take, drop, replicate}
 use Rattle.types.proofs.{Prelude.eqb-true, Prelude.pick_true, Prelude.pick_false, Prelude.either, Spans.length_over}
 use lib.{ListN.take-append-drop, Seq.drop_at, Seq.take_at}
 use Rattle.types.specs.Span.{over}
 use Rattle.lines.specs.Hex.{hex_from, hex_text}
 use Rattle.lines.specs.Line.{space, Got, none, some, then_field, fields_of, fields_text, coded, line_of, line_text}
-use Rattle.lines.specs.{Sayable.Small, stages.Back.filled, declared.field.Field.Field, declared.line.Line.Line}
-use Rattle.lines.specs.declared.field.Field.TheVariants.{Value, Bad}
+use Rattle.lines.specs.{Sayable.Small, stages.Back.filled, declared.line.Line.Line}
 use Rattle.lines.proofs.{FieldLaws.coded_filled, HexText.hex_all, HexText.hex_whole, Writing.length_hex}
 
 -- one field and the rest of a line
-field_read : (n b : ℕ) (l xs : List ℕ) (f : Field) (g : Got) → b ≡ space → hex_from 16 0 l ≡ f →
+field_read : (n b : ℕ) (l xs : List ℕ) (f : Option ℕ) (g : Got) → b ≡ space → hex_from 16 0 l ≡ f →
     ((ys : List ℕ) → g ≡ some ys → (drop 16 l ≡ fields_text ys) × (length ys ≤ n)) → then_field f g ≡ some xs → (b ∷ l ≡ fields_text xs) × (length xs ≤ suc n)
 unfolding then_field fields_text
-field_read n b l xs Bad g e q r k = let z : ◌≡◌ {A = ℕ} 0 1 = cc in absurd (omega arith)
-field_read n b l xs (Value v) none e q r k = let z : ◌≡◌ {A = ℕ} 0 1 = cc in absurd (omega arith)
-field_read n b l xs (Value v) (some ys) e q r k =
+field_read n b l xs None g e q r k = let z : ◌≡◌ {A = ℕ} 0 1 = cc in absurd (omega arith)
+field_read n b l xs (Some v) none e q r k = let z : ◌≡◌ {A = ℕ} 0 1 = cc in absurd (omega arith)
+field_read n b l xs (Some v) (some ys) e q r k =
     let x : v ∷ ys ≡ xs = cc in
     let t : hex_text 16 v ≡ take 16 l = hex_whole 16 v l q in
     let d = r ys refl in
@@ -28,7 +28,7 @@ fields_write zero [] h a = refl
 fields_write (suc n) [] h a = refl
 fields_write zero (v ∷ xs) h a = absurd (omega arith)
 fields_write (suc n) (v ∷ xs) h a =
-    let p : hex_from 16 0 (hex_text 16 v ++ fields_text xs) ≡ Value v = hex_all 16 v (fields_text xs) a.0 in
+    let p : hex_from 16 0 (hex_text 16 v ++ fields_text xs) ≡ Some v = hex_all 16 v (fields_text xs) a.0 in
     let d : drop 16 (hex_text 16 v ++ fields_text xs) ≡ fields_text xs = drop_at (hex_text 16 v) (fields_text xs) 16 (length_hex 16 v) in
     rw (p, d, fields_write n xs (omega arith) a.1) (pick_true (eqb space space) (some (v ∷ xs)) none refl)
 
@@ -46,7 +46,7 @@ fields_read (suc n) (b ∷ l) xs q =
 pub line_write : (c : ℕ) (xs : List ℕ) → c < 256 → length xs ≤ 8 → Small xs → line_of (line_text c xs) ≡ filled c 0 (replicate 8 0) (some xs)
 unfolding line_of line_text
 line_write c xs h k a =
-    let p : hex_from 2 0 (hex_text 2 c ++ fields_text xs) ≡ Value c = hex_all 2 c (fields_text xs) h in
+    let p : hex_from 2 0 (hex_text 2 c ++ fields_text xs) ≡ Some c = hex_all 2 c (fields_text xs) h in
     let d : drop 2 (hex_text 2 c ++ fields_text xs) ≡ fields_text xs = drop_at (hex_text 2 c) (fields_text xs) 2 (length_hex 2 c) in
     rw (p, d, fields_write 8 xs k a) (coded_filled c (some xs))
 
@@ -64,11 +64,11 @@ pub record Told (l : List ℕ) (w : Line) : Type 0 where
   pub text : l ≡ line_text w.code (take w.count w.list)
   pub long : length w.list ≡ 8
 
-told : (l : List ℕ) (f : Field) (g : Got) → hex_from 2 0 l ≡ f → fields_of 8 (drop 2 l) ≡ g → (coded f g).good ≡ true → Told l (coded f g)
+told : (l : List ℕ) (f : Option ℕ) (g : Got) → hex_from 2 0 l ≡ f → fields_of 8 (drop 2 l) ≡ g → (coded f g).good ≡ true → Told l (coded f g)
 unfolding coded line_text
-told l Bad g e q k = let z : ◌≡◌ {A = ℕ} 0 1 = cc in absurd (omega arith)
-told l (Value c) none e q k = let z : ◌≡◌ {A = ℕ} 0 1 = cc in absurd (omega arith)
-told l (Value c) (some xs) e q k =
+told l None g e q k = let z : ◌≡◌ {A = ℕ} 0 1 = cc in absurd (omega arith)
+told l (Some c) none e q k = let z : ◌≡◌ {A = ℕ} 0 1 = cc in absurd (omega arith)
+told l (Some c) (some xs) e q k =
     let t : hex_text 2 c ≡ take 2 l = hex_whole 2 c l e in
     let d = fields_read 8 (drop 2 l) xs q in
     record {

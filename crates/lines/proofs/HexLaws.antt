@@ -1,10 +1,10 @@
 -- Laws of numbers in digits: what a loop over digits keeps. Assumes nothing.
+use Rattle.std.specs.Prelude.{Some, None, Option}
 use Rattle.types.proofs.Prelude.{◌≡◌, refl, sym, ap, ◌∙◌, List, ◌∷◌, ℕ, suc, ◌+◌, ◌-◌, ◌*◌, ◌<◌, ◌≤◌, ◌^◌, arith, add-one, ltb, length, drop, get_or, drop-cons}
 use Rattle.types.proofs.Prelude.{lt-ltb, le-ltb, pick_true, pick_false}
 use native.Mathlib.Nat.{pow-suc, pow-le-pow_right}
 use Rattle.types.specs.Pick.{pick}
-use Rattle.lines.specs.{Hex.digit_of, Hex.hex_from, declared.field.Field.Field}
-use Rattle.lines.specs.declared.field.Field.TheVariants.{Value, Bad}
+use Rattle.lines.specs.{Hex.digit_of, Hex.hex_from}
 
 cell : (s : List ℕ) (at i : ℕ) → at + i < length s → drop (at + i) s ≡ get_or s (at + i) 0 ∷ drop (at + (i + 1)) s
 cell s at i h =
@@ -17,24 +17,24 @@ left n i h = omega arith
 -- the next digit
 unroll : (n i at v : ℕ) (s : List ℕ) → i < n → at + i < length s →
     hex_from (n - i) v (drop (at + i) s) ≡
-    pick (ltb (digit_of (get_or s (at + i) 0)) 16) (hex_from (n - (i + 1)) (v * 16 + digit_of (get_or s (at + i) 0)) (drop (at + (i + 1)) s)) Bad
+    pick (ltb (digit_of (get_or s (at + i) 0)) 16) (hex_from (n - (i + 1)) (v * 16 + digit_of (get_or s (at + i) 0)) (drop (at + (i + 1)) s)) None
 unfolding hex_from
 unroll n i at v s h k = rw (left n i h, cell s at i k) refl
 
 -- the loop over digits: a digit more, no digit, the end, and the start
-pub hex_on : (n i at v : ℕ) (s : List ℕ) {d : ℕ} {f : Field} → i < n → at + n ≤ length s → d ≡ digit_of (get_or s (at + i) 0) → d ≤ 15 →
+pub hex_on : (n i at v : ℕ) (s : List ℕ) {d : ℕ} {f : Option ℕ} → i < n → at + n ≤ length s → d ≡ digit_of (get_or s (at + i) 0) → d ≤ 15 →
     hex_from (n - i) v (drop (at + i) s) ≡ f → hex_from (n - (i + 1)) (v * 16 + d) (drop (at + (i + 1)) s) ≡ f
 hex_on n i at v s {d} h k e g q =
     let t : digit_of (get_or s (at + i) 0) < 16 = omega arith in
     rw e (sym (pick_true _ _ _ (lt-ltb _ _ t)) ∙ sym (unroll n i at v s h (omega arith)) ∙ q)
 
-pub hex_bad : (n i at v : ℕ) (s : List ℕ) {d : ℕ} {f : Field} → i < n → at + n ≤ length s → d ≡ digit_of (get_or s (at + i) 0) → 15 < d →
-    hex_from (n - i) v (drop (at + i) s) ≡ f → Bad ≡ f
+pub hex_bad : (n i at v : ℕ) (s : List ℕ) {d : ℕ} {f : Option ℕ} → i < n → at + n ≤ length s → d ≡ digit_of (get_or s (at + i) 0) → 15 < d →
+    hex_from (n - i) v (drop (at + i) s) ≡ f → None ≡ f
 hex_bad n i at v s {d} h k e g q =
     let t : 16 ≤ digit_of (get_or s (at + i) 0) = omega arith in
     sym (pick_false _ _ _ (le-ltb _ _ t)) ∙ sym (unroll n i at v s h (omega arith)) ∙ q
 
-pub hex_end : (n i v : ℕ) (l : List ℕ) {f : Field} → n ≤ i → hex_from (n - i) v l ≡ f → Value v ≡ f
+pub hex_end : (n i v : ℕ) (l : List ℕ) {f : Option ℕ} → n ≤ i → hex_from (n - i) v l ≡ f → Some v ≡ f
 unfolding hex_from
 hex_end n i v l h q =
     let z : n - i ≡ 0 = omega arith in

@@ -1,10 +1,11 @@
 -- A number and its digits: each way, and only one text of so many digits. Assumes nothing.
+use Rattle.std.specs.Prelude.{Some}
 use Rattle.types.proofs.Prelude.{◌≡◌, refl, sym, ap, ◌∙◌, true, false, List, [], ◌∷◌, ◌++◌, append_assoc, append-nil, ℕ, zero, suc, ◌+◌, ◌-◌, ◌*◌, ◌/◌, ◌%◌}
 use Rattle.types.proofs.Prelude.{◌^◌, ◌<◌, ◌≤◌, arith, ltb, leb, take, ltb-true, ltb-false, leb-true, lt-ltb, le-ltb, pick_true, pick_false, either}
 use mathlib.Core.Logic.{◌⊎◌, inl, inr, ⊎_elim}
 use native.Mathlib.Nat.{pow-suc, mul_assoc}
 use Rattle.types.specs.Pick.{pick}
-use Rattle.lines.specs.{Hex.digit_of, Hex.char_of, Hex.hex_from, Hex.hex_text, declared.field.Field.TheVariants.Value}
+use Rattle.lines.specs.{Hex.digit_of, Hex.char_of, Hex.hex_from, Hex.hex_text}
 use Rattle.lines.proofs.Entries.{right, comes_back}
 
 -- a digit's byte, and a byte's digit
@@ -57,11 +58,11 @@ hex_write (suc k) n m a v rest e h =
     let u : (a * 16 ^ k + v / 16) * 16 + d ≡ a * 16 ^ suc k + v = omega (arith, ap (λ (x : ℕ). a * x) p) in
     rw (append_assoc (hex_text k (v / 16)) (char_of d ∷ []) rest) (i ∙ one (a * 16 ^ k + v / 16) d m rest (omega arith) ∙ ap (λ (x : ℕ). hex_from m x rest) u)
 
-pub hex_all : (k v : ℕ) (rest : List ℕ) → v < 16 ^ k → hex_from k 0 (hex_text k v ++ rest) ≡ Value v
+pub hex_all : (k v : ℕ) (rest : List ℕ) → v < 16 ^ k → hex_from k 0 (hex_text k v ++ rest) ≡ Some v
 unfolding hex_from
 hex_all k v rest h =
     let z : 0 * 16 ^ k + v ≡ v = omega arith in
-    hex_write k k 0 0 v rest (omega arith) h ∙ ap (λ (x : ℕ). Value x) z
+    hex_write k k 0 0 v rest (omega arith) h ∙ ap (λ (x : ℕ). Some x) z
 
 last : (m a b : ℕ) → digit_of b < 16 → hex_text (suc m) (a * 16 + digit_of b) ≡ hex_text m a ++ (b ∷ [])
 unfolding hex_text
@@ -71,7 +72,7 @@ last m a b h =
     rw (p, q, char_digit b h) refl
 
 -- a text of digits is the text of its number
-pub hex_read : (n m k a v : ℕ) (l : List ℕ) → k ≡ m + n → hex_from n a l ≡ Value v → hex_text k v ≡ hex_text m a ++ take n l
+pub hex_read : (n m k a v : ℕ) (l : List ℕ) → k ≡ m + n → hex_from n a l ≡ Some v → hex_text k v ≡ hex_text m a ++ take n l
 unfolding hex_from
 hex_read zero m k a v l e q =
     let j : k ≡ m = omega arith in
@@ -85,6 +86,6 @@ hex_read (suc n) m k a v (b ∷ l) e q =
     i ∙ ap (λ (z : List ℕ). z ++ take n l) (last m a b (ltb-true _ _ t)) ∙ append_assoc (hex_text m a) (b ∷ []) (take n l))
     (λ t. let y = sym (pick_false _ _ _ t) ∙ q in let z : ◌≡◌ {A = ℕ} 0 1 = cc in absurd (omega arith))
 
-pub hex_whole : (n v : ℕ) (l : List ℕ) → hex_from n 0 l ≡ Value v → hex_text n v ≡ take n l
+pub hex_whole : (n v : ℕ) (l : List ℕ) → hex_from n 0 l ≡ Some v → hex_text n v ≡ take n l
 unfolding hex_text
 hex_whole n v l q = hex_read n 0 n 0 v l (omega arith) q

@@ -1,7 +1,7 @@
 -- Document 01, "Operation lines": a two-digit code, then fields of 16 digits, each behind a single space.
-use Rattle.std.specs.Prelude.{ℕ, zero, suc, true, false, List, [], ◌∷◌, ◌++◌, eqb, ltb, length, drop, get_or, replicate}
+use Rattle.std.specs.Prelude.{ℕ, zero, suc, true, false, List, [], ◌∷◌, ◌++◌, eqb, ltb, length, drop, get_or, replicate, Some, None, Option}
 use Rattle.types.specs.Names.{pick, over, Done, done}
-use Rattle.lines.specs.{Hex.hex_from, Hex.hex_text, declared.field.Field.Field, declared.line.Line.Line}
+use Rattle.lines.specs.{Hex.hex_from, Hex.hex_text, declared.line.Line.Line}
 
 -- it stands before each field
 abbrev pub space : ℕ
@@ -25,10 +25,10 @@ pub data Got : Type 0 where
   some : List ℕ → Got
 
 -- a field, and what follows it
-unfoldable pub then_field : Field → Got → Got
-then_field Field.Bad g = none
-then_field (Field.Value v) none = none
-then_field (Field.Value v) (some l) = some (v ∷ l)
+unfoldable pub then_field : Option ℕ → Got → Got
+then_field None g = none
+then_field (Some v) none = none
+then_field (Some v) (some l) = some (v ∷ l)
 
 -- at most n fields, each behind a space, up to the end
 unfoldable pub fields_of : ℕ → List ℕ → Got
@@ -42,10 +42,10 @@ abbrev pub no_line : Line
 no_line = record { good = false; code = 0; count = 0; list = replicate most_fields 0 }
 
 -- a code, and fields behind it
-unfoldable pub coded : Field → Got → Line
-coded Field.Bad g = no_line
-coded (Field.Value code) none = no_line
-coded (Field.Value code) (some l) = record { good = true; code = code; count = length l; list = over (replicate most_fields 0) 0 l }
+unfoldable pub coded : Option ℕ → Got → Line
+coded None g = no_line
+coded (Some code) none = no_line
+coded (Some code) (some l) = record { good = true; code = code; count = length l; list = over (replicate most_fields 0) 0 l }
 
 -- a text as a line's numbers
 unfoldable pub line_of : List ℕ → Line

@@ -39,7 +39,13 @@ pub(crate) fn put_answer(out: &mut [u8], at: usize, answer: Answer, fuel: Fuel)
     requires { at + answer_bytes ≤ length out.old }
     ensures { out.new ≡ over out.old at (answer_line answer fuel) }
 {
-    write_answer(out, at, answer.number(), answer.shown(), fuel_shown(fuel));
+    write_answer(
+        out,
+        at,
+        types::answer::number(answer),
+        types::answer::shown(answer),
+        fuel_shown(fuel),
+    );
 }
 
 // An answer's line at the start of a buffer; nothing where it has less room.

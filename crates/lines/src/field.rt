@@ -4,13 +4,6 @@ ghost use Rattle.types.specs.Span.{over};
 ghost use Rattle.lines.specs.stages.Digits.{digit_table};
 ghost use Rattle.lines.specs.Hex.{digit_of, char_of, hex_from, hex_text};
 
-// A number, or text that is none.
-#[derive(Clone, Copy)]
-pub enum Field {
-    Value(u64),
-    Bad,
-}
-
 fn digit(t: &[u8; 256], b: u8) -> u8
     requires { t.now ≡ digit_table }
     ensures { result ≡ digit_of b }
@@ -19,7 +12,7 @@ fn digit(t: &[u8; 256], b: u8) -> u8
 }
 
 // The number of n digits at a place.
-pub(crate) fn hex(t: &[u8; 256], s: &[u8], at: usize, n: usize) -> Field
+pub(crate) fn hex(t: &[u8; 256], s: &[u8], at: usize, n: usize) -> Option<u64>
     requires { (at + n ≤ length s.now) × (n ≤ 16) × (t.now ≡ digit_table) }
     ensures { result ≡ hex_from n 0 (drop at s.now) }
 {
@@ -28,12 +21,12 @@ pub(crate) fn hex(t: &[u8; 256], s: &[u8], at: usize, n: usize) -> Field
     while i < n {
         let d = digit(t, s[at + i]);
         if 15 < d {
-            return Field::Bad;
+            return None;
         }
         v = v * 16 + (d as u64);
         i += 1;
     }
-    Field::Value(v)
+    Some(v)
 }
 
 fn char_of(d: u8) -> u8

@@ -7,7 +7,6 @@ ghost use Rattle.lines.specs.stages.Back.{filled};
 ghost use Rattle.lines.specs.Line.{most_fields, no_line, fields_of, line_of, fields_text, line_text, wrote_of};
 
 use super::field;
-use super::field::Field;
 
 // A space stands before each field, and LF ends a line.
 pub(crate) const SPACE: u8 = 32;
@@ -61,7 +60,7 @@ fn read_fields(t: &[u8; 256], s: &[u8], code: u64) -> Line
         if s[at] != SPACE {
             return no_line();
         }
-        let Field::Value(v) = field::hex(t, s, at + 1, 16) else {
+        let Some(v) = field::hex(t, s, at + 1, 16) else {
             return no_line();
         };
         list[n] = v;
@@ -84,7 +83,7 @@ pub(crate) fn read_by_table(t: &[u8; 256], s: &[u8]) -> Line
     if s.len() < 2 {
         return no_line();
     }
-    let Field::Value(code) = field::hex(t, s, 0, 2) else {
+    let Some(code) = field::hex(t, s, 0, 2) else {
         return no_line();
     };
     read_fields(t, s, code)

@@ -55,7 +55,7 @@ impl Session {
 fn refused() -> Answer
     ensures { result ≡ refuse 18 0 }
 {
-    Answer::Refusal(Refusal {
+    Err(Refusal {
         number: 18,
         amount: 0,
     })
@@ -92,7 +92,7 @@ fn turn(
         Read::Operation(op) => row::proceed(words, bytes, cells, items, op),
         Read::Making { metering, copied } => {
             make(words, metering, copied);
-            Answer::Value(Value::Number(0))
+            Ok(Value::Number(0))
         }
         Read::Malformed => refused(),
     }

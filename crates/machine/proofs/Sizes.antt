@@ -1,7 +1,7 @@
 -- On a row in form the two sizes are what the operations 12 and 22 answer, refusals too. Assumes nothing.
 use Rattle.types.proofs.Prelude.{ℕ, zero, suc, ◌+◌, ◌*◌, ◌<◌, ◌≡◌, refl, sym, ap, ◌∙◌, Bool, true, List, arith, ltb, length, ltb-true, le-leb}
 use Rattle.types.proofs.Prelude.{pick_true, pick_false, both_1, both_2, either}
-use Rattle.types.specs.{Done.Done, declared.answer.Answer.Answer}
+use Rattle.types.specs.{Done.Done, Answer.Answer}
 use Rattle.machine.specs.{Machine.Buffers, Sound.sound_machine, Sound.sound_over}
 use Rattle.machine.specs.{Operation.well_formed, Operation.memory_well_formed, Memories.perform_memory, Memories.on_memory}
 use Rattle.machine.specs.{Tables.perform_table, Tables.on_table, Step.Stepped, Step.perform, Step.step}

@@ -1,4 +1,5 @@
 -- What an operation does to records in use and to the cells of their rooms, over any kind of record; each operation touches its target alone. Assumes nothing.
+use Rattle.std.specs.Prelude.{Ok, Err, Result}
 use Rattle.types.proofs.Prelude.{ℕ, ◌+◌, ◌-◌, ◌≤◌, ◌<◌, ◌≡◌, refl, sym, ap, subst, ◌∙◌, Bool, true, false, List, arith, eqb, ltb, length, take, drop, get_or, set}
 use Rattle.types.proofs.Prelude.{drop-drop, lt-ltb, eqb-true, eqb-false, ltb-true, ltb-false, pick_true, both_1, either}
 use Rattle.types.proofs.Spans.{length_over, over_low, over_after, cut_of}
@@ -8,9 +9,9 @@ use Rattle.types.specs.{Pick.pick, Span.cut, Done.Done, declared.fuel.Fuel.Fuel,
 use Rattle.types.specs.{declared.raw.TypedRawRef.TypedRawRef, declared.memory_ty.MemoryType.MemoryType, declared.memory_ty.WantedMemory.WantedMemory}
 use Rattle.types.specs.{declared.span.CopySpan.CopySpan, declared.table_ty.WantedTable.WantedTable}
 use Rattle.memory.specs.{declared.grow.GrownMemory.GrownMemory, declared.new.CreatedMemory.CreatedMemory, Memory.sound_memory, declared.memory.Memory.Memory}
-use Rattle.memory.specs.{New.new_memory, Grow.grow_memory, declared.new.MadeMemory.MadeMemory}
+use Rattle.memory.specs.{New.new_memory, Grow.grow_memory}
 use Rattle.table.specs.{declared.grow.GrownTable.GrownTable, declared.new.CreatedTable.CreatedTable, Table.sound_table, New.new_table, Grow.grow_table}
-use Rattle.table.specs.{Element.dropped, Element.new_segment, Element.sound_segment, declared.new.MadeTable.MadeTable, declared.element.MadeSegment.MadeSegment}
+use Rattle.table.specs.{Element.dropped, Element.new_segment, Element.sound_segment}
 use Rattle.table.specs.{declared.table.Table.Table, declared.element.ElementSegment.ElementSegment}
 use Rattle.memory.proofs.Sounds.{sound_is}
 use Rattle.table.proofs.Frames.{Kept, dropped_sound}
@@ -27,17 +28,15 @@ use Rattle.machine.specs.{declared.records.Machine.Machine, declared.outcome.Out
 use Rattle.machine.specs.{declared.operation.MemoryOp.MemoryOp, declared.operation.TableOp.TableOp}
 use Rattle.machine.proofs.Rooms.{Parts, parts, memory_sound, table_sound, segment_sound}
 use Rattle.memory.specs.Memory as of_memory_lem
-use Rattle.memory.specs.declared.new.MadeMemory.TheVariants as made_memory_lem
 use Rattle.memory.proofs.Frames as memory_frames
 use Rattle.table.specs.Table as of_table_lem
-use Rattle.table.specs.declared.new.MadeTable.TheVariants as MakesTable
-use Rattle.table.specs.declared.element.MadeSegment.TheVariants as made_segment_lem
 use Rattle.table.proofs.Frames as table_frames
 use Rattle.machine.specs.declared.outcome.Change.TheVariants as change
 use Rattle.machine.specs.declared.operation.Operation.TheVariants as op
 use Rattle.machine.specs.declared.operation.MemoryOp.TheVariants as memory
 use Rattle.machine.specs.declared.operation.TableOp.TheVariants as table
 use Rattle.machine.proofs.ListLaws as lists
+use Rattle.types.specs.declared.answer.Refusal.{Refusal}
 
 -- spans that lie apart from the cells that may differ are as they were
 module _ (x e : ℕ) (cs ds : List ℕ) (w : Kept x e cs ds) where
@@ -416,14 +415,14 @@ module _ (m : Machine) (b : Buffers) (op : Operation) (e : sound_over m b ≡ tr
       c : Done CreatedMemory
       c = new_memory w (next_byte m) room b.bytes m.limiter
 
-      made : m.counts.memories < 8 → (y : MadeMemory) → c.out.made ≡ y
+      made : m.counts.memories < 8 → (y : Result Memory Refusal) → c.out.made ≡ y
           → To (recorded m (made_memory m y c.out.limiter)) (buffers c.cells b.cells b.items)
-      made h (made_memory_lem.Refused r) q =
+      made h (Err r) q =
           still _ (ap (λ (bs : List ℕ). buffers bs b.cells b.items)
           (memory_frames.new_kept w (next_byte m) room b.bytes m.limiter r q).0)
-      made h (made_memory_lem.Made r) q =
+      made h (Ok r) q =
           let v = memory_frames.new_done w (next_byte m) room b.bytes m.limiter r q in
-          let d : made_memory_lem.Made v.memory ≡ made_memory_lem.Made r = sym v.made ∙ q in
+          let d : Ok v.memory ≡ Ok r = sym v.made ∙ q in
           let z : v.memory ≡ r = cc in
           memory_added r _ _ h
           (sym (ap (sound_memory r) (memory_frames.new_length w (next_byte m) room b.bytes m.limiter))
@@ -454,10 +453,10 @@ module _ (m : Machine) (b : Buffers) (op : Operation) (e : sound_over m b ≡ tr
       f : table_frames.NewFrame (next_cell m) room b.cells c
       f = table_frames.new_frame w v (next_cell m) room b.cells m.limiter
 
-      made : m.counts.tables < 8 → (y : MadeTable) → c.out.made ≡ y
+      made : m.counts.tables < 8 → (y : Result Table Refusal) → c.out.made ≡ y
           → To (recorded m (made_table m y c.out.limiter)) (buffers b.bytes c.cells b.items)
-      made h (MakesTable.Refused r) q = still _ (ap (λ (cs : List ℕ). buffers b.bytes cs b.items) (f.refused r q))
-      made h (MakesTable.Made r) q = table_added r _ _ h (sym (ap (sound_table r) f.kept.long) ∙ f.sound r q) (f.placed r q).0 f.kept
+      made h (Err r) q = still _ (ap (λ (cs : List ℕ). buffers b.bytes cs b.items) (f.refused r q))
+      made h (Ok r) q = table_added r _ _ h (sym (ap (sound_table r) f.kept.long) ∙ f.sound r q) (f.placed r q).0 f.kept
 
   -- 21 to 25: an operation on one table
   on_table_lem : (r i : ℕ) (o : TableOp) → target_of m op ≡ InTable i → Leaves (on_cells (on_table r m b.cells i o) b)
@@ -499,15 +498,15 @@ module _ (m : Machine) (b : Buffers) (op : Operation) (e : sound_over m b ≡ tr
   new_segment_lem element given p =
       tested (λ (d : Done Outcome). Leaves (on_items d b)) _ _ _ (λ t. made (ltb-true m.counts.segments 8 (both_1 _ _ t)) _ refl) stays
     where
-      c : Done MadeSegment
+      c : Done (Result ElementSegment Refusal)
       c = new_segment element (next_item m) b.items given
 
       f : table_frames.SegmentFrame (next_item m) (length given) b.items c
       f = table_frames.segment_frame element (next_item m) b.items given
 
-      made : m.counts.segments < 8 → (y : MadeSegment) → c.out ≡ y → To (recorded m (made_segment m y)) (buffers b.bytes b.cells c.cells)
-      made h (made_segment_lem.Refused r) q = still _ (ap (buffers b.bytes b.cells) (f.refused r q))
-      made h (made_segment_lem.Made r) q = segment_added r _ _ h (sym (ap (sound_segment r) f.kept.long) ∙ f.sound r q) (f.placed r q).0 f.kept p
+      made : m.counts.segments < 8 → (y : Result ElementSegment Refusal) → c.out ≡ y → To (recorded m (made_segment m y)) (buffers b.bytes b.cells c.cells)
+      made h (Err r) q = still _ (ap (buffers b.bytes b.cells) (f.refused r q))
+      made h (Ok r) q = segment_added r _ _ h (sym (ap (sound_segment r) f.kept.long) ∙ f.sound r q) (f.placed r q).0 f.kept p
 
 -- every operation touches its target alone
 perform_touched : (r : ℕ) (m : Machine) (b : Buffers) (op : Operation) → sound_over m b ≡ true

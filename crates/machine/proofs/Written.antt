@@ -1,13 +1,14 @@
 -- Which words an operation leaves: only the fuel left changes but by a creation, a growth or a drop, or by handing a script over, which alone changes the script's answers. Assumes nothing.
+use Rattle.std.specs.Prelude.{Ok, Err, Result}
 use Rattle.types.proofs.Prelude.{ℕ, ◌≡◌, refl, ap, ◌∙◌, Bool, true, false, List, ltb}
 use lib.Seq.{set-get_or}
-use Rattle.types.specs.{Pick.pick, Done.Done, Fuel.left, Fuel.paid, Fuel.set_fuel, Fuel.consume, Fuel.consume_unchecked, Limiter.moved, declared.fuel.Fuel.Fuel, declared.fuel.FuelStep.FuelStep, declared.limiter.Limiter.Limiter}
+use Rattle.types.specs.{Pick.pick, Done.Done, Fuel.left, Fuel.paid, Fuel.set_fuel, Fuel.consume, Fuel.consume_unchecked, Limiter.moved, declared.fuel.Fuel.Fuel, declared.limiter.Limiter.Limiter}
 use Rattle.types.specs.{declared.memory_ty.WantedMemory.WantedMemory, declared.table_ty.WantedTable.WantedTable, declared.raw.TypedRawRef.TypedRawRef}
 use Rattle.types.specs.{declared.grant.Spanned.Spanned, declared.span.FillSpan.FillSpan, declared.span.CopySpan.CopySpan}
 use Rattle.memory.specs.{New.new_memory, Grow.grow_memory, declared.memory.Memory.Memory, declared.grow.GrownMemory.GrownMemory}
-use Rattle.memory.specs.{declared.new.MadeMemory.MadeMemory, declared.new.CreatedMemory.CreatedMemory}
-use Rattle.table.specs.{New.new_table, Grow.grow_table, Fill.fill_table, Copy.copy_table, Init.init_table, declared.table.Table.Table, declared.grow.GrownTable.GrownTable, declared.new.MadeTable.MadeTable}
-use Rattle.table.specs.{declared.new.CreatedTable.CreatedTable, declared.element.ElementSegment.ElementSegment, declared.element.MadeSegment.MadeSegment}
+use Rattle.memory.specs.{declared.new.CreatedMemory.CreatedMemory}
+use Rattle.table.specs.{New.new_table, Grow.grow_table, Fill.fill_table, Copy.copy_table, Init.init_table, declared.table.Table.Table, declared.grow.GrownTable.GrownTable}
+use Rattle.table.specs.{declared.new.CreatedTable.CreatedTable, declared.element.ElementSegment.ElementSegment}
 use Rattle.machine.specs.Machine.{Buffers, memory_at, table_at, segment_at, no_memory, no_table}
 use Rattle.machine.specs.Outcome.{with_memories, with_tables, changed, standing, metered, settled}
 use Rattle.machine.specs.Fueling.{set_by, charged_by, perform_fuel, fueled_out, on_fuel}
@@ -18,15 +19,13 @@ use Rattle.machine.specs.stages.Rows.{fuel_writes, memory_writes, table_writes, 
 use Rattle.machine.specs.{declared.records.Machine.Machine, declared.outcome.Outcome.Outcome, declared.operation.Writes.Writes}
 use Rattle.machine.specs.{declared.operation.FuelOp.FuelOp, declared.operation.MemoryOp.MemoryOp, declared.operation.TableOp.TableOp}
 use Rattle.machine.specs.declared.operation.Operation.{Operation}
-use Rattle.memory.specs.declared.new.MadeMemory.TheVariants as making_memory
-use Rattle.table.specs.declared.new.MadeTable.TheVariants as making_table
-use Rattle.table.specs.declared.element.MadeSegment.TheVariants as making_segment
 use Rattle.machine.specs.declared.outcome.Change.TheVariants as change
 use Rattle.machine.specs.declared.operation.Writes.TheVariants as writes
 use Rattle.machine.specs.declared.operation.FuelOp.TheVariants as fuel
 use Rattle.machine.specs.declared.operation.MemoryOp.TheVariants as memory
 use Rattle.machine.specs.declared.operation.TableOp.TheVariants as table
 use Rattle.machine.specs.declared.operation.Operation.TheVariants as op
+use Rattle.types.specs.declared.answer.Refusal.{Refusal}
 
 -- what holds on both ways of a test
 either_way : {A : Type 0} (P : A → Type 0) (t : Bool) (x y : A) → P x → P y → P (pick t x y)
@@ -131,18 +130,18 @@ module _ (r : ℕ) (m : Machine) where
   -- fuel
   on_fuel_lem : (o : FuelOp) → Left (fuel_writes o) m (on_fuel m o)
   unfolding Left on_fuel perform_fuel fuel_writes settled changed set_fuel set_by consume consume_unchecked charged_by
-  on_fuel_lem (fuel.SetFuel amount) = either_way (λ (s : FuelStep). Only (fueled_out m (set_by s m.fuel m.limiter))) _ _ _ refl refl
+  on_fuel_lem (fuel.SetFuel amount) = either_way (λ (s : Result Fuel Refusal). Only (fueled_out m (set_by s m.fuel m.limiter))) _ _ _ refl refl
   on_fuel_lem fuel.GetFuel = refl
   on_fuel_lem (fuel.Charge units) =
-      either_way (λ (s : FuelStep). Only (fueled_out m (charged_by s m.fuel m.limiter))) _ _ _
-      (either_way (λ (s : FuelStep). Only (fueled_out m (charged_by s m.fuel m.limiter))) _ _ _ refl refl) refl
+      either_way (λ (s : Result Fuel Refusal). Only (fueled_out m (charged_by s m.fuel m.limiter))) _ _ _
+      (either_way (λ (s : Result Fuel Refusal). Only (fueled_out m (charged_by s m.fuel m.limiter))) _ _ _ refl refl) refl
   on_fuel_lem (fuel.SetLimiter script) = refl
 
   -- memories
-  made_memory_left : (x : MadeMemory) (l : Limiter) → l.script ≡ m.limiter.script → Left writes.Record m (made_memory m x l)
+  made_memory_left : (x : Result Memory Refusal) (l : Limiter) → l.script ≡ m.limiter.script → Left writes.Record m (made_memory m x l)
   unfolding Left made_memory
-  made_memory_left (making_memory.Refused x) l h = h
-  made_memory_left (making_memory.Made x) l h = h
+  made_memory_left (Err x) l h = h
+  made_memory_left (Ok x) l h = h
 
   memory_back_lem : (i : ℕ) → standing (changed (change.Memory i (memory_at m i)) m) m.counts m.fuel m.limiter ≡ m
   memory_back_lem i = ap (λ (k : Machine). standing k m.counts m.fuel m.limiter) (memory_put_back m i)
@@ -156,10 +155,10 @@ module _ (r : ℕ) (m : Machine) where
   one_memory i bs (memory.LinkCheck wanted) = either_way (LeftDone writes.Nothing) _ _ _ (memory_back_lem i) refl
 
   -- tables
-  made_table_left : (x : MadeTable) (l : Limiter) → l.script ≡ m.limiter.script → Left writes.Record m (made_table m x l)
+  made_table_left : (x : Result Table Refusal) (l : Limiter) → l.script ≡ m.limiter.script → Left writes.Record m (made_table m x l)
   unfolding Left made_table
-  made_table_left (making_table.Refused x) l h = h
-  made_table_left (making_table.Made x) l h = h
+  made_table_left (Err x) l h = h
+  made_table_left (Ok x) l h = h
 
   table_back_lem : (i : ℕ) (f : Fuel) → standing (changed (change.Table i (table_at m i)) m) m.counts f m.limiter ≡ metered m f m.limiter
   table_back_lem i f = ap (λ (k : Machine). standing k m.counts f m.limiter) (table_put_back m i)
@@ -174,10 +173,10 @@ module _ (r : ℕ) (m : Machine) where
       either_way (LeftDone writes.Nothing) _ _ _
       (table_back_lem i _ ∙ ap (λ (f : Fuel). metered m f m.limiter) (fill_takes m.fuel r (table_at m i) cs _ value)) refl
 
-  made_segment_left : (x : MadeSegment) → Left writes.Record m (made_segment m x)
+  made_segment_left : (x : Result ElementSegment Refusal) → Left writes.Record m (made_segment m x)
   unfolding Left made_segment
-  made_segment_left (making_segment.Refused x) = refl
-  made_segment_left (making_segment.Made x) = refl
+  made_segment_left (Err x) = refl
+  made_segment_left (Ok x) = refl
 
   -- every operation
   pub leaves : (b : Buffers) (o : Operation) → Left (writes_of o) m (perform r m b o).out

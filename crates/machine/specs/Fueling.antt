@@ -1,21 +1,23 @@
 -- Document 01, operations 01 to 04: fuel and limiter.
-use Rattle.types.specs.Names.{accept, set_fuel, get_fuel, consume, hand_over, Answer, Fuel, FuelStep, Limiter, HandedOver}
+use Rattle.std.specs.Prelude.{Ok, Err, Result}
+use Rattle.types.specs.Names.{accept, set_fuel, get_fuel, consume, hand_over, Answer, Fuel, Limiter, HandedOver}
 use Rattle.machine.specs.{Operation.script_of, Outcome.leaves}
 use Rattle.machine.specs.declared.{records.Machine.Machine, outcome.Outcome.Outcome, fueling.Fueled.Fueled, operation.FuelOp.FuelOp}
+use Rattle.types.specs.declared.answer.Refusal.{Refusal}
 
 -- an answer, fuel and limiter after it
 abbrev pub fueled : Answer → Fuel → Limiter → Fueled
 fueled a f l = record { answer = a; fuel = f; limiter = l }
 
 -- 01: a step that answers nothing
-unfoldable pub set_by : FuelStep → Fuel → Limiter → Fueled
-set_by (FuelStep.Refused r) f l = fueled (Answer.Refusal r) f l
-set_by (FuelStep.Done left) f l = fueled (accept 0) left l
+unfoldable pub set_by : Result Fuel Refusal → Fuel → Limiter → Fueled
+set_by (Err r) f l = fueled (Err r) f l
+set_by (Ok left) f l = fueled (accept 0) left l
 
 -- 03: a charge answers the fuel left
-unfoldable pub charged_by : FuelStep → Fuel → Limiter → Fueled
-charged_by (FuelStep.Refused r) f l = fueled (Answer.Refusal r) f l
-charged_by (FuelStep.Done left) f l = fueled (accept left.remaining) left l
+unfoldable pub charged_by : Result Fuel Refusal → Fuel → Limiter → Fueled
+charged_by (Err r) f l = fueled (Err r) f l
+charged_by (Ok left) f l = fueled (accept left.remaining) left l
 
 -- 04: the script replaces the old one
 abbrev pub handed_by : HandedOver → Fuel → Fueled

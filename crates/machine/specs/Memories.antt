@@ -1,19 +1,20 @@
 -- Document 01, operations 10 to 14 and 30: memories. 16 is tested once, then an operation is one on the memory's own record.
-use Rattle.std.specs.Prelude.{ℕ, ◌-◌, List, leb, ltb, length}
+use Rattle.std.specs.Prelude.{ℕ, ◌-◌, List, leb, ltb, length, Ok, Err, Result}
 use Rattle.types.specs.Names.{pick, unless, both, Done, done, accept, build_memory, match_memory}
-use Rattle.types.specs.Names.{Answer, Fuel, Limiter, BuiltMemory, MemoryType, WantedMemory}
-use Rattle.memory.specs.Names.{pages_of, load_memory, store_memory, new_memory, grow_memory, Memory, GrownMemory, MadeMemory, CreatedMemory}
+use Rattle.types.specs.Names.{Answer, Fuel, Limiter, MemoryType, WantedMemory}
+use Rattle.memory.specs.Names.{pages_of, load_memory, store_memory, new_memory, grow_memory, Memory, GrownMemory, CreatedMemory}
 use Rattle.machine.specs.{Machine.capacity, Machine.memory_at, Machine.next_byte, Outcome.leaves, Outcome.creates, Outcome.refused, Outcome.one_memory_more}
 use Rattle.machine.specs.declared.{records.Machine.Machine, outcome.Outcome.Outcome, outcome.Change.Change, operation.MemoryOp.MemoryOp}
+use Rattle.types.specs.declared.answer.Refusal.{Refusal}
 
 -- an answer that leaves a memory's record, fuel and limiter
 abbrev pub memory_kept : Memory → Fuel → Limiter → Answer → GrownMemory
 memory_kept m f l a = record { answer = a; memory = m; fuel = f; limiter = l }
 
 -- 30: the wanted type is built (1), then 1 exactly when the given type is its subtype, else 0
-unfoldable pub linked : MemoryType → BuiltMemory → Answer
-linked t (BuiltMemory.Refused r) = Answer.Refusal r
-linked t (BuiltMemory.Built wanted) = accept (pick (match_memory t wanted) 1 0)
+unfoldable pub linked : MemoryType → Result MemoryType Refusal → Answer
+linked t (Err r) = Err r
+linked t (Ok wanted) = accept (pick (match_memory t wanted) 1 0)
 
 -- 30, against a memory's declared type
 unfoldable pub link_to : Memory → WantedMemory → Answer
@@ -46,9 +47,9 @@ on_memory m bs i o =
     (memory_done m i (perform_memory (memory_at m i) bs m.fuel m.limiter o))
 
 -- 10: a creation answers the new number; a refused one takes neither number nor room
-unfoldable pub made_memory : Machine → MadeMemory → Limiter → Outcome
-made_memory m (MadeMemory.Refused r) l = leaves m (Answer.Refusal r) m.fuel l
-made_memory m (MadeMemory.Made r) l =
+unfoldable pub made_memory : Machine → Result Memory Refusal → Limiter → Outcome
+made_memory m (Err r) l = leaves m (Err r) m.fuel l
+made_memory m (Ok r) l =
     creates m m.counts.memories (Change.Memory m.counts.memories r) (one_memory_more m.counts) l
 
 -- the same, with the bytes after it

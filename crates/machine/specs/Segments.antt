@@ -1,10 +1,12 @@
 -- Document 01, operations 27 to 29: segments. R, the bytes that a reference counts, is the first argument of an init.
-use Rattle.std.specs.Prelude.{ℕ, ◌-◌, List, leb, ltb, length}
-use Rattle.types.specs.Names.{unless, both, Done, done, refuse, accept, Answer, RefType, CopySpan}
-use Rattle.table.specs.Names.{init_table, dropped, new_segment, MadeSegment}
+use Rattle.std.specs.Prelude.{ℕ, ◌-◌, List, leb, ltb, length, Ok, Err, Result}
+use Rattle.types.specs.Names.{unless, both, Done, done, refuse, accept, RefType, CopySpan}
+use Rattle.table.specs.Names.{init_table, dropped, new_segment}
 use Rattle.machine.specs.Machine.{capacity, table_at, segment_at, next_item}
 use Rattle.machine.specs.{Outcome.keeps, Outcome.creates, Outcome.refused, Outcome.one_segment_more, Tables.spanned_done}
 use Rattle.machine.specs.declared.{records.Machine.Machine, outcome.Outcome.Outcome, outcome.Change.Change}
+use Rattle.table.specs.declared.element.ElementSegment.{ElementSegment}
+use Rattle.types.specs.declared.answer.Refusal.{Refusal}
 
 -- 27: 16, then the init
 unfoldable pub init_on : ℕ → Machine → List ℕ → List ℕ → ℕ → ℕ → CopySpan → Done Outcome
@@ -19,13 +21,13 @@ drop_on m i =
     (record { answer = accept 0; change = Change.Segment i (dropped (segment_at m i)); counts = m.counts; fuel = m.fuel; limiter = m.limiter })
 
 -- 29: a creation answers the new number
-unfoldable pub made_segment : Machine → MadeSegment → Outcome
-made_segment m (MadeSegment.Refused r) = keeps m (Answer.Refusal r)
-made_segment m (MadeSegment.Made r) =
+unfoldable pub made_segment : Machine → Result ElementSegment Refusal → Outcome
+made_segment m (Err r) = keeps m (Err r)
+made_segment m (Ok r) =
     creates m m.counts.segments (Change.Segment m.counts.segments r) (one_segment_more m.counts) m.limiter
 
 -- the same, with the items after it
-abbrev pub segment_made : Machine → Done MadeSegment → Done Outcome
+abbrev pub segment_made : Machine → Done (Result ElementSegment Refusal) → Done Outcome
 segment_made m s = done (made_segment m s.out) s.cells
 
 -- 17, then the one operation that writes items

@@ -6,8 +6,8 @@ ghost use Rattle.machine.specs.Fueling.{fueled, set_by, charged_by, handed_by, p
 use super::operation::FuelOp;
 use super::outcome::Outcome;
 use super::{fields, outcome, words};
-use types::answer::{Answer, Value};
-use types::fuel::{Fuel, FuelStep};
+use types::answer::{Answer, Refusal, Value};
+use types::fuel::Fuel;
 use types::limiter::{HandedOver, Limiter};
 
 // An answer, fuel and limiter after it.
@@ -29,22 +29,22 @@ fn meters(answer: Answer, fuel: Fuel, limiter: Limiter) -> Fueled
 }
 
 // By what setting the fuel says.
-fn set_by(step: FuelStep, fuel: Fuel, limiter: Limiter) -> Fueled
+fn set_by(step: Result<Fuel, Refusal>, fuel: Fuel, limiter: Limiter) -> Fueled
     ensures { result ≡ set_by step fuel limiter }
 {
     match step {
-        FuelStep::Refused(refusal) => meters(Answer::Refusal(refusal), fuel, limiter),
-        FuelStep::Done(left) => meters(Answer::Value(Value::Number(0)), left, limiter),
+        Err(refusal) => meters(Err(refusal), fuel, limiter),
+        Ok(left) => meters(Ok(Value::Number(0)), left, limiter),
     }
 }
 
 // By what the charge says; it answers the fuel left.
-fn charged_by(step: FuelStep, fuel: Fuel, limiter: Limiter) -> Fueled
+fn charged_by(step: Result<Fuel, Refusal>, fuel: Fuel, limiter: Limiter) -> Fueled
     ensures { result ≡ charged_by step fuel limiter }
 {
     match step {
-        FuelStep::Refused(refusal) => meters(Answer::Refusal(refusal), fuel, limiter),
-        FuelStep::Done(left) => meters(Answer::Value(Value::Number(left.remaining)), left, limiter),
+        Err(refusal) => meters(Err(refusal), fuel, limiter),
+        Ok(left) => meters(Ok(Value::Number(left.remaining)), left, limiter),
     }
 }
 

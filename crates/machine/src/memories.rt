@@ -16,11 +16,10 @@ use super::{outcome, row, words};
 use memory::access::StoreKind;
 use memory::grow::GrownMemory;
 use memory::memory::Memory;
-use memory::new::MadeMemory;
-use types::answer::{Answer, Value};
+use types::answer::{Answer, Refusal, Value};
 use types::fuel::Fuel;
 use types::limiter::Limiter;
-use types::memory_ty::{BuiltMemory, MemoryType, WantedMemory};
+use types::memory_ty::{MemoryType, WantedMemory};
 
 // An answer that leaves record, fuel and limiter.
 fn keep(memory: Memory, fuel: Fuel, limiter: Limiter, answer: Answer) -> GrownMemory
@@ -38,18 +37,18 @@ fn link_number(matches: bool) -> Answer
     ensures { result ≡ accept (pick matches 1 0) }
 {
     if matches {
-        return Answer::Value(Value::Number(1));
+        return Ok(Value::Number(1));
     }
-    Answer::Value(Value::Number(0))
+    Ok(Value::Number(0))
 }
 
 // 1 exactly when the declared type is a subtype of the wanted one.
-fn linked(ty: MemoryType, wanted: BuiltMemory) -> Answer
+fn linked(ty: MemoryType, wanted: Result<MemoryType, Refusal>) -> Answer
     ensures { result ≡ linked ty wanted }
 {
     match wanted {
-        BuiltMemory::Refused(refusal) => Answer::Refusal(refusal),
-        BuiltMemory::Built(other) => link_number(ty.is_subtype_of(other)),
+        Err(refusal) => Err(refusal),
+        Ok(other) => link_number(ty.is_subtype_of(other)),
     }
 }
 
@@ -81,7 +80,7 @@ fn store(
 fn size(memory: Memory) -> Answer
     ensures { result ≡ accept (pages_of memory) }
 {
-    Answer::Value(Value::Number(memory.pages()))
+    Ok(Value::Number(memory.pages()))
 }
 
 // One operation on one memory.
@@ -161,21 +160,16 @@ pub(crate) fn on_memory(words: &[u64], bytes: &mut [u8], number: u64, op: Memory
 }
 
 // A creation's outcome: the new number, or a refusal that takes neither number nor room.
-fn made_memory(words: &[u64], made: MadeMemory, limiter: Limiter) -> Outcome
+fn made_memory(words: &[u64], made: Result<Memory, Refusal>, limiter: Limiter) -> Outcome
     requires { (row_length ≤ length words.now) × ((machine_from words.now).counts.memories < capacity) }
     ensures { result ≡ made_memory (machine_from words.now) made limiter }
 {
     let counts = words::counts_from(words);
     let fuel = words::fuel_from(words);
     match made {
-        MadeMemory::Refused(refusal) => outcome::leaves(
-            words,
-            Answer::Refusal(refusal),
-            fuel,
-            limiter,
-        ),
-        MadeMemory::Made(memory) => Outcome {
-            answer: Answer::Value(Value::Number(counts.memories as u64)),
+        Err(refusal) => outcome::leaves(words, Err(refusal), fuel, limiter),
+        Ok(memory) => Outcome {
+            answer: Ok(Value::Number(counts.memories as u64)),
             change: Change::Memory(counts.memories, memory),
             counts: Counts {
                 memories: counts.memories + 1,

@@ -60,5 +60,5 @@ pub(crate) fn refuses(words: &[u64], number: u8) -> Outcome
     requires { row_length ≤ length words.now }
     ensures { result ≡ keeps (machine_from words.now) (refuse number 0) }
 {
-    keeps(words, Answer::Refusal(Refusal { number, amount: 0 }))
+    keeps(words, Err(Refusal { number, amount: 0 }))
 }

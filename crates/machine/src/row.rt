@@ -242,7 +242,7 @@ fn go(
 fn refused(number: u8) -> Answer
     ensures { result ≡ refuse number 0 }
 {
-    Answer::Refusal(Refusal { number, amount: 0 })
+    Err(Refusal { number, amount: 0 })
 }
 
 // One operation on a row whose form and soundness the caller carries from call to call: only its length, the counts and the next rooms' starts are tested.
@@ -348,7 +348,7 @@ pub fn memory_pages(words: &[u64], bytes: usize, cells: usize, items: usize, num
         return refused(19);
     }
     let memory = memory_at(words, i);
-    Answer::Value(Value::Number(memory.pages()))
+    Ok(Value::Number(memory.pages()))
 }
 
 // A table's size in cells, likewise 22's.
@@ -370,5 +370,5 @@ pub fn table_cells(words: &[u64], bytes: usize, cells: usize, items: usize, numb
         return refused(19);
     }
     let table = table_at(words, i);
-    Answer::Value(Value::Number(table.size))
+    Ok(Value::Number(table.size))
 }

@@ -14,9 +14,9 @@ use super::operation::Items;
 use super::outcome::{Change, Outcome};
 use super::records::Counts;
 use super::{outcome, row, tables, words};
-use table::element::{ElementSegment, MadeSegment};
+use table::element::ElementSegment;
 use table::table::Table;
-use types::answer::{Answer, Value};
+use types::answer::{Answer, Refusal, Value};
 use types::raw::RefType;
 use types::span::CopySpan;
 
@@ -77,7 +77,7 @@ pub(crate) fn drop_segment(words: &[u64], number: u64) -> Outcome
     let fuel = words::fuel_from(words);
     let limiter = words::limiter_from(words);
     Outcome {
-        answer: Answer::Value(Value::Number(0)),
+        answer: Ok(Value::Number(0)),
         change: Change::Segment(i, dropped),
         counts,
         fuel,
@@ -85,7 +85,7 @@ pub(crate) fn drop_segment(words: &[u64], number: u64) -> Outcome
     }
 }
 
-fn made_segment(words: &[u64], made: MadeSegment) -> Outcome
+fn made_segment(words: &[u64], made: Result<ElementSegment, Refusal>) -> Outcome
     requires { (row_length ≤ length words.now) × ((machine_from words.now).counts.segments < capacity) }
     ensures { result ≡ made_segment (machine_from words.now) made }
 {
@@ -93,9 +93,9 @@ fn made_segment(words: &[u64], made: MadeSegment) -> Outcome
     let fuel = words::fuel_from(words);
     let limiter = words::limiter_from(words);
     match made {
-        MadeSegment::Refused(refusal) => outcome::keeps(words, Answer::Refusal(refusal)),
-        MadeSegment::Made(segment) => Outcome {
-            answer: Answer::Value(Value::Number(counts.segments as u64)),
+        Err(refusal) => outcome::keeps(words, Err(refusal)),
+        Ok(segment) => Outcome {
+            answer: Ok(Value::Number(counts.segments as u64)),
             change: Change::Segment(counts.segments, segment),
             counts: Counts {
                 memories: counts.memories,

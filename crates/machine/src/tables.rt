@@ -16,9 +16,8 @@ use super::outcome::{Change, Outcome};
 use super::records::Counts;
 use super::{outcome, row, words};
 use table::grow::GrownTable;
-use table::new::MadeTable;
 use table::table::Table;
-use types::answer::{Answer, Value};
+use types::answer::{Answer, Refusal, Value};
 use types::fuel::Fuel;
 use types::grant::Spanned;
 use types::limiter::Limiter;
@@ -71,7 +70,7 @@ fn fill(
 fn size(table: Table) -> Answer
     ensures { result ≡ accept table.size }
 {
-    Answer::Value(Value::Number(table.size))
+    Ok(Value::Number(table.size))
 }
 
 // One operation on one table.
@@ -184,21 +183,16 @@ pub(crate) fn table_copy(
 }
 
 // A creation's outcome: the new number, or a refusal that takes neither number nor room.
-fn made_table(words: &[u64], made: MadeTable, limiter: Limiter) -> Outcome
+fn made_table(words: &[u64], made: Result<Table, Refusal>, limiter: Limiter) -> Outcome
     requires { (row_length ≤ length words.now) × ((machine_from words.now).counts.tables < capacity) }
     ensures { result ≡ made_table (machine_from words.now) made limiter }
 {
     let counts = words::counts_from(words);
     let fuel = words::fuel_from(words);
     match made {
-        MadeTable::Refused(refusal) => outcome::leaves(
-            words,
-            Answer::Refusal(refusal),
-            fuel,
-            limiter,
-        ),
-        MadeTable::Made(table) => Outcome {
-            answer: Answer::Value(Value::Number(counts.tables as u64)),
+        Err(refusal) => outcome::leaves(words, Err(refusal), fuel, limiter),
+        Ok(table) => Outcome {
+            answer: Ok(Value::Number(counts.tables as u64)),
             change: Change::Table(counts.tables, table),
             counts: Counts {
                 memories: counts.memories,

@@ -1,4 +1,5 @@
 -- Laws for the layer above: what is stored is loaded; a refusal changes nothing; an acceptance changes its span alone; soundness is kept. Assumes nothing.
+use Rattle.std.specs.Prelude.{Ok, Err, Some, None, Result, Option, ⊤}
 use Rattle.types.proofs.Prelude.{ℕ, zero, suc, ◌+◌, ◌-◌, ◌*◌, ◌/◌, ◌%◌, ◌^◌, ◌≤◌, ◌<◌, ◌≡◌, refl, sym, ap, subst, ◌∙◌, true, false, List, [], ◌∷◌, arith, eqb}
 use Rattle.types.proofs.Prelude.{leb, length, take, drop, get_or, replicate, length-replicate, leb-true, eqb-true, pick_true, pick_false, both_1, both_2, either}
 use Rattle.types.proofs.{Spans.within_is, Spans.over_nil, Spans.over_span, Spans.over_after, Spans.cut_before, Spans.length_over, Moves.length_cut}
@@ -9,23 +10,18 @@ use lib.{Arith.digits_mod, Arith.digits_div, Pow.mod-pow-add}
 use Rattle.types.specs.{Pick.pick, Pick.both, Done.Done, Done.done, Span.inside, Span.cut, Span.over}
 use Rattle.types.specs.{Answer.number_of, Answer.refusal, Answer.refuse, Answer.accept, Limits.admits_of, Limits.valid_maximum, Limits.valid_limits}
 use Rattle.types.specs.MemoryType.{page_bytes, page_bound, valid_memory, build_memory, minimum_bytes}
-use Rattle.types.specs.{declared.answer.Answer.Answer, declared.answer.Refusal.Refusal, declared.fuel.Fuel.Fuel, declared.limiter.Limiter.Limiter}
-use Rattle.types.specs.{declared.limiter.Permit.Permit, declared.limiter.Permit.TheVariants.Granted, declared.limiter.Permit.TheVariants.Denied}
-use Rattle.types.specs.{declared.memory_ty.MemoryType.MemoryType, declared.memory_ty.BuiltMemory.BuiltMemory, declared.memory_ty.ByteSize.ByteSize}
-use Rattle.types.specs.declared.memory_ty.ByteSize.TheVariants.{Bytes, Overflow}
+use Rattle.types.specs.{Answer.Answer, declared.answer.Refusal.Refusal, declared.fuel.Fuel.Fuel, declared.limiter.Limiter.Limiter}
+use Rattle.types.specs.{declared.memory_ty.MemoryType.MemoryType}
 use Rattle.types.specs.declared.memory_ty.WantedMemory.{WantedMemory}
 use Rattle.memory.specs.LittleEndian.{le_bytes, le_value}
 use Rattle.memory.specs.Access.{width_bytes, address_of, load_width, extend, loaded_of, load_found, load_at, store_width, store_found, store_at}
 use Rattle.memory.specs.Memory.{pages_of, resized, sound_memory, load_memory, store_memory}
 use Rattle.memory.specs.{Host.read_used, Host.read_memory, Host.write_used, Host.write_memory, Grow.grown_size, declared.access.LoadKind.LoadKind}
-use Rattle.memory.specs.{declared.access.StoreKind.StoreKind, declared.access.Address.Address}
-use Rattle.memory.specs.{declared.access.Address.TheVariants.At, declared.access.Address.TheVariants.Outside, declared.memory.Memory.Memory}
-use Rattle.memory.specs.declared.new.MadeMemory.TheVariants.{Made, Refused}
+use Rattle.memory.specs.{declared.access.StoreKind.StoreKind}
+use Rattle.memory.specs.{declared.memory.Memory.Memory}
 use Rattle.memory.specs.{declared.new.CreatedMemory.CreatedMemory, declared.grow.GrownMemory.GrownMemory}
 use Rattle.memory.proofs.{Bytes.length_bytes, Accesses.address_is, Sounds.Sound, Sounds.sound_is, Sounds.is_sound, Growths.reach_is, Growths.reach_more}
 use Rattle.memory.proofs.Readings.{grow_goes, grow_stops, new_goes, new_stops}
-use Rattle.types.specs.declared.answer.Answer.TheVariants as answer
-use Rattle.types.specs.declared.memory_ty.BuiltMemory.TheVariants as built
 use Rattle.memory.specs.New as new
 use Rattle.memory.specs.stages.New as new_stages
 use Rattle.memory.specs.Grow as grow
@@ -98,7 +94,7 @@ pub record Kept (bs : List ℕ) (s : Done Answer) : Type 0 where
 
 -- a store of v at the address a within the size bytes from base on
 pub record Stores (k : StoreKind) (bs : List ℕ) (base size ptr offset v : ℕ) (s : Done Answer) : Type 0 where
-  pub address : address_of size ptr offset (width_bytes (store_width k)) ≡ At (ptr + offset)
+  pub address : address_of size ptr offset (width_bytes (store_width k)) ≡ Some (ptr + offset)
   pub fits : ptr + offset + width_bytes (store_width k) ≤ size
   pub answer : s.out ≡ accept 0
   pub cells : s.cells ≡ over bs (base + (ptr + offset)) (le_bytes (width_bytes (store_width k)) v)
@@ -107,16 +103,16 @@ module _ (k : StoreKind) (bs : List ℕ) (base size ptr offset v : ℕ) where
   abbrev n : ℕ
   n = width_bytes (store_width k)
 
-  by_address : (f : Address) → address_of size ptr offset n ≡ f
+  by_address : (f : Option ℕ) → address_of size ptr offset n ≡ f
       → Kept bs (store_found k bs base v f) ⊎ Stores k bs base size ptr offset v (store_found k bs base v f)
   unfolding store_found number_of
-  by_address Outside e = inl (record { number = omega arith; cells = refl })
-  by_address (At a) e =
+  by_address None e = inl (record { number = omega arith; cells = refl })
+  by_address (Some a) e =
       let q = address_is size ptr offset n a e in
       let p = q.0 in
       inr
       (record {
-        address = e ∙ ap At p;
+        address = e ∙ ap Some p;
         fits = omega (arith, q.1);
         answer = refl;
         cells = ap (λ (x : ℕ). over bs (base + x) (le_bytes n v)) p;
@@ -128,19 +124,19 @@ module _ (k : StoreKind) (bs : List ℕ) (base size ptr offset v : ℕ) where
 
   -- a load of as many bytes answers the stored value
   pub store_at_load : (j : LoadKind) → width_bytes (load_width j) ≡ width_bytes (store_width k) → base + size ≤ length bs → number_of (store_at k bs base size ptr offset v).out ≡ 0
-      → load_at j (store_at k bs base size ptr offset v).cells base size ptr offset ≡ answer.Value (extend j (v % 2 ^ (8 * width_bytes (store_width k))))
+      → load_at j (store_at k bs base size ptr offset v).cells base size ptr offset ≡ Ok (extend j (v % 2 ^ (8 * width_bytes (store_width k))))
   unfolding load_at load_found loaded_of
   store_at_load j e h z = ⊎_elim (λ w. absurd (omega (arith, w.number))) go store_at_view
     where
       go : Stores k bs base size ptr offset v (store_at k bs base size ptr offset v)
-          → load_at j (store_at k bs base size ptr offset v).cells base size ptr offset ≡ answer.Value (extend j (v % 2 ^ (8 * n)))
+          → load_at j (store_at k bs base size ptr offset v).cells base size ptr offset ≡ Ok (extend j (v % 2 ^ (8 * n)))
       go w =
           let cs = (store_at k bs base size ptr offset v).cells in
           ap (λ (x : ℕ). load_found j cs base (address_of size ptr offset x)) e
           ∙ ap (load_found j cs base) w.address
-          ∙ ap (λ (x : ℕ). answer.Value (extend j (le_value (cut cs (base + (ptr + offset)) x)))) e
-          ∙ ap (λ (x : List ℕ). answer.Value (extend j (le_value (cut x (base + (ptr + offset)) n)))) w.cells
-          ∙ ap (λ (x : ℕ). answer.Value (extend j x)) (load_store bs (base + (ptr + offset)) n v (omega (arith, w.fits)))
+          ∙ ap (λ (x : ℕ). Ok (extend j (le_value (cut cs (base + (ptr + offset)) x)))) e
+          ∙ ap (λ (x : List ℕ). Ok (extend j (le_value (cut x (base + (ptr + offset)) n)))) w.cells
+          ∙ ap (λ (x : ℕ). Ok (extend j x)) (load_store bs (base + (ptr + offset)) n v (omega (arith, w.fits)))
 
 -- a store to a memory
 pub record StoresTo (k : StoreKind) (m : Memory) (bs : List ℕ) (ptr offset v : ℕ) (s : Done Answer) : Type 0 where
@@ -195,7 +191,7 @@ module _ (k : StoreKind) (m : Memory) (bs : List ℕ) (ptr offset v : ℕ) where
       store_view
 
   pub store_load : (j : LoadKind) → width_bytes (load_width j) ≡ width_bytes (store_width k) → number_of (store_memory k m bs ptr offset v).out ≡ 0
-      → load_memory j m (store_memory k m bs ptr offset v).cells ptr offset ≡ answer.Value (extend j (v % 2 ^ (8 * width_bytes (store_width k))))
+      → load_memory j m (store_memory k m bs ptr offset v).cells ptr offset ≡ Ok (extend j (v % 2 ^ (8 * width_bytes (store_width k))))
   unfolding load_memory
   store_load j e z =
       let w = store_done z in
@@ -293,11 +289,11 @@ record Enlarges (m : Memory) (bs : List ℕ) (size : ℕ) (g : Done GrownMemory)
   memory : g.out.memory ≡ resized m size
   cells : g.cells ≡ over bs (m.start + m.size) (replicate (size - m.size) 0)
 
-enlarged_view : (p : Permit) (f : Fuel) (l : Limiter) (m : Memory) (bs : List ℕ) (size : ℕ) → Fair p (both true (leb size m.room))
+enlarged_view : (p : Result ⊤ Refusal) (f : Fuel) (l : Limiter) (m : Memory) (bs : List ℕ) (size : ℕ) → Fair p (both true (leb size m.room))
     → Stays m bs (grow_stages.enlarged_by p f l m bs size) ⊎ Enlarges m bs size (grow_stages.enlarged_by p f l m bs size)
 unfolding grow_stages.enlarged_by number_of
-enlarged_view (Denied r) f l m bs size h = inl (record { number = h.1 r refl; memory = refl; cells = refl })
-enlarged_view Granted f l m bs size h =
+enlarged_view (Err r) f l m bs size h = inl (record { number = h.1 r refl; memory = refl; cells = refl })
+enlarged_view (Ok tt) f l m bs size h =
     inr (record { held = leb-true _ _ (both_2 _ _ (h.0 refl)); answer = refl; memory = refl; cells = refl })
 
 -- the same type and place
@@ -345,10 +341,10 @@ module _ (m : Memory) (bs : List ℕ) (n : ℕ) (f : Fuel) (l : Limiter) where
           cells = w.cells ∙ ap (λ (x : ℕ). over bs (m.start + m.size) (replicate (x - m.size) 0)) (sym q);
         }
 
-    by_reach_lem : (to : ByteSize) → grow_stages.reach_of m n ≡ to → Stays m bs (grow_stages.by_reach to m bs f l) ⊎ Grows m bs n (grow_stages.by_reach to m bs f l)
+    by_reach_lem : (to : Option ℕ) → grow_stages.reach_of m n ≡ to → Stays m bs (grow_stages.by_reach to m bs f l) ⊎ Grows m bs n (grow_stages.by_reach to m bs f l)
     unfolding grow_stages.by_reach number_of
-    by_reach_lem Overflow e = inl (record { number = omega arith; memory = refl; cells = refl })
-    by_reach_lem (Bytes size) e =
+    by_reach_lem None e = inl (record { number = omega arith; memory = refl; cells = refl })
+    by_reach_lem (Some size) e =
         let r = reach_is m.ty (pages_of m + n) size e in
         ⊎_elim inl (λ w. inr (grows size _ r.0 r.1 w)) (to_view size)
 
@@ -428,26 +424,26 @@ module _ (m : Memory) (bs : List ℕ) (n : ℕ) (f : Fuel) (l : Limiter) where
 -- a refused creation: no byte changes
 pub record NotMade (bs : List ℕ) (c : Done CreatedMemory) : Type 0 where
   pub refusal : Refusal
-  pub made : c.out.made ≡ Refused refusal
+  pub made : c.out.made ≡ Err refusal
   pub number : 0 < refusal.number
   pub cells : c.cells ≡ bs
 
 -- a memory that was made: of a valid type, in its room, with the minimum's bytes, which are 0
-pub record Makes (kind : BuiltMemory) (bs : List ℕ) (start room : ℕ) (c : Done CreatedMemory) : Type 0 where
+pub record Makes (kind : Result MemoryType Refusal) (bs : List ℕ) (start room : ℕ) (c : Done CreatedMemory) : Type 0 where
   pub memory : Memory
-  pub made : c.out.made ≡ Made memory
-  pub type : kind ≡ built.Built memory.ty
-  pub size : minimum_bytes memory.ty ≡ Bytes memory.size
+  pub made : c.out.made ≡ Ok memory
+  pub type : kind ≡ Ok memory.ty
+  pub size : minimum_bytes memory.ty ≡ Some memory.size
   pub start_is : memory.start ≡ start
   pub room_is : memory.room ≡ room
   pub sound : Sound memory (length bs)
   pub cells : c.cells ≡ over bs start (replicate memory.size 0)
 
-module _ (kind : BuiltMemory) (bs : List ℕ) (start room : ℕ) (h : start + room ≤ length bs) where
+module _ (kind : Result MemoryType Refusal) (bs : List ℕ) (start room : ℕ) (h : start + room ≤ length bs) where
   abbrev View : Done CreatedMemory → Type 0
   View c = NotMade bs c ⊎ Makes kind bs start room c
 
-  module _ (t : MemoryType) (v : valid_memory t ≡ true) (d : kind ≡ built.Built t) where
+  module _ (t : MemoryType) (v : valid_memory t ≡ true) (d : kind ≡ Ok t) where
     -- a memory of the minimum's size in its room is sound
     made_sound : (size : ℕ) → t.limits.minimum * page_bytes t.page ≡ size → size ≤ room → Sound (new.memory_of t start room size) (length bs)
     unfolding pages_of valid_memory valid_limits valid_maximum admits_of
@@ -468,10 +464,10 @@ module _ (kind : BuiltMemory) (bs : List ℕ) (start room : ℕ) (h : start + ro
               (λ q. pick_false _ _ _ q);
         }
 
-    made_by_lem : (p : Permit) (l : Limiter) (size : ℕ) → minimum_bytes t ≡ Bytes size → Fair p (leb size room) → View (new_stages.made_by p l (new.memory_of t start room size) bs)
+    made_by_lem : (p : Result ⊤ Refusal) (l : Limiter) (size : ℕ) → minimum_bytes t ≡ Some size → Fair p (leb size room) → View (new_stages.made_by p l (new.memory_of t start room size) bs)
     unfolding new_stages.made_by
-    made_by_lem (Denied r) l size e g = inl (record { refusal = r; made = refl; number = g.1 r refl; cells = refl })
-    made_by_lem Granted l size e g =
+    made_by_lem (Err r) l size e g = inl (record { refusal = r; made = refl; number = g.1 r refl; cells = refl })
+    made_by_lem (Ok tt) l size e g =
         inr
         (record {
           memory = new.memory_of t start room size;
@@ -484,16 +480,16 @@ module _ (kind : BuiltMemory) (bs : List ℕ) (start room : ℕ) (h : start + ro
           cells = refl;
         })
 
-    by_size_lem : (to : ByteSize) (l : Limiter) → minimum_bytes t ≡ to → View (new_stages.by_size to l t start room bs)
+    by_size_lem : (to : Option ℕ) (l : Limiter) → minimum_bytes t ≡ to → View (new_stages.by_size to l t start room bs)
     unfolding new_stages.by_size new_stages.made_of
-    by_size_lem Overflow l e = inl (record { refusal = refusal 2 0; made = refl; number = omega arith; cells = refl })
-    by_size_lem (Bytes size) l e = made_by_lem _ _ size e (creation_fair l (leb size room))
+    by_size_lem None l e = inl (record { refusal = refusal 2 0; made = refl; number = omega arith; cells = refl })
+    by_size_lem (Some size) l e = made_by_lem _ _ size e (creation_fair l (leb size room))
 
-  by_type_lem : (k : BuiltMemory) (l : Limiter) → kind ≡ k → ((t : MemoryType) → k ≡ built.Built t → valid_memory t ≡ true) → ((r : Refusal) → k ≡ built.Refused r → 0 < r.number)
+  by_type_lem : (k : Result MemoryType Refusal) (l : Limiter) → kind ≡ k → ((t : MemoryType) → k ≡ Ok t → valid_memory t ≡ true) → ((r : Refusal) → k ≡ Err r → 0 < r.number)
       → View (new_stages.by_type k l start room bs)
   unfolding new_stages.by_type
-  by_type_lem (built.Refused r) l e p q = inl (record { refusal = r; made = refl; number = q r refl; cells = refl })
-  by_type_lem (built.Built t) l e p q = by_size_lem t (p t refl) e (minimum_bytes t) l refl
+  by_type_lem (Err r) l e p q = inl (record { refusal = r; made = refl; number = q r refl; cells = refl })
+  by_type_lem (Ok t) l e p q = by_size_lem t (p t refl) e (minimum_bytes t) l refl
 
 module _ (want : WantedMemory) (start room : ℕ) (bs : List ℕ) (l : Limiter) where
   pub new_view : NotMade bs (new.new_memory want start room bs l) ⊎ Makes (build_memory want.wide want.limits want.exponent) bs start room (new.new_memory want start room bs l)
@@ -506,20 +502,20 @@ module _ (want : WantedMemory) (start room : ℕ) (bs : List ℕ) (l : Limiter) 
       (λ e. inl (subst (NotMade bs) (new_stops want start room bs l e refl) (record { refusal = refusal 19 0; made = refl; number = omega arith; cells = refl })))
 
   -- a refused creation changes no byte, and its number is not 0
-  pub new_kept : (r : Refusal) → (new.new_memory want start room bs l).out.made ≡ Refused r
+  pub new_kept : (r : Refusal) → (new.new_memory want start room bs l).out.made ≡ Err r
       → ((new.new_memory want start room bs l).cells ≡ bs) × (0 < r.number)
   new_kept r e =
       ⊎_elim
-      (λ w. let d : Refused w.refusal ≡ Refused r = sym w.made ∙ e in let k : w.refusal ≡ r = cc in (w.cells, subst (λ (x : Refusal). 0 < x.number) k w.number))
-      (λ w. let d : Made w.memory ≡ Refused r = sym w.made ∙ e in let z : ◌≡◌ {A = ℕ} 0 1 = cc in absurd (omega arith))
+      (λ w. let d : Err w.refusal ≡ Err r = sym w.made ∙ e in let k : w.refusal ≡ r = cc in (w.cells, subst (λ (x : Refusal). 0 < x.number) k w.number))
+      (λ w. let d : Ok w.memory ≡ Err r = sym w.made ∙ e in let z : ◌≡◌ {A = ℕ} 0 1 = cc in absurd (omega arith))
       new_view
 
   -- a memory that was made
-  pub new_done : (m : Memory) → (new.new_memory want start room bs l).out.made ≡ Made m
+  pub new_done : (m : Memory) → (new.new_memory want start room bs l).out.made ≡ Ok m
       → Makes (build_memory want.wide want.limits want.exponent) bs start room (new.new_memory want start room bs l)
   new_done m e =
       ⊎_elim
-      (λ w. let d : Refused w.refusal ≡ Made m = sym w.made ∙ e in let z : ◌≡◌ {A = ℕ} 0 1 = cc in absurd (omega arith))
+      (λ w. let d : Err w.refusal ≡ Ok m = sym w.made ∙ e in let z : ◌≡◌ {A = ℕ} 0 1 = cc in absurd (omega arith))
       (λ w. w)
       new_view
 
@@ -544,10 +540,10 @@ module _ (want : WantedMemory) (start room : ℕ) (bs : List ℕ) (l : Limiter) 
       new_view
 
   -- a memory that was made is sound over the buffer
-  pub new_sound : (m : Memory) → (new.new_memory want start room bs l).out.made ≡ Made m
+  pub new_sound : (m : Memory) → (new.new_memory want start room bs l).out.made ≡ Ok m
       → sound_memory m (length (new.new_memory want start room bs l).cells) ≡ true
   new_sound m e =
       let w = new_done m e in
-      let d : Made w.memory ≡ Made m = sym w.made ∙ e in
+      let d : Ok w.memory ≡ Ok m = sym w.made ∙ e in
       let k : w.memory ≡ m = cc in
       ap (sound_memory m) new_length ∙ ap (λ (x : Memory). sound_memory x (length bs)) (sym k) ∙ is_sound w.memory (length bs) w.sound

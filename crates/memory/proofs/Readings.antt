@@ -1,17 +1,16 @@
 -- The stages of the code are the chains of checks that the definitions say. Assumes nothing.
+use Rattle.std.specs.Prelude.{Ok, Err, Some, None}
 use Rattle.types.proofs.Prelude.{◌≡◌, ap, sym, ◌∙◌, Bool, true, false, List, ℕ, ◌+◌, ◌-◌, ◌^◌, eqb, leb, ltb, length, replicate, pick_true, pick_false}
 use Rattle.types.proofs.{Picks.pick_ap, Chains.growth_chain, Chains.creation_chain}
 use Rattle.types.specs.{Pick.pick, Pick.both, Pick.unless, Done.Done, Done.done, Span.over, Answer.refusal, Answer.refuse, Answer.accept, Fuel.short, Fuel.paid}
 use Rattle.types.specs.{Limiter.says_of, Limiter.moved, Limiter.heard_of, Limiter.noticed, declared.fuel.Fuel.Fuel, declared.limiter.Limiter.Limiter}
 use Rattle.types.specs.MemoryType.{valid_exponent, valid_memory, build_memory, byte_size, minimum_bytes}
-use Rattle.types.specs.declared.memory_ty.ByteSize.TheVariants.{Bytes, Overflow}
 use Rattle.types.specs.declared.memory_ty.WantedMemory.{WantedMemory}
 use Rattle.memory.specs.Memory.{pages_of, resized, sound_memory}
 use Rattle.memory.specs.Grow.{answered, may_have, grown_size, growth_price, grow_memory}
 use Rattle.memory.specs.stages.Grow.{reach_pages, reach_of, enlarged_by, grant_of, grow_to, by_reach, grow_sound}
 use Rattle.memory.specs.{stages.New.made_by, stages.New.made_of, stages.New.by_size, stages.New.by_type, declared.memory.Memory.Memory}
-use Rattle.memory.specs.{declared.new.MadeMemory.TheVariants.Made, declared.new.CreatedMemory.CreatedMemory, declared.grow.GrownMemory.GrownMemory}
-use Rattle.types.specs.declared.memory_ty.BuiltMemory.TheVariants as built
+use Rattle.memory.specs.{declared.new.CreatedMemory.CreatedMemory, declared.grow.GrownMemory.GrownMemory}
 use Rattle.memory.specs.New as new
 
 module _ (m : Memory) (bs : List ℕ) (n : ℕ) (f : Fuel) (l : Limiter) where
@@ -33,7 +32,7 @@ module _ (m : Memory) (bs : List ℕ) (n : ℕ) (f : Fuel) (l : Limiter) where
   reach_chain : by_reach (reach_of m n) m bs f l ≡ unless (may_have m.ty (pages_of m + n)) (done (answered (refuse 6 0) m f l) bs) granted
   unfolding reach_pages by_reach
   reach_chain =
-      pick_ap (λ to. by_reach to m bs f l) (may_have m.ty (pages_of m + n)) (Bytes (grown_size m n)) Overflow
+      pick_ap (λ to. by_reach to m bs f l) (may_have m.ty (pages_of m + n)) (Some (grown_size m n)) None
       ∙ ap (λ (g : Done GrownMemory). pick (may_have m.ty (pages_of m + n)) g (done (answered (refuse 6 0) m f l) bs)) to_chain
 
   pub grow_staged : grow_memory m bs n f l ≡ pick (sound_memory m (length bs)) (grow_sound m bs n f l) (done (answered (refuse 19 0) m f l) bs)
@@ -59,7 +58,7 @@ module _ (w : WantedMemory) (start room : ℕ) (bs : List ℕ) (l : Limiter) whe
       pick (eqb (says_of l) 1) (done (new.refused (moved l) (refusal 3 0)) bs)
       (pick (eqb (says_of l) 2) (done (new.refused (moved l) (refusal 4 0)) bs)
       (unless (leb least room) (done (new.refused (moved (moved l)) (heard_of (says_of (moved l)) (refusal 5 0))) bs)
-      (done (record { made = Made (new.memory_of (new.wanted w) start room least); limiter = moved l })
+      (done (record { made = Ok (new.memory_of (new.wanted w) start room least); limiter = moved l })
       (over bs start (replicate least 0)))))
 
   made_chain : made_of l (new.memory_of (new.wanted w) start room least) bs ≡ made
@@ -70,7 +69,7 @@ module _ (w : WantedMemory) (start room : ℕ) (bs : List ℕ) (l : Limiter) whe
       ≡ unless (ltb least (2 ^ 64)) (done (new.refused l (refusal 2 0)) bs) made
   unfolding minimum_bytes byte_size by_size
   size_chain =
-      pick_ap (λ to. by_size to l (new.wanted w) start room bs) (ltb least (2 ^ 64)) (Bytes least) Overflow
+      pick_ap (λ to. by_size to l (new.wanted w) start room bs) (ltb least (2 ^ 64)) (Some least) None
       ∙ ap (λ (c : Done CreatedMemory). pick (ltb least (2 ^ 64)) c (done (new.refused l (refusal 2 0)) bs)) made_chain
 
   abbrev valid : Bool
@@ -80,7 +79,7 @@ module _ (w : WantedMemory) (start room : ℕ) (bs : List ℕ) (l : Limiter) whe
       ≡ unless valid (done (new.refused l (refusal 1 0)) bs) (unless (ltb least (2 ^ 64)) (done (new.refused l (refusal 2 0)) bs) made)
   unfolding build_memory by_type
   type_chain =
-      pick_ap (λ t. by_type t l start room bs) valid (built.Built (new.wanted w)) (built.Refused (refusal 1 0))
+      pick_ap (λ t. by_type t l start room bs) valid (Ok (new.wanted w)) (Err (refusal 1 0))
       ∙ ap (λ (c : Done CreatedMemory). pick valid c (done (new.refused l (refusal 1 0)) bs)) size_chain
 
   pub new_staged : new.new_memory w start room bs l

@@ -1,10 +1,10 @@
 -- Loads and stores: document 01, "Access"; WebAssembly Core Specification 3.0, Execution, Instructions, memory instructions.
-use Rattle.std.specs.Prelude.{ℕ, ◌+◌, List, ltb, length, pos}
+use Rattle.std.specs.Prelude.{ℕ, ◌+◌, List, ltb, length, pos, Ok, Some, None, Option}
 use Rattle.std.specs.Int.{w8, w16, w32, w64}
 use Rattle.std.proofs.Common.{to_z}
 use Rattle.types.specs.Names.{word64, pick, Done, done, inside, cut, over, float32, float64, refuse, accept, Answer, Value}
 use Rattle.memory.specs.LittleEndian.{le_bytes, le_value}
-use Rattle.memory.specs.declared.access.{Width.Width, LoadKind.LoadKind, StoreKind.StoreKind, Address.Address}
+use Rattle.memory.specs.declared.access.{Width.Width, LoadKind.LoadKind, StoreKind.StoreKind}
 
 -- the bytes of a width
 abbrev pub width_bytes : Width → ℕ
@@ -14,9 +14,9 @@ width_bytes Width.W32 = 4
 width_bytes Width.W64 = 8
 
 -- the effective address is pointer plus offset; a sum above 2^64-1 is outside, and so is an access whose end passes the size
-unfoldable pub address_of : ℕ → ℕ → ℕ → ℕ → Address
+unfoldable pub address_of : ℕ → ℕ → ℕ → ℕ → Option ℕ
 address_of size ptr offset n =
-    pick (ltb (ptr + offset) word64) (pick (inside (ptr + offset) n size) (Address.At (ptr + offset)) Address.Outside) Address.Outside
+    pick (ltb (ptr + offset) word64) (pick (inside (ptr + offset) n size) (Some (ptr + offset)) None) None
 
 -- how many bytes a load reads
 abbrev pub load_width : LoadKind → Width
@@ -54,12 +54,12 @@ extend LoadKind.I64From32U n = Value.I64 (pos n)
 
 -- what stands at a place, little-endian
 unfoldable pub loaded_of : LoadKind → List ℕ → ℕ → Answer
-loaded_of k bs at = Answer.Value (extend k (le_value (cut bs at (width_bytes (load_width k)))))
+loaded_of k bs at = Ok (extend k (le_value (cut bs at (width_bytes (load_width k)))))
 
 -- 9 outside
-unfoldable pub load_found : LoadKind → List ℕ → ℕ → Address → Answer
-load_found k bs base Address.Outside = refuse 9 0
-load_found k bs base (Address.At a) = loaded_of k bs (base + a)
+unfoldable pub load_found : LoadKind → List ℕ → ℕ → Option ℕ → Answer
+load_found k bs base None = refuse 9 0
+load_found k bs base (Some a) = loaded_of k bs (base + a)
 
 -- a load from the memory whose size bytes stand from base on
 unfoldable pub load_at : LoadKind → List ℕ → ℕ → ℕ → ℕ → ℕ → Answer
@@ -82,9 +82,9 @@ store_width StoreKind.I64To16 = Width.W16
 store_width StoreKind.I64To32 = Width.W32
 
 -- 9 outside, and then no byte changes; else the low bytes of the value, the lowest first
-unfoldable pub store_found : StoreKind → List ℕ → ℕ → ℕ → Address → Done Answer
-store_found k bs base v Address.Outside = done (refuse 9 0) bs
-store_found k bs base v (Address.At a) = done (accept 0) (over bs (base + a) (le_bytes (width_bytes (store_width k)) v))
+unfoldable pub store_found : StoreKind → List ℕ → ℕ → ℕ → Option ℕ → Done Answer
+store_found k bs base v None = done (refuse 9 0) bs
+store_found k bs base v (Some a) = done (accept 0) (over bs (base + a) (le_bytes (width_bytes (store_width k)) v))
 
 -- a store to the memory whose size bytes stand from base on
 unfoldable pub store_at : StoreKind → List ℕ → ℕ → ℕ → ℕ → ℕ → ℕ → Done Answer

@@ -1,12 +1,12 @@
 -- Document 01, "First check wins", new memory: 1, 2, limiter 3/4, room 5 with notice; not metered; cells become 0.
-use Rattle.std.specs.Prelude.{ℕ, ◌+◌, ◌*◌, List, eqb, leb, ltb, length, replicate}
+use Rattle.std.specs.Prelude.{ℕ, ◌+◌, ◌*◌, List, eqb, leb, ltb, length, replicate, Ok, Err}
 use Rattle.types.specs.Names.{word64, pick, unless, both, Done, done, over, refusal, says_of, moved, heard_of, page_bytes, page_of, memory_type}
 use Rattle.types.specs.Names.{valid_exponent, valid_memory, Refusal, Limiter, MemoryType, WantedMemory}
-use Rattle.memory.specs.declared.{memory.Memory.Memory, new.MadeMemory.MadeMemory, new.CreatedMemory.CreatedMemory}
+use Rattle.memory.specs.declared.{memory.Memory.Memory, new.CreatedMemory.CreatedMemory}
 
 -- a refused creation changes no byte
 abbrev pub refused : Limiter → Refusal → CreatedMemory
-refused l r = record { made = MadeMemory.Refused r; limiter = l }
+refused l r = record { made = Err r; limiter = l }
 
 -- a memory's record
 abbrev pub memory_of : MemoryType → ℕ → ℕ → ℕ → Memory
@@ -29,5 +29,5 @@ new_memory w start room bs l =
     (pick (eqb (says_of l) 1) (done (refused (moved l) (refusal 3 0)) bs)
     (pick (eqb (says_of l) 2) (done (refused (moved l) (refusal 4 0)) bs)
     (unless (leb (least_bytes w) room) (done (refused (moved (moved l)) (heard_of (says_of (moved l)) (refusal 5 0))) bs)
-    (done (record { made = MadeMemory.Made (memory_of (wanted w) start room (least_bytes w)); limiter = moved l })
+    (done (record { made = Ok (memory_of (wanted w) start room (least_bytes w)); limiter = moved l })
     (over bs start (replicate (least_bytes w) 0))))))))

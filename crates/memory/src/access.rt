@@ -51,13 +51,6 @@ pub enum StoreKind {
     I64To32,
 }
 
-// Where an access starts, counted from the memory's first byte.
-#[derive(Clone, Copy)]
-pub enum Address {
-    At(u64),
-    Outside,
-}
-
 impl Width {
     pub fn bytes(self) -> u64
         ensures { result ≡ width_bytes self }
@@ -114,16 +107,16 @@ impl StoreKind {
 
 // The address of an access of `n` bytes within `size` bytes: the sum fits, and so do the bytes behind it.
 #[tactic(auto, using(crate::proofs::Accesses::address_over, crate::proofs::Accesses::address_at, crate::proofs::Accesses::address_past, types::proofs::Picks::known_test))]
-pub fn locate(size: u64, ptr: u64, offset: u64, n: u64) -> Address
+pub fn locate(size: u64, ptr: u64, offset: u64, n: u64) -> Option<u64>
     ensures { result ≡ address_of size ptr offset n }
 {
     if 18446744073709551615 - ptr < offset {
-        return Address::Outside;
+        return None;
     }
     if types::span::within(ptr + offset, n, size) {
-        return Address::At(ptr + offset);
+        return Some(ptr + offset);
     }
-    Address::Outside
+    None
 }
 
 fn wide(b: u8) -> u64
@@ -206,20 +199,20 @@ fn load_value(bytes: &[u8], at: usize, kind: LoadKind) -> Answer
     ensures { result ≡ loaded_of kind bytes.now at }
 {
     let bits = load_width(bytes, at, kind.width());
-    Answer::Value(value(kind, bits))
+    Ok(value(kind, bits))
 }
 
 // By where the access starts.
-fn load_found(bytes: &[u8], base: usize, kind: LoadKind, found: Address) -> Answer
+fn load_found(bytes: &[u8], base: usize, kind: LoadKind, found: Option<u64>) -> Answer
     requires { Found found base (width_bytes (load_width kind)) (length bytes.now) }
     ensures { result ≡ load_found kind bytes.now base found }
 {
     match found {
-        Address::Outside => Answer::Refusal(Refusal {
+        None => Err(Refusal {
             number: 9,
             amount: 0,
         }),
-        Address::At(a) => load_value(bytes, base + (a as usize), kind),
+        Some(a) => load_value(bytes, base + (a as usize), kind),
     }
 }
 
@@ -270,18 +263,24 @@ fn store_n(bytes: &mut [u8], at: usize, n: usize, bits: u64)
 }
 
 // By where the access starts.
-fn store_found(bytes: &mut [u8], base: usize, kind: StoreKind, bits: u64, found: Address) -> Answer
+fn store_found(
+    bytes: &mut [u8],
+    base: usize,
+    kind: StoreKind,
+    bits: u64,
+    found: Option<u64>,
+) -> Answer
     requires { Found found base (width_bytes (store_width kind)) (length bytes.old) }
     ensures { done result bytes.new ≡ store_found kind bytes.old base bits found }
 {
     match found {
-        Address::Outside => Answer::Refusal(Refusal {
+        None => Err(Refusal {
             number: 9,
             amount: 0,
         }),
-        Address::At(a) => {
+        Some(a) => {
             store_width(bytes, base + (a as usize), kind.width(), bits);
-            Answer::Value(Value::Number(0))
+            Ok(Value::Number(0))
         }
     }
 }

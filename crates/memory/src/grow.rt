@@ -1,6 +1,5 @@
 // Growing a memory, in the order of checks of document 01.
 ghost use Rattle.std.specs.Prelude.{◌≡◌, true, ◌≤◌, length};
-ghost use Rattle.types.specs.declared.limiter.Permit.TheVariants.{Granted};
 ghost use Rattle.types.specs.Answer.{refuse, accept};
 ghost use Rattle.types.specs.Done.{done};
 ghost use Rattle.memory.specs.Memory.{pages_of, sound_memory};
@@ -13,8 +12,8 @@ use super::{memory, new};
 use types::answer::{Answer, Refusal, Value};
 use types::fuel::Fuel;
 use types::grant::Growth;
-use types::limiter::{Limiter, Permit};
-use types::memory_ty::{ByteSize, MemoryType};
+use types::limiter::Limiter;
+use types::memory_ty::MemoryType;
 
 #[derive(Clone, Copy)]
 pub struct GrownMemory {
@@ -38,12 +37,7 @@ fn answered_with(answer: Answer, memory: Memory, fuel: Fuel, limiter: Limiter) -
 fn refused(number: u8, memory: Memory, fuel: Fuel, limiter: Limiter) -> GrownMemory
     ensures { result ≡ answered (refuse number 0) memory fuel limiter }
 {
-    answered_with(
-        Answer::Refusal(Refusal { number, amount: 0 }),
-        memory,
-        fuel,
-        limiter,
-    )
+    answered_with(Err(Refusal { number, amount: 0 }), memory, fuel, limiter)
 }
 
 // Whether a memory of this type may have so many pages.
@@ -58,31 +52,31 @@ fn may_have(ty: MemoryType, pages: u64) -> bool
 }
 
 // The size in bytes that a growth reaches, if it may.
-fn reach(memory: Memory, additional: u64) -> ByteSize
+fn reach(memory: Memory, additional: u64) -> Option<u64>
     ensures { result ≡ reach_of memory additional }
 {
     let ty = memory.ty;
     let pages = memory.pages();
     if 18446744073709551615 - pages < additional {
-        return ByteSize::Overflow;
+        return None;
     }
     reach_pages(ty, pages + additional)
 }
 
-fn reach_pages(ty: MemoryType, pages: u64) -> ByteSize
+fn reach_pages(ty: MemoryType, pages: u64) -> Option<u64>
     ensures { result ≡ reach_pages ty pages }
 {
     let page = ty.page;
     if may_have(ty, pages) {
         return page.byte_size(pages);
     }
-    ByteSize::Overflow
+    None
 }
 
 // The growth is granted: the new bytes become 0.
 fn enlarge(memory: Memory, bytes: &mut [u8], size: u64, fuel: Fuel, limiter: Limiter) -> GrownMemory
     requires { Roomy memory size (length bytes.old) }
-    ensures { done result bytes.new ≡ enlarged_by Granted fuel limiter memory bytes.old size }
+    ensures { done result bytes.new ≡ enlarged_by (Ok tt) fuel limiter memory bytes.old size }
 {
     let from = memory.start + (memory.size as usize);
     let n = (size - memory.size) as usize;
@@ -90,26 +84,24 @@ fn enlarge(memory: Memory, bytes: &mut [u8], size: u64, fuel: Fuel, limiter: Lim
     let before = memory.pages();
     let mut next = memory;
     next.size = size;
-    answered_with(Answer::Value(Value::Number(before)), next, fuel, limiter)
+    answered_with(Ok(Value::Number(before)), next, fuel, limiter)
 }
 
 // By what the checks say.
 fn enlarge_by(
-    permit: Permit,
+    permit: Result<(), Refusal>,
     fuel: Fuel,
     limiter: Limiter,
     memory: Memory,
     bytes: &mut [u8],
     size: u64,
 ) -> GrownMemory
-    requires { permit ≡ Granted → Roomy memory size (length bytes.old) }
+    requires { permit ≡ (Ok tt) → Roomy memory size (length bytes.old) }
     ensures { done result bytes.new ≡ enlarged_by permit fuel limiter memory bytes.old size }
 {
     match permit {
-        Permit::Denied(refusal) => {
-            answered_with(Answer::Refusal(refusal), memory, fuel, limiter)
-        }
-        Permit::Granted => enlarge(memory, bytes, size, fuel, limiter),
+        Err(refusal) => { answered_with(Err(refusal), memory, fuel, limiter) }
+        Ok(()) => enlarge(memory, bytes, size, fuel, limiter),
     }
 }
 
@@ -137,7 +129,7 @@ fn grow_to(memory: Memory, bytes: &mut [u8], size: u64, fuel: Fuel, limiter: Lim
 
 // By how far the growth reaches.
 fn by_reach(
-    to: ByteSize,
+    to: Option<u64>,
     memory: Memory,
     bytes: &mut [u8],
     fuel: Fuel,
@@ -147,8 +139,8 @@ fn by_reach(
     ensures { done result bytes.new ≡ by_reach to memory bytes.old fuel limiter }
 {
     match to {
-        ByteSize::Overflow => refused(6, memory, fuel, limiter),
-        ByteSize::Bytes(size) => grow_to(memory, bytes, size, fuel, limiter),
+        None => refused(6, memory, fuel, limiter),
+        Some(size) => grow_to(memory, bytes, size, fuel, limiter),
     }
 }
 
@@ -171,7 +163,7 @@ fn grow_none(memory: Memory, fuel: Fuel, limiter: Limiter) -> GrownMemory
     ensures { result ≡ answered (accept (pages_of memory)) memory fuel limiter }
 {
     let pages = memory.pages();
-    answered_with(Answer::Value(Value::Number(pages)), memory, fuel, limiter)
+    answered_with(Ok(Value::Number(pages)), memory, fuel, limiter)
 }
 
 fn grow_sound(

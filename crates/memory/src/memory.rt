@@ -27,7 +27,7 @@ pub struct Memory {
 pub(crate) fn refused(number: u8) -> Answer
     ensures { result ≡ refuse number 0 }
 {
-    Answer::Refusal(Refusal { number, amount: 0 })
+    Err(Refusal { number, amount: 0 })
 }
 
 // Whether so many pages are within the page bound. By cases: the bound as a number of two halves costs short accesses more.
@@ -174,7 +174,7 @@ impl Memory {
     {
         if types::span::within(offset, to.len() as u64, self.size) {
             buffer::get_part(to, bytes, self.start + (offset as usize));
-            return Answer::Value(Value::Number(0));
+            return Ok(Value::Number(0));
         }
         refused(9)
     }
@@ -197,7 +197,7 @@ impl Memory {
     {
         if types::span::within(offset, from.len() as u64, self.size) {
             buffer::put_part(bytes, self.start + (offset as usize), from);
-            return Answer::Value(Value::Number(0));
+            return Ok(Value::Number(0));
         }
         refused(9)
     }

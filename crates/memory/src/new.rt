@@ -1,6 +1,5 @@
 // Making a memory in a room of the buffer, in the order of checks of document 01.
 ghost use Rattle.std.specs.Prelude.{◌≡◌, ◌+◌, ◌≤◌, length, replicate};
-ghost use Rattle.types.specs.declared.limiter.Permit.TheVariants.{Granted};
 ghost use Rattle.types.specs.Answer.{refusal};
 ghost use Rattle.types.specs.Done.{done};
 ghost use Rattle.types.specs.MemoryType.{build_memory, minimum_bytes};
@@ -11,18 +10,12 @@ ghost use Rattle.memory.specs.stages.New.{made_by, made_of, by_size, by_type};
 use super::buffer;
 use super::memory::Memory;
 use types::answer::Refusal;
-use types::limiter::{Limiter, Permit};
-use types::memory_ty::{BuiltMemory, ByteSize, MemoryType, WantedMemory};
-
-#[derive(Clone, Copy)]
-pub enum MadeMemory {
-    Made(Memory),
-    Refused(Refusal),
-}
+use types::limiter::Limiter;
+use types::memory_ty::{MemoryType, WantedMemory};
 
 #[derive(Clone, Copy)]
 pub struct CreatedMemory {
-    pub made: MadeMemory,
+    pub made: Result<Memory, Refusal>,
     pub limiter: Limiter,
 }
 
@@ -30,7 +23,7 @@ fn no_memory(limiter: Limiter, refusal: Refusal) -> CreatedMemory
     ensures { result ≡ refused limiter refusal }
 {
     CreatedMemory {
-        made: MadeMemory::Refused(refusal),
+        made: Err(refusal),
         limiter,
     }
 }
@@ -46,23 +39,28 @@ pub(crate) fn zero(bytes: &mut [u8], from: usize, n: usize)
 // The memory that was granted.
 fn make(limiter: Limiter, memory: Memory, bytes: &mut [u8]) -> CreatedMemory
     requires { memory.start + memory.size ≤ length bytes.old }
-    ensures { done result bytes.new ≡ made_by Granted limiter memory bytes.old }
+    ensures { done result bytes.new ≡ made_by (Ok tt) limiter memory bytes.old }
 {
     zero(bytes, memory.start, memory.size as usize);
     CreatedMemory {
-        made: MadeMemory::Made(memory),
+        made: Ok(memory),
         limiter,
     }
 }
 
 // By what the limiter and the room say.
-fn make_by(permit: Permit, limiter: Limiter, memory: Memory, bytes: &mut [u8]) -> CreatedMemory
-    requires { permit ≡ Granted → memory.start + memory.size ≤ length bytes.old }
+fn make_by(
+    permit: Result<(), Refusal>,
+    limiter: Limiter,
+    memory: Memory,
+    bytes: &mut [u8],
+) -> CreatedMemory
+    requires { permit ≡ (Ok tt) → memory.start + memory.size ≤ length bytes.old }
     ensures { done result bytes.new ≡ made_by permit limiter memory bytes.old }
 {
     match permit {
-        Permit::Denied(refusal) => no_memory(limiter, refusal),
-        Permit::Granted => make(limiter, memory, bytes),
+        Err(refusal) => no_memory(limiter, refusal),
+        Ok(()) => make(limiter, memory, bytes),
     }
 }
 
@@ -78,7 +76,7 @@ fn make_sized(limiter: Limiter, memory: Memory, bytes: &mut [u8]) -> CreatedMemo
 
 // By the minimum in bytes.
 fn by_size(
-    minimum: ByteSize,
+    minimum: Option<u64>,
     limiter: Limiter,
     ty: MemoryType,
     start: usize,
@@ -89,14 +87,14 @@ fn by_size(
     ensures { done result bytes.new ≡ by_size minimum limiter ty start room bytes.old }
 {
     match minimum {
-        ByteSize::Overflow => no_memory(
+        None => no_memory(
             limiter,
             Refusal {
                 number: 2,
                 amount: 0,
             },
         ),
-        ByteSize::Bytes(size) => make_sized(
+        Some(size) => make_sized(
             limiter,
             Memory {
                 ty,
@@ -125,7 +123,7 @@ fn make_typed(
 
 // By whether the type is valid.
 fn by_type(
-    built: BuiltMemory,
+    built: Result<MemoryType, Refusal>,
     limiter: Limiter,
     start: usize,
     room: u64,
@@ -135,8 +133,8 @@ fn by_type(
     ensures { done result bytes.new ≡ by_type built limiter start room bytes.old }
 {
     match built {
-        BuiltMemory::Refused(refusal) => no_memory(limiter, refusal),
-        BuiltMemory::Built(ty) => make_typed(limiter, ty, start, room, bytes),
+        Err(refusal) => no_memory(limiter, refusal),
+        Ok(ty) => make_typed(limiter, ty, start, room, bytes),
     }
 }
 

@@ -63,7 +63,7 @@ fn at_end(rt: &impl Eprint, from: &mut impl io::Read) -> bool {
 // 18: the machine stays.
 fn malformed(machine: Machine) -> Operated {
     Operated {
-        answer: Answer::Refusal(Refusal {
+        answer: Err(Refusal {
             number: 18,
             amount: 0,
         }),
@@ -80,7 +80,7 @@ fn made(machine: Machine, first: bool, metering: bool, copied: u32) -> Operated 
     costs.copied = copied;
     let fresh = Machine::new(metering, costs);
     Operated {
-        answer: Answer::Value(Value::Number(0)),
+        answer: Ok(Value::Number(0)),
         machine: fresh,
     }
 }

@@ -1,4 +1,5 @@
 -- Laws of the operations, for the layer above: what accepted and refused ones leave, what every one keeps, and that sound records stay sound. Assumes nothing.
+use Rattle.std.specs.Prelude.{Ok, Err, Result, ⊤}
 use Rattle.types.proofs.Prelude.{◌≡◌, refl, sym, ap, ◌∙◌, Bool, true, false, List, ℕ, ◌+◌, ◌-◌, ◌≤◌, ◌<◌, arith, le-leb, leb-true, leb-false, ltb-true}
 use Rattle.types.proofs.Prelude.{eqb-true, leb, eqb, length, take, drop, set, replicate, length-replicate, pick_true, pick_false, both_true, both_1, both_2, either}
 use Rattle.types.proofs.{Spans.within_is, Spans.length_over, Spans.over_low, Spans.over_after, Moves.length_cut}
@@ -8,12 +9,12 @@ use native.Mathlib.Nat.{le_refl}
 use Rattle.types.specs.{Pick.pick, Pick.both, Span.over, Steps.fill_steps, Steps.init_steps, Steps.copy_steps, Steps.Apart, Answer.accept, IndexType.max_size}
 use Rattle.types.specs.Limits.{admits_of, valid_maximum, valid_limits}
 use Rattle.types.specs.TableType.{table_bound, valid_table, validated, build_table, table_type}
-use Rattle.types.specs.{Done.Done, Done.done, Done.span_done, stages.Grant.spanned, declared.answer.Answer.Answer, declared.answer.Refusal.Refusal}
-use Rattle.types.specs.{declared.answer.Value.Value, declared.fuel.Fuel.Fuel, declared.grant.Spanned.Spanned, declared.fuel.FuelStep.FuelStep}
-use Rattle.types.specs.{declared.limiter.Limiter.Limiter, declared.limiter.Permit.Permit}
-use Rattle.types.specs.{declared.limiter.Permit.TheVariants.Granted, declared.limiter.Permit.TheVariants.Denied, declared.limits.Limits.Limits}
+use Rattle.types.specs.{Done.Done, Done.done, Done.span_done, stages.Grant.spanned, Answer.Answer, declared.answer.Refusal.Refusal}
+use Rattle.types.specs.{declared.answer.Value.Value, declared.fuel.Fuel.Fuel, declared.grant.Spanned.Spanned}
+use Rattle.types.specs.{declared.limiter.Limiter.Limiter}
+use Rattle.types.specs.{declared.limits.Limits.Limits}
 use Rattle.types.specs.{declared.raw.RefType.RefType, declared.raw.TypedRawRef.TypedRawRef, declared.span.CopySpan.CopySpan, declared.span.FillSpan.FillSpan}
-use Rattle.types.specs.{declared.table_ty.TableType.TableType, declared.table_ty.BuiltTable.BuiltTable, declared.table_ty.WantedTable.WantedTable}
+use Rattle.types.specs.{declared.table_ty.TableType.TableType, declared.table_ty.WantedTable.WantedTable}
 use Rattle.table.proofs.Readings.{grow_reads, new_reads, fill_reads, copy_reads, init_reads}
 use Rattle.table.proofs.{Sounds.buffer_within, Sounds.sound_room_lem, Sounds.sound_size_lem, Sounds.sound_within, Sounds.segment_places, Growths.growth_fits}
 use Rattle.table.specs.Table.{resized, sound_buffer, sound_size, sound_table, set_sound, set_table}
@@ -22,13 +23,9 @@ use Rattle.table.specs.stages.New.{made_by, made_of, by_kind, by_type}
 use Rattle.table.specs.stages.Grow.{enlarged_by, grant_of, grow_to, grow_some, grow_sound}
 use Rattle.table.specs.stages.Spans.{fill_kind, fill_sound, copy_bounds, copy_kinds, init_some, init_bounds, init_kinds}
 use Rattle.table.specs.{Grow.answered, Grow.grow_table, Fill.fill_table, Copy.same_table, Copy.rooms_apart, Copy.sound_two, Copy.copy_table, Init.init_table}
-use Rattle.table.specs.{declared.table.Table.Table, declared.element.ElementSegment.ElementSegment, declared.element.MadeSegment.MadeSegment}
-use Rattle.table.specs.{declared.new.MadeTable.TheVariants.Made, declared.new.MadeTable.TheVariants.Refused, declared.new.CreatedTable.CreatedTable}
+use Rattle.table.specs.{declared.table.Table.Table, declared.element.ElementSegment.ElementSegment}
+use Rattle.table.specs.{declared.new.CreatedTable.CreatedTable}
 use Rattle.table.specs.declared.grow.GrownTable.{GrownTable}
-use Rattle.types.specs.declared.answer.Answer.TheVariants as answer
-use Rattle.types.specs.declared.fuel.FuelStep.TheVariants as step
-use Rattle.types.specs.declared.table_ty.BuiltTable.TheVariants as built
-use Rattle.table.specs.declared.element.MadeSegment.TheVariants as segment
 
 -- ds is cs but for cells from x on and before e
 pub record Kept (x e : ℕ) (cs ds : List ℕ) : Type 0 where
@@ -52,31 +49,31 @@ unfolding pick
 pick_case P true a b p q = p refl
 pick_case P false a b p q = q
 
-no_value : (r : Refusal) (v : Value) → answer.Refusal r ≡ answer.Value v → ⊥
+no_value : (r : Refusal) (v : Value) → Err r ≡ Ok v → ⊥
 no_value r v e = let z : ◌≡◌ {A = ℕ} 0 1 = cc in omega arith
 
-no_refusal : (v : Value) (r : Refusal) → answer.Value v ≡ answer.Refusal r → ⊥
+no_refusal : (v : Value) (r : Refusal) → Ok v ≡ Err r → ⊥
 no_refusal v r e = let z : ◌≡◌ {A = ℕ} 0 1 = cc in omega arith
 
 -- a span operation: what it leaves where it is accepted and where it is refused, and what it keeps
 pub record SpanFrame (f : Fuel) (cs new : List ℕ) (x e : ℕ) (o : Done Spanned) : Type 0 where
-  pub accepted : (v : Value) → o.out.answer ≡ answer.Value v → o.cells ≡ new
-  pub refused : (r : Refusal) → o.out.answer ≡ answer.Refusal r → (o.cells ≡ cs) × (o.out.fuel ≡ f)
+  pub accepted : (v : Value) → o.out.answer ≡ Ok v → o.cells ≡ new
+  pub refused : (r : Refusal) → o.out.answer ≡ Err r → (o.cells ≡ cs) × (o.out.fuel ≡ f)
   pub kept : Kept x e cs o.cells
 
 module _ (f : Fuel) (cs new : List ℕ) (x e : ℕ) where
-  span_refused : (r : Refusal) → SpanFrame f cs new x e (span_done (answer.Refusal r) f cs)
+  span_refused : (r : Refusal) → SpanFrame f cs new x e (span_done (Err r) f cs)
   span_refused r = record { accepted = (λ v q. absurd (no_value r v q)); refused = (λ s q. (refl, refl)); kept = same_kept x e cs }
 
   span_done_lem : (g : Fuel) (ds : List ℕ) → ds ≡ new → Kept x e cs ds → SpanFrame f cs new x e (span_done (accept 0) g ds)
   span_done_lem g ds p k = record { accepted = (λ v q. p); refused = (λ s q. absurd (no_refusal _ s q)); kept = k }
 
-  span_frame : (s : FuelStep) (ds : List ℕ) → ((g : Fuel) → s ≡ step.Done g → (ds ≡ new) × Kept x e cs ds) → SpanFrame f cs new x e (spanned s f cs ds)
+  span_frame : (s : Result Fuel Refusal) (ds : List ℕ) → ((g : Fuel) → s ≡ Ok g → (ds ≡ new) × Kept x e cs ds) → SpanFrame f cs new x e (spanned s f cs ds)
   unfolding spanned
-  span_frame (step.Refused r) ds h = span_refused r
-  span_frame (step.Done g) ds h = span_done_lem g ds (h g refl).0 (h g refl).1
+  span_frame (Err r) ds h = span_refused r
+  span_frame (Ok g) ds h = span_done_lem g ds (h g refl).0 (h g refl).1
 
-  span_pick : (t : Bool) (a : Done Spanned) (r : Refusal) → (t ≡ true → SpanFrame f cs new x e a) → SpanFrame f cs new x e (pick t a (span_done (answer.Refusal r) f cs))
+  span_pick : (t : Bool) (a : Done Spanned) (r : Refusal) → (t ≡ true → SpanFrame f cs new x e a) → SpanFrame f cs new x e (pick t a (span_done (Err r) f cs))
   span_pick t a r h = pick_case (SpanFrame f cs new x e) t a _ h (span_refused r)
 
 -- fill
@@ -183,15 +180,15 @@ module _ (r : ℕ) (t : Table) (s : ElementSegment) (cs items : List ℕ) (span 
 
 -- set: one cell becomes the reference
 pub record SetFrame (t : Table) (cs : List ℕ) (i bits : ℕ) (o : Done Answer) : Type 0 where
-  pub accepted : (v : Value) → o.out ≡ answer.Value v → o.cells ≡ set cs (t.start + i) bits
-  pub refused : (r : Refusal) → o.out ≡ answer.Refusal r → o.cells ≡ cs
+  pub accepted : (v : Value) → o.out ≡ Ok v → o.cells ≡ set cs (t.start + i) bits
+  pub refused : (r : Refusal) → o.out ≡ Err r → o.cells ≡ cs
   pub kept : Kept t.start (t.start + t.room) cs o.cells
 
 module _ (t : Table) (cs : List ℕ) (i : ℕ) (v : TypedRawRef) where
   abbrev SetTo : Done Answer → Type 0
   SetTo o = SetFrame t cs i v.raw.bits o
 
-  set_refused : (r : Refusal) → SetTo (done (answer.Refusal r) cs)
+  set_refused : (r : Refusal) → SetTo (done (Err r) cs)
   set_refused r = record { accepted = (λ w q. absurd (no_value r w q)); refused = (λ s q. refl); kept = same_kept _ _ cs }
 
   set_one : t.start + i < length cs → over cs (t.start + i) (replicate 1 v.raw.bits) ≡ set cs (t.start + i) v.raw.bits
@@ -209,7 +206,7 @@ module _ (t : Table) (cs : List ℕ) (i : ℕ) (v : TypedRawRef) where
       }
 
   set_within : (b : Bool) → leb t.size i ≡ b → sound_table t (length cs) ≡ true
-      → SetTo (pick b (done (answer.Refusal (record { number = 10; amount = 0 })) cs) (done (accept 0) (over cs (t.start + i) (replicate 1 v.raw.bits))))
+      → SetTo (pick b (done (Err (record { number = 10; amount = 0 })) cs) (done (accept 0) (over cs (t.start + i) (replicate 1 v.raw.bits))))
   unfolding pick
   set_within true e h = set_refused _
   set_within false e h = set_done h (leb-false _ _ e)
@@ -221,7 +218,7 @@ module _ (t : Table) (cs : List ℕ) (i : ℕ) (v : TypedRawRef) where
 
 -- grow: a refused growth leaves cells and table; no growth changes type, place or room; a sound table stays sound
 pub record GrowFrame (t : Table) (cs : List ℕ) (o : Done GrownTable) : Type 0 where
-  pub refused : (r : Refusal) → o.out.answer ≡ answer.Refusal r → (o.cells ≡ cs) × (o.out.table ≡ t)
+  pub refused : (r : Refusal) → o.out.answer ≡ Err r → (o.cells ≡ cs) × (o.out.table ≡ t)
   pub kept : Kept t.start (t.start + t.room) cs o.cells
   pub same : o.out.table ≡ resized t o.out.table.size
   pub sound : sound_table t (length cs) ≡ true → sound_table o.out.table (length o.cells) ≡ true
@@ -248,11 +245,11 @@ stays : (t : Table) (cs : List ℕ) (a : Answer) (f : Fuel) (l : Limiter) → Gr
 stays t cs a f l = record { refused = (λ s e. (refl, refl)); kept = same_kept _ _ cs; same = refl; sound = (λ h. h) }
 
 module _ (r : ℕ) (t : Table) (cs : List ℕ) (f : Fuel) (l : Limiter) (h : sound_table t (length cs) ≡ true) where
-  enlarged : (p : Permit) (g : Fuel) (m : Limiter) (size bits : ℕ) → t.size ≤ size
-      → (p ≡ Granted → (size ≤ t.room) × (sound_table (resized t size) (length cs) ≡ true)) → GrowFrame t cs (enlarged_by p g m t cs size bits)
+  enlarged : (p : Result ⊤ Refusal) (g : Fuel) (m : Limiter) (size bits : ℕ) → t.size ≤ size
+      → (p ≡ (Ok tt) → (size ≤ t.room) × (sound_table (resized t size) (length cs) ≡ true)) → GrowFrame t cs (enlarged_by p g m t cs size bits)
   unfolding enlarged_by
-  enlarged (Denied s) g m size bits k w = stays t cs _ g m
-  enlarged Granted g m size bits k w =
+  enlarged (Err s) g m size bits k w = stays t cs _ g m
+  enlarged (Ok tt) g m size bits k w =
       let in-room = (w refl).0 in
       let room = sound_room_lem t _ h in
       let kept : Kept t.start (t.start + t.room) cs (over cs (t.start + t.size) (replicate (size - t.size) bits)) = fill_kept _ _ (size - t.size) bits _ cs (omega arith) (omega arith) room in
@@ -280,15 +277,15 @@ grow_frame r t cs n v f l = rw grow_reads (pick_case (GrowFrame t cs) _ _ _ (λ 
 
 -- new: a refused creation leaves the cells; the table that is made stands at the place given and is sound
 pub record NewFrame (start room : ℕ) (cs : List ℕ) (o : Done CreatedTable) : Type 0 where
-  pub refused : (r : Refusal) → o.out.made ≡ Refused r → o.cells ≡ cs
+  pub refused : (r : Refusal) → o.out.made ≡ Err r → o.cells ≡ cs
   pub kept : Kept start (start + room) cs o.cells
-  pub placed : (t : Table) → o.out.made ≡ Made t → (t.start ≡ start) × (t.room ≡ room)
-  pub sound : (t : Table) → o.out.made ≡ Made t → sound_table t (length o.cells) ≡ true
+  pub placed : (t : Table) → o.out.made ≡ Ok t → (t.start ≡ start) × (t.room ≡ room)
+  pub sound : (t : Table) → o.out.made ≡ Ok t → sound_table t (length o.cells) ≡ true
 
-made_same : {t u : Table} → Made t ≡ Made u → u ≡ t
+made_same : {t u : Table} → ◌≡◌ {A = Result Table Refusal} (Ok t) (Ok u) → u ≡ t
 made_same e = cc
 
-not_made : (r : Refusal) (t : Table) → Refused r ≡ Made t → ⊥
+not_made : (r : Refusal) (t : Table) → Err r ≡ Ok t → ⊥
 not_made r t e = let z : ◌≡◌ {A = ℕ} 0 1 = cc in omega arith
 
 -- the minimum of a valid type is a sound size
@@ -323,11 +320,11 @@ module _ (start room : ℕ) (cs : List ℕ) where
   none_made l r = record { refused = (λ s e. refl); kept = same_kept _ _ cs; placed = (λ t e. absurd (not_made r t e)); sound = (λ t e. absurd (not_made r t e)) }
 
   module _ (h : sound_buffer start room (length cs) ≡ true) where
-    made_by_lem : (p : Permit) (l : Limiter) (t : TableType) (bits : ℕ) → valid_table t ≡ true → (p ≡ Granted → t.limits.minimum ≤ room)
+    made_by_lem : (p : Result ⊤ Refusal) (l : Limiter) (t : TableType) (bits : ℕ) → valid_table t ≡ true → (p ≡ (Ok tt) → t.limits.minimum ≤ room)
         → NewIn (made_by p l (table_of t start room t.limits.minimum) bits cs)
     unfolding made_by
-    made_by_lem (Denied r) l t bits v k = none_made l r
-    made_by_lem Granted l t bits v k =
+    made_by_lem (Err r) l t bits v k = none_made l r
+    made_by_lem (Ok tt) l t bits v k =
         let fits = k refl in
         let inside = buffer_within start room _ h in
         let kept : Kept start (start + room) cs (over cs start (replicate t.limits.minimum bits)) = fill_kept _ _ t.limits.minimum bits _ cs (omega arith) (omega arith) inside in
@@ -342,21 +339,21 @@ module _ (start room : ℕ) (cs : List ℕ) where
     unfolding made_of
     made_of_lem l t bits v = made_by_lem _ _ t bits v (λ e. leb-true _ _ (granted_creation l _ e))
 
-    made_typed : (b : BuiltTable) (l : Limiter) (init : TypedRawRef) → ((t : TableType) → b ≡ built.Built t → valid_table t ≡ true) → NewIn (by_type b l start room init cs)
+    made_typed : (b : Result TableType Refusal) (l : Limiter) (init : TypedRawRef) → ((t : TableType) → b ≡ Ok t → valid_table t ≡ true) → NewIn (by_type b l start room init cs)
     unfolding by_type by_kind
-    made_typed (built.Refused r) l init v = none_made l r
-    made_typed (built.Built t) l init v = pick_case NewIn _ _ _ (λ k. made_of_lem l t init.raw.bits (v t refl)) (none_made l _)
+    made_typed (Err r) l init v = none_made l r
+    made_typed (Ok t) l init v = pick_case NewIn _ _ _ (λ k. made_of_lem l t init.raw.bits (v t refl)) (none_made l _)
 
 -- a type that was built is valid
-built_valid : (k : RefType) (wide : Bool) (l : Limits) (t : TableType) → build_table k wide l ≡ built.Built t → valid_table t ≡ true
+built_valid : (k : RefType) (wide : Bool) (l : Limits) (t : TableType) → build_table k wide l ≡ Ok t → valid_table t ≡ true
 unfolding build_table validated
 built_valid k wide l t = go (valid_table (table_type k wide l)) refl
   where
-    go : (b : Bool) → valid_table (table_type k wide l) ≡ b → pick (valid_table (table_type k wide l)) (built.Built (table_type k wide l)) (built.Refused (record { number = 1; amount = 0 })) ≡ built.Built t
+    go : (b : Bool) → valid_table (table_type k wide l) ≡ b → pick {A = Result TableType Refusal} (valid_table (table_type k wide l)) (Ok (table_type k wide l)) (Err (record { number = 1; amount = 0 })) ≡ Ok t
         → valid_table t ≡ true
-    go true p e = let q : built.Built (table_type k wide l) ≡ built.Built t = sym (pick_true _ _ _ p) ∙ e in cc
+    go true p e = let q : ◌≡◌ {A = Result TableType Refusal} (Ok (table_type k wide l)) (Ok t) = sym (pick_true _ _ _ p) ∙ e in cc
     go false p e =
-        let q : built.Refused (record { number = 1; amount = 0 }) ≡ built.Built t = sym (pick_false _ _ _ p) ∙ e in
+        let q : ◌≡◌ {A = Result TableType Refusal} (Err (record { number = 1; amount = 0 })) (Ok t) = sym (pick_false _ _ _ p) ∙ e in
         let z : ◌≡◌ {A = ℕ} 0 1 = cc in absurd (omega arith)
 
 pub new_frame : (w : WantedTable) (init : TypedRawRef) (start room : ℕ) (cs : List ℕ) (l : Limiter) → NewFrame start room cs (new_table w init start room cs l)
@@ -365,16 +362,16 @@ new_frame w init start room cs l =
     (pick_case (NewFrame start room cs) _ _ _ (λ h. made_typed start room cs h _ l init (λ t e. built_valid w.element w.wide w.limits t e)) (none_made start room cs l _))
 
 -- segments: a refused one leaves the items; a new one stands at the place given; a new one and a dropped one are sound
-pub record SegmentFrame (start places : ℕ) (items : List ℕ) (o : Done MadeSegment) : Type 0 where
-  pub refused : (r : Refusal) → o.out ≡ segment.Refused r → o.cells ≡ items
+pub record SegmentFrame (start places : ℕ) (items : List ℕ) (o : Done (Result ElementSegment Refusal)) : Type 0 where
+  pub refused : (r : Refusal) → o.out ≡ Err r → o.cells ≡ items
   pub kept : Kept start (start + places) items o.cells
-  pub placed : (s : ElementSegment) → o.out ≡ segment.Made s → (s.start ≡ start) × (s.places ≡ places)
-  pub sound : (s : ElementSegment) → o.out ≡ segment.Made s → sound_segment s (length o.cells) ≡ true
+  pub placed : (s : ElementSegment) → o.out ≡ Ok s → (s.start ≡ start) × (s.places ≡ places)
+  pub sound : (s : ElementSegment) → o.out ≡ Ok s → sound_segment s (length o.cells) ≡ true
 
-same_segment : {s u : ElementSegment} → segment.Made s ≡ segment.Made u → u ≡ s
+same_segment : {s u : ElementSegment} → ◌≡◌ {A = Result ElementSegment Refusal} (Ok s) (Ok u) → u ≡ s
 same_segment e = cc
 
-no_segment_lem : (r : Refusal) (s : ElementSegment) → segment.Refused r ≡ segment.Made s → ⊥
+no_segment_lem : (r : Refusal) (s : ElementSegment) → Err r ≡ Ok s → ⊥
 no_segment_lem r s e = let z : ◌≡◌ {A = ℕ} 0 1 = cc in omega arith
 
 pub segment_frame : (k : RefType) (start : ℕ) (items given : List ℕ) → SegmentFrame start (length given) items (new_segment k start items given)

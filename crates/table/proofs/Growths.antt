@@ -1,25 +1,26 @@
 -- What a granted creation or growth shows of the room, and the sizes that no index type reaches. Assumes nothing.
+use Rattle.std.specs.Prelude.{Ok}
 use Rattle.types.proofs.Prelude.{◌≡◌, sym, ap, ◌∙◌, ℕ, ◌+◌, ◌-◌, ◌^◌, ◌≤◌, ◌<◌, arith, leb-true, le-ltb, leb, ltb, pick_false}
 use Rattle.types.proofs.Grants.{granted_creation, granted_growth}
 use Rattle.types.specs.{Pick.pick, IndexType.max_size, stages.Grant.grant_creation, declared.fuel.Fuel.Fuel, declared.grant.Growth.Growth}
 use Rattle.types.specs.{declared.index_ty.IndexType.IndexType, declared.index_ty.IndexType.TheVariants.I32, declared.index_ty.IndexType.TheVariants.I64}
-use Rattle.types.specs.{declared.limiter.Asked.Asked, declared.limiter.Limiter.Limiter, declared.limiter.Permit.TheVariants.Granted}
+use Rattle.types.specs.{declared.limiter.Asked.Asked, declared.limiter.Limiter.Limiter}
 use Rattle.table.specs.{stages.Facts.Roomed, stages.Facts.Roomy, stages.Grow.grant_of, declared.table.Table.Table}
 
 -- the cells of a creation that is granted lie in the buffer
-pub creation_room_lem : (l : Limiter) (start min room len : ℕ) {a : Asked} → start + room ≤ len → a ≡ grant_creation l (leb min room) → a.permit ≡ Granted
+pub creation_room_lem : (l : Limiter) (start min room len : ℕ) {a : Asked} → start + room ≤ len → a ≡ grant_creation l (leb min room) → a.permit ≡ (Ok tt)
     → start + min ≤ len
 creation_room_lem l start min room len h p e =
     let g : min ≤ room = leb-true _ _ (granted_creation l _ (ap (λ (x : Asked). x.permit) (sym p) ∙ e)) in
     omega arith
 
 -- a growth that is granted has its room
-pub growth_fits : (r : ℕ) (t : Table) (size : ℕ) (f : Fuel) (l : Limiter) → (grant_of r t size f l).permit ≡ Granted → size ≤ t.room
+pub growth_fits : (r : ℕ) (t : Table) (size : ℕ) (f : Fuel) (l : Limiter) → (grant_of r t size f l).permit ≡ (Ok tt) → size ≤ t.room
 unfolding grant_of
 growth_fits r t size f l e = leb-true _ _ (granted_growth _ _ _ _ _ e)
 
 pub growth_room_lem : (r : ℕ) (t : Table) (size len : ℕ) (f : Fuel) (l : Limiter) {g : Growth} → Roomed t len → t.size ≤ size → g ≡ grant_of r t size f l
-    → g.permit ≡ Granted → Roomy t size len
+    → g.permit ≡ (Ok tt) → Roomy t size len
 growth_room_lem r t size len f l h k p e =
     let q : size ≤ t.room = growth_fits r t size f l (ap (λ (x : Growth). x.permit) (sym p) ∙ e) in
     record { more = k; room = omega arith }

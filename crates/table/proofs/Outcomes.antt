@@ -1,19 +1,18 @@
 -- Laws of span operations: what the grant of a span shows of its bounds, and what its outcome is. Assumes nothing.
+use Rattle.std.specs.Prelude.{Ok, Err, Result}
 use Rattle.types.proofs.Prelude.{◌≡◌, sym, ap, ◌∙◌, Bool, true, List, ℕ, ◌+◌, ◌≤◌, arith, both_1, both_2, known_test}
 use Rattle.types.proofs.{Spans.within_is, Grants.granted_span}
 use Rattle.types.specs.{Pick.both, Span.inside, Answer.accept, Done.span_done, stages.Grant.grant_span, stages.Grant.spanned, declared.answer.Refusal.Refusal}
-use Rattle.types.specs.{declared.fuel.Fuel.Fuel, declared.fuel.FuelStep.FuelStep}
-use Rattle.types.specs.declared.fuel.FuelStep.TheVariants.{Done, Refused}
+use Rattle.types.specs.{declared.fuel.Fuel.Fuel}
 use Rattle.table.specs.{stages.Facts.Within, stages.Facts.Places, stages.Facts.Goes, declared.table.Table.Table}
 use Rattle.table.specs.declared.element.ElementSegment.{ElementSegment}
-use Rattle.types.specs.declared.answer.Answer.TheVariants as answer
 
 -- by the fuel step
-pub spanned_done_lem : (s : FuelStep) (f g : Fuel) (cs new r : List ℕ) → s ≡ Done g → r ≡ new → span_done (accept 0) g r ≡ spanned s f cs new
+pub spanned_done_lem : (s : Result Fuel Refusal) (f g : Fuel) (cs new r : List ℕ) → s ≡ Ok g → r ≡ new → span_done (accept 0) g r ≡ spanned s f cs new
 unfolding spanned
 spanned_done_lem s f g cs new r e p = rw e (ap (span_done (accept 0) g) p)
 
-pub spanned_refused : (s : FuelStep) (f : Fuel) (r : Refusal) (cs new : List ℕ) → s ≡ Refused r → span_done (answer.Refusal r) f cs ≡ spanned s f cs new
+pub spanned_refused : (s : Result Fuel Refusal) (f : Fuel) (r : Refusal) (cs new : List ℕ) → s ≡ Err r → span_done (Err r) f cs ≡ spanned s f cs new
 unfolding spanned
 spanned_refused s f r cs new e = rw e
 
@@ -22,16 +21,16 @@ module _ (t : Table) (len i n : ℕ) (w : Within t len) where
   pub end_within : inside i n t.size ≡ true → t.start + (i + n) ≤ len
   end_within e = omega (arith, within_is i n t.size e)
 
-  pub goes_within : {r : Bool} {s : FuelStep} (f : Fuel) (number price : ℕ)
+  pub goes_within : {r : Bool} {s : Result Fuel Refusal} (f : Fuel) (number price : ℕ)
       → r ≡ inside i n t.size → s ≡ grant_span f r number price → Goes s (t.start + (i + n)) len
   goes_within f number price p q g e = end_within (known_test p (granted_span f _ number price g (sym q ∙ e)))
 
-pub goes_both : (d t : Table) (len i j n : ℕ) {r : Bool} {s : FuelStep} (f : Fuel) (number price : ℕ)
+pub goes_both : (d t : Table) (len i j n : ℕ) {r : Bool} {s : Result Fuel Refusal} (f : Fuel) (number price : ℕ)
     → Within d len → Within t len → r ≡ both (inside i n d.size) (inside j n t.size) → s ≡ grant_span f r number price
     → Goes s (d.start + (i + n)) len × Goes s (t.start + (j + n)) len
 goes_both d t len i j n {r} {s} f number price v w p q = ((λ g e. end_within d len i n v (both_1 _ _ (shown g e))), (λ g e. end_within t len j n w (both_2 _ _ (shown g e))))
   where
-    shown : (g : Fuel) → s ≡ Done g → both (inside i n d.size) (inside j n t.size) ≡ true
+    shown : (g : Fuel) → s ≡ Ok g → both (inside i n d.size) (inside j n t.size) ≡ true
     shown g e = known_test p (granted_span f _ number price g (sym q ∙ e))
 
 -- both spans of an init that goes on

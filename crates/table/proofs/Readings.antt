@@ -1,4 +1,5 @@
 -- The stages of the code are the chains of checks that the definitions say. Assumes nothing.
+use Rattle.std.specs.Prelude.{Ok, Err}
 use Rattle.types.proofs.Prelude.{◌≡◌, ap, sym, ◌∙◌, List, ℕ, ◌+◌, ◌-◌, ◌*◌, eqb, leb, ltb, length, replicate}
 use Rattle.types.proofs.{Picks.pick_ap, Chains.growth_chain, Chains.creation_chain, Chains.charge_chain, Chains.span_chain}
 use native.Mathlib.Nat.{add-sub_cancel_left}
@@ -12,9 +13,8 @@ use Rattle.table.specs.{Fill.fill_table, Copy.sound_two, Copy.copy_table, Init.i
 use Rattle.table.specs.stages.New.{made_by, made_of, by_kind, by_type}
 use Rattle.table.specs.stages.Grow.{enlarged_by, grant_of, grow_to, grow_some, grow_sound}
 use Rattle.table.specs.stages.Spans.{fill_kind, fill_sound, copy_bounds, copy_kinds, init_some, init_bounds, init_kinds}
-use Rattle.table.specs.{declared.table.Table.Table, declared.element.ElementSegment.ElementSegment, declared.new.MadeTable.TheVariants.Made}
+use Rattle.table.specs.{declared.table.Table.Table, declared.element.ElementSegment.ElementSegment}
 use Rattle.table.specs.{declared.new.CreatedTable.CreatedTable, declared.grow.GrownTable.GrownTable}
-use Rattle.types.specs.declared.table_ty.BuiltTable.TheVariants as built
 use Rattle.table.specs.New as new
 
 module _ (r : ℕ) (t : Table) (cs : List ℕ) (n : ℕ) (v : TypedRawRef) (f : Fuel) (l : Limiter) where
@@ -53,7 +53,7 @@ module _ (w : WantedTable) (init : TypedRawRef) (start room : ℕ) (cs : List �
       pick (eqb (says_of l) 1) (done (new.refused (moved l) (refusal 3 0)) cs)
       (pick (eqb (says_of l) 2) (done (new.refused (moved l) (refusal 4 0)) cs)
       (unless (leb w.limits.minimum room) (done (new.refused (moved (moved l)) (heard_of (says_of (moved l)) (refusal 5 0))) cs)
-      (done (record { made = Made (new.table_of (new.wanted w) start room w.limits.minimum); limiter = moved l })
+      (done (record { made = Ok (new.table_of (new.wanted w) start room w.limits.minimum); limiter = moved l })
       (over cs start (replicate w.limits.minimum init.raw.bits)))))
 
   made_chain : made_of l (new.table_of (new.wanted w) start room w.limits.minimum) init.raw.bits cs ≡ made
@@ -65,7 +65,7 @@ module _ (w : WantedTable) (init : TypedRawRef) (start room : ℕ) (cs : List �
       (unless (element_matches (new.wanted w) init.ty) (done (new.refused l (refusal 14 0)) cs) made)
   unfolding build_table validated by_type by_kind
   type_chain =
-      pick_ap (λ b. by_type b l start room init cs) (valid_table (new.wanted w)) (built.Built (new.wanted w)) (built.Refused (refusal 1 0))
+      pick_ap (λ b. by_type b l start room init cs) (valid_table (new.wanted w)) (Ok (new.wanted w)) (Err (refusal 1 0))
       ∙ ap (λ (c : Done CreatedTable). unless (valid_table (new.wanted w)) (done (new.refused l (refusal 1 0)) cs)
       (unless (element_matches (new.wanted w) init.ty) (done (new.refused l (refusal 14 0)) cs) c))
       made_chain

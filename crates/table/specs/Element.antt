@@ -1,7 +1,8 @@
 -- Document 01, "The machine": element segments; WebAssembly Core Specification 3.0, Execution, Instructions, elem.drop.
-use Rattle.std.specs.Prelude.{ℕ, ◌+◌, Bool, List, leb, length, get_or}
+use Rattle.std.specs.Prelude.{ℕ, ◌+◌, Bool, List, leb, length, get_or, Ok, Err, Result}
 use Rattle.types.specs.Names.{pick, both, Done, done, over, refusal, refuse, accept, Answer, RefType}
-use Rattle.table.specs.{Table.sound_buffer, declared.element.ElementSegment.ElementSegment, declared.element.MadeSegment.MadeSegment}
+use Rattle.table.specs.{Table.sound_buffer, declared.element.ElementSegment.ElementSegment}
+use Rattle.types.specs.declared.answer.Refusal.{Refusal}
 
 -- a sound segment: its places lie inside the items, and its size within its places
 unfoldable pub sound_segment : ElementSegment → ℕ → Bool
@@ -19,8 +20,8 @@ item_of s items i =
     (refuse 19 0)
 
 -- the items go to their places, or 19 where these are not inside the buffer
-unfoldable pub new_segment : RefType → ℕ → List ℕ → List ℕ → Done MadeSegment
+unfoldable pub new_segment : RefType → ℕ → List ℕ → List ℕ → Done (Result ElementSegment Refusal)
 new_segment k start items given =
     pick (sound_buffer start (length given) (length items))
-    (done (MadeSegment.Made (record { ty = k; start = start; places = length given; size = length given })) (over items start given))
-    (done (MadeSegment.Refused (refusal 19 0)) items)
+    (done (Ok (record { ty = k; start = start; places = length given; size = length given })) (over items start given))
+    (done (Err (refusal 19 0)) items)

@@ -7,5 +7,5 @@ pub use Rattle.table.specs.Grow.{grow_table}
 pub use Rattle.table.specs.Fill.{fill_table}
 pub use Rattle.table.specs.Copy.{copy_table}
 pub use Rattle.table.specs.Init.{init_table}
-pub use declared.{table.Table.Table, element.ElementSegment.ElementSegment, element.MadeSegment.MadeSegment, grow.GrownTable.GrownTable}
-pub use declared.{new.CreatedTable.CreatedTable, new.MadeTable.MadeTable}
+pub use declared.{table.Table.Table, element.ElementSegment.ElementSegment, grow.GrownTable.GrownTable}
+pub use declared.{new.CreatedTable.CreatedTable}

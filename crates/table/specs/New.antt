@@ -1,13 +1,13 @@
 -- Document 01, "First check wins", new table: 1, 14, limiter 3/4, room 5 with notice; not metered; cells become the initial reference.
-use Rattle.std.specs.Prelude.{ℕ, List, eqb, leb, length, replicate}
+use Rattle.std.specs.Prelude.{ℕ, List, eqb, leb, length, replicate, Ok, Err}
 use Rattle.types.specs.Names.{pick, unless, Done, done, over, refusal, says_of, moved, heard_of, table_type, valid_table, element_matches}
 use Rattle.types.specs.Names.{Refusal, Limiter, TypedRawRef, TableType, WantedTable}
 use Rattle.table.specs.Table.{sound_buffer}
-use Rattle.table.specs.declared.{table.Table.Table, new.MadeTable.MadeTable, new.CreatedTable.CreatedTable}
+use Rattle.table.specs.declared.{table.Table.Table, new.CreatedTable.CreatedTable}
 
 -- a refused creation changes no cell
 abbrev pub refused : Limiter → Refusal → CreatedTable
-refused l r = record { made = MadeTable.Refused r; limiter = l }
+refused l r = record { made = Err r; limiter = l }
 
 -- a table's record
 abbrev pub table_of : TableType → ℕ → ℕ → ℕ → Table
@@ -26,5 +26,5 @@ new_table w init start room cs l =
     (pick (eqb (says_of l) 1) (done (refused (moved l) (refusal 3 0)) cs)
     (pick (eqb (says_of l) 2) (done (refused (moved l) (refusal 4 0)) cs)
     (unless (leb w.limits.minimum room) (done (refused (moved (moved l)) (heard_of (says_of (moved l)) (refusal 5 0))) cs)
-    (done (record { made = MadeTable.Made (table_of (wanted w) start room w.limits.minimum); limiter = moved l })
+    (done (record { made = Ok (table_of (wanted w) start room w.limits.minimum); limiter = moved l })
     (over cs start (replicate w.limits.minimum init.raw.bits))))))))

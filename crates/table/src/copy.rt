@@ -10,15 +10,15 @@ ghost use Rattle.table.specs.stages.Spans.{copy_bounds, copy_kinds};
 
 use super::table::Table;
 use super::{cells, table};
-use types::answer::{Answer, Value};
-use types::fuel::{Fuel, FuelStep};
+use types::answer::{Answer, Refusal, Value};
+use types::fuel::Fuel;
 use types::grant::Spanned;
 use types::raw::RawRef;
 use types::span::CopySpan;
 
 // By what bounds and fuel say.
 fn copy_by(
-    step: FuelStep,
+    step: Result<Fuel, Refusal>,
     fuel: Fuel,
     into: Table,
     source: Table,
@@ -29,16 +29,16 @@ fn copy_by(
     ensures { done result cells.new ≡ spanned step fuel cells.old (over cells.old (into.start + span.to) (cut cells.old (source.start + span.from) span.len)) }
 {
     match step {
-        FuelStep::Refused(refusal) => Spanned {
-            answer: Answer::Refusal(refusal),
+        Err(refusal) => Spanned {
+            answer: Err(refusal),
             fuel,
         },
-        FuelStep::Done(left) => {
+        Ok(left) => {
             let there = into.start + (span.to as usize);
             let here = source.start + (span.from as usize);
             cells::move_cells(cells, there, here, span.len as usize);
             Spanned {
-                answer: Answer::Value(Value::Number(0)),
+                answer: Ok(Value::Number(0)),
                 fuel: left,
             }
         }

@@ -16,26 +16,25 @@ pub struct ElementSegment {
     pub size: u64,
 }
 
-#[derive(Clone, Copy)]
-pub enum MadeSegment {
-    Made(ElementSegment),
-    Refused(Refusal),
-}
-
 impl ElementSegment {
     // A segment of the given items, which go to the places from `start` on; 19 where these are not inside the buffer.
-    pub fn new(ty: RefType, start: usize, items: &mut [u64], given: &[u64]) -> MadeSegment
+    pub fn new(
+        ty: RefType,
+        start: usize,
+        items: &mut [u64],
+        given: &[u64],
+    ) -> Result<ElementSegment, Refusal>
         ensures { done result items.new ≡ new_segment ty start items.old given.now }
     {
         let n = given.len();
         if !table::sound_buffer(start, n as u64, items.len()) {
-            return MadeSegment::Refused(Refusal {
+            return Err(Refusal {
                 number: 19,
                 amount: 0,
             });
         }
         cells::init_cells(items, start, given, 0, n);
-        MadeSegment::Made(ElementSegment {
+        Ok(ElementSegment {
             ty,
             start,
             places: n as u64,
@@ -66,7 +65,7 @@ impl ElementSegment {
         }
         let at = self.start + (index as usize);
         let cell = items[at];
-        Answer::Value(Value::Number(cell))
+        Ok(Value::Number(cell))
     }
 
     // The segment becomes empty, again too.

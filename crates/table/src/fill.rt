@@ -10,15 +10,15 @@ ghost use Rattle.table.specs.stages.Spans.{fill_kind, fill_sound};
 
 use super::table::Table;
 use super::{cells, table};
-use types::answer::{Answer, Value};
-use types::fuel::{Fuel, FuelStep};
+use types::answer::{Answer, Refusal, Value};
+use types::fuel::Fuel;
 use types::grant::Spanned;
 use types::raw::{RawRef, TypedRawRef};
 use types::span::FillSpan;
 
 // By what bounds and fuel say.
 fn fill_by(
-    step: FuelStep,
+    step: Result<Fuel, Refusal>,
     fuel: Fuel,
     table: Table,
     cells: &mut [u64],
@@ -29,15 +29,15 @@ fn fill_by(
     ensures { done result cells.new ≡ spanned step fuel cells.old (over cells.old (table.start + span.start) (replicate span.len bits)) }
 {
     match step {
-        FuelStep::Refused(refusal) => Spanned {
-            answer: Answer::Refusal(refusal),
+        Err(refusal) => Spanned {
+            answer: Err(refusal),
             fuel,
         },
-        FuelStep::Done(left) => {
+        Ok(left) => {
             let at = table.start + (span.start as usize);
             cells::fill_cells(cells, at, bits, span.len as usize);
             Spanned {
-                answer: Answer::Value(Value::Number(0)),
+                answer: Ok(Value::Number(0)),
                 fuel: left,
             }
         }

@@ -1,6 +1,5 @@
 // Growing a table, in the order of checks of document 01: the limiter is asked before the maximum.
 ghost use Rattle.std.specs.Prelude.{◌≡◌, ◌≤◌, ltb, length};
-ghost use Rattle.types.specs.declared.limiter.Permit.TheVariants.{Granted};
 ghost use Rattle.types.specs.Answer.{refuse};
 ghost use Rattle.types.specs.Done.{done};
 ghost use Rattle.types.specs.IndexType.{max_size};
@@ -15,7 +14,7 @@ use types::answer::{Answer, Refusal, Value};
 use types::fuel::Fuel;
 use types::grant::Growth;
 use types::index_ty::IndexType;
-use types::limiter::{Limiter, Permit};
+use types::limiter::Limiter;
 use types::raw::{RawRef, TypedRawRef};
 
 #[derive(Clone, Copy)]
@@ -40,12 +39,7 @@ fn answered_with(answer: Answer, table: Table, fuel: Fuel, limiter: Limiter) -> 
 fn refused(number: u8, table: Table, fuel: Fuel, limiter: Limiter) -> GrownTable
     ensures { result ≡ answered (refuse number 0) table fuel limiter }
 {
-    answered_with(
-        Answer::Refusal(Refusal { number, amount: 0 }),
-        table,
-        fuel,
-        limiter,
-    )
+    answered_with(Err(Refusal { number, amount: 0 }), table, fuel, limiter)
 }
 
 // The growth is granted: the new cells become the reference.
@@ -58,7 +52,7 @@ fn enlarge(
     limiter: Limiter,
 ) -> GrownTable
     requires { Roomy table size (length cells.old) }
-    ensures { done result cells.new ≡ enlarged_by Granted fuel limiter table cells.old size bits }
+    ensures { done result cells.new ≡ enlarged_by (Ok tt) fuel limiter table cells.old size bits }
 {
     let from = table.start + (table.size as usize);
     let n = (size - table.size) as usize;
@@ -66,12 +60,12 @@ fn enlarge(
     let before = table.size;
     let mut next = table;
     next.size = size;
-    answered_with(Answer::Value(Value::Number(before)), next, fuel, limiter)
+    answered_with(Ok(Value::Number(before)), next, fuel, limiter)
 }
 
 // By what the checks say.
 fn enlarge_by(
-    permit: Permit,
+    permit: Result<(), Refusal>,
     fuel: Fuel,
     limiter: Limiter,
     table: Table,
@@ -79,12 +73,12 @@ fn enlarge_by(
     size: u64,
     bits: u64,
 ) -> GrownTable
-    requires { permit ≡ Granted → Roomy table size (length cells.old) }
+    requires { permit ≡ (Ok tt) → Roomy table size (length cells.old) }
     ensures { done result cells.new ≡ enlarged_by permit fuel limiter table cells.old size bits }
 {
     match permit {
-        Permit::Denied(refusal) => { answered_with(Answer::Refusal(refusal), table, fuel, limiter) }
-        Permit::Granted => enlarge(table, cells, size, bits, fuel, limiter),
+        Err(refusal) => { answered_with(Err(refusal), table, fuel, limiter) }
+        Ok(()) => enlarge(table, cells, size, bits, fuel, limiter),
     }
 }
 
@@ -170,12 +164,7 @@ fn grow_sound(
         return refused(14, table, fuel, limiter);
     }
     if delta == 0 {
-        return answered_with(
-            Answer::Value(Value::Number(table.size)),
-            table,
-            fuel,
-            limiter,
-        );
+        return answered_with(Ok(Value::Number(table.size)), table, fuel, limiter);
     }
     grow_some(table, cells, delta, value.raw.bits, fuel, limiter)
 }

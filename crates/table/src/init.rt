@@ -14,15 +14,15 @@ ghost use Rattle.table.specs.stages.Spans.{init_some, init_bounds, init_kinds};
 use super::element::ElementSegment;
 use super::table::Table;
 use super::{cells, table};
-use types::answer::{Answer, Value};
-use types::fuel::{Fuel, FuelStep};
+use types::answer::{Answer, Refusal, Value};
+use types::fuel::Fuel;
 use types::grant::Spanned;
 use types::raw::RawRef;
 use types::span::CopySpan;
 
 // By what the fuel step says.
 fn init_by(
-    step: FuelStep,
+    step: Result<Fuel, Refusal>,
     fuel: Fuel,
     table: Table,
     segment: ElementSegment,
@@ -34,16 +34,16 @@ fn init_by(
     ensures { done result cells.new ≡ spanned step fuel cells.old (over cells.old (table.start + span.to) (cut items.now (segment.start + span.from) span.len)) }
 {
     match step {
-        FuelStep::Refused(refusal) => Spanned {
-            answer: Answer::Refusal(refusal),
+        Err(refusal) => Spanned {
+            answer: Err(refusal),
             fuel,
         },
-        FuelStep::Done(left) => {
+        Ok(left) => {
             let there = table.start + (span.to as usize);
             let here = segment.start + (span.from as usize);
             cells::init_cells(cells, there, items, here, span.len as usize);
             Spanned {
-                answer: Answer::Value(Value::Number(0)),
+                answer: Ok(Value::Number(0)),
                 fuel: left,
             }
         }
@@ -83,7 +83,7 @@ fn init_bounds(
     }
     if span.len == 0 {
         return Spanned {
-            answer: Answer::Value(Value::Number(0)),
+            answer: Ok(Value::Number(0)),
             fuel,
         };
     }

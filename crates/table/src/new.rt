@@ -1,6 +1,5 @@
 // Making a table in a room of the buffer, in the order of checks of document 01.
 ghost use Rattle.std.specs.Prelude.{◌≡◌, ◌+◌, ◌≤◌, length};
-ghost use Rattle.types.specs.declared.limiter.Permit.TheVariants.{Granted};
 ghost use Rattle.types.specs.Done.{done};
 ghost use Rattle.types.specs.TableType.{build_table};
 ghost use Rattle.table.specs.stages.Facts.{Within, Roomed};
@@ -10,19 +9,13 @@ ghost use Rattle.table.specs.stages.New.{made_by, made_of, by_kind, by_type};
 use super::table::Table;
 use super::{cells, table};
 use types::answer::Refusal;
-use types::limiter::{Limiter, Permit};
+use types::limiter::Limiter;
 use types::raw::TypedRawRef;
-use types::table_ty::{BuiltTable, TableType, WantedTable};
-
-#[derive(Clone, Copy)]
-pub enum MadeTable {
-    Made(Table),
-    Refused(Refusal),
-}
+use types::table_ty::{TableType, WantedTable};
 
 #[derive(Clone, Copy)]
 pub struct CreatedTable {
-    pub made: MadeTable,
+    pub made: Result<Table, Refusal>,
     pub limiter: Limiter,
 }
 
@@ -30,7 +23,7 @@ fn no_table(limiter: Limiter, refusal: Refusal) -> CreatedTable
     ensures { result ≡ refused limiter refusal }
 {
     CreatedTable {
-        made: MadeTable::Refused(refusal),
+        made: Err(refusal),
         limiter,
     }
 }
@@ -38,29 +31,29 @@ fn no_table(limiter: Limiter, refusal: Refusal) -> CreatedTable
 // The table that was granted.
 fn make(limiter: Limiter, table: Table, bits: u64, cells: &mut [u64]) -> CreatedTable
     requires { Within table (length cells.old) }
-    ensures { done result cells.new ≡ made_by Granted limiter table bits cells.old }
+    ensures { done result cells.new ≡ made_by (Ok tt) limiter table bits cells.old }
 {
     cells::fill_cells(cells, table.start, bits, table.size as usize);
     CreatedTable {
-        made: MadeTable::Made(table),
+        made: Ok(table),
         limiter,
     }
 }
 
 // By what the limiter and the room say.
 fn make_by(
-    permit: Permit,
+    permit: Result<(), Refusal>,
     limiter: Limiter,
     table: Table,
     bits: u64,
     cells: &mut [u64],
 ) -> CreatedTable
-    requires { permit ≡ Granted → Within table (length cells.old) }
+    requires { permit ≡ (Ok tt) → Within table (length cells.old) }
     ensures { done result cells.new ≡ made_by permit limiter table bits cells.old }
 {
     match permit {
-        Permit::Denied(refusal) => no_table(limiter, refusal),
-        Permit::Granted => make(limiter, table, bits, cells),
+        Err(refusal) => no_table(limiter, refusal),
+        Ok(()) => make(limiter, table, bits, cells),
     }
 }
 
@@ -112,7 +105,7 @@ fn by_kind(
 
 // By whether the type is valid.
 fn by_type(
-    built: BuiltTable,
+    built: Result<TableType, Refusal>,
     limiter: Limiter,
     start: usize,
     room: u64,
@@ -123,8 +116,8 @@ fn by_type(
     ensures { done result cells.new ≡ by_type built limiter start room initial cells.old }
 {
     match built {
-        BuiltTable::Refused(refusal) => no_table(limiter, refusal),
-        BuiltTable::Built(ty) => by_kind(limiter, ty, start, room, initial, cells),
+        Err(refusal) => no_table(limiter, refusal),
+        Ok(ty) => by_kind(limiter, ty, start, room, initial, cells),
     }
 }
 

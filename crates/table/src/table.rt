@@ -29,7 +29,7 @@ pub struct Table {
 pub(crate) fn refused(number: u8) -> Answer
     ensures { result ≡ refuse number 0 }
 {
-    Answer::Refusal(Refusal { number, amount: 0 })
+    Err(Refusal { number, amount: 0 })
 }
 
 // A span operation that is refused: fuel and cells stay.
@@ -124,7 +124,7 @@ impl Table {
         }
         let at = self.start + (index as usize);
         let cell = cells[at];
-        Answer::Value(Value::Number(cell))
+        Ok(Value::Number(cell))
     }
 
     // The cell at an index becomes the reference: 14, 10 outside.
@@ -153,5 +153,5 @@ fn set_sound(table: Table, cells: &mut [u64], index: u64, value: TypedRawRef) ->
     }
     let at = table.start + (index as usize);
     cells::fill_cells(cells, at, value.raw.bits, 1);
-    Answer::Value(Value::Number(0))
+    Ok(Value::Number(0))
 }

@@ -6,7 +6,7 @@ use Rattle.machine.specs.Words.{row_length}
 use Rattle.machine.specs.Row.{fresh_row}
 use Rattle.lines.specs.Progress.{Progressed, piece_in}
 use Rattle.types.specs.Answer.{refuse, accept}
-use Rattle.types.specs.declared.answer.Answer.{Answer}
+use Rattle.types.specs.Answer.{Answer}
 use Rattle.lines.specs.declared.code.Read.{Read}
 use Rattle.lines.specs.declared.code.Read.TheVariants as read
 

@@ -1,10 +1,8 @@
 -- The records that the benches build from numbers, and what an operation on them leaves.
-use Rattle.std.specs.Prelude.{ℕ, Bool, true, false, ◌≡◌, List}
+use Rattle.std.specs.Prelude.{ℕ, Bool, true, false, ◌≡◌, List, Ok, Err, Result}
 use Rattle.types.specs.Answer.{number_of, shown_of}
-use Rattle.types.specs.declared.answer.Answer.{Answer}
+use Rattle.types.specs.Answer.{Answer}
 use Rattle.types.specs.declared.fuel.Fuel.{Fuel}
-use Rattle.types.specs.declared.fuel.FuelStep.{FuelStep}
-use Rattle.types.specs.declared.fuel.FuelStep.TheVariants as step
 use Rattle.types.specs.Done.{Done}
 use Rattle.types.specs.declared.grant.Spanned.{Spanned}
 use Rattle.types.specs.declared.span.CopySpan.{CopySpan}
@@ -18,6 +16,7 @@ use Rattle.memory.specs.declared.grow.GrownMemory.{GrownMemory}
 use Rattle.memory.specs.declared.memory.Memory.{Memory}
 use Rattle.table.specs.declared.table.Table.{Table}
 use Rattle.table.specs.declared.element.ElementSegment.{ElementSegment}
+use Rattle.types.specs.declared.answer.Refusal.{Refusal}
 
 -- pages of 64 KiB, or of one byte
 unfoldable pub page_of : Bool → PageSize
@@ -47,17 +46,17 @@ pub record Took (s : Done Answer) (result : ℕ) (bytes : List ℕ) : Type 0 whe
   pub cells : bytes ≡ s.cells
 
 -- a fuel step's number
-unfoldable pub step_number : FuelStep → ℕ
-step_number (step.Done f) = 0
-step_number (step.Refused r) = r.number
+unfoldable pub step_number : Result Fuel Refusal → ℕ
+step_number (Ok f) = 0
+step_number (Err r) = r.number
 
 -- what it leaves, or what there was
-unfoldable pub step_left : FuelStep → ℕ → ℕ
-step_left (step.Done f) old = f.remaining
-step_left (step.Refused r) old = old
+unfoldable pub step_left : Result Fuel Refusal → ℕ → ℕ
+step_left (Ok f) old = f.remaining
+step_left (Err r) old = old
 
 -- of a charge: the number, and the fuel left
-pub record Charged (s : FuelStep) (old result new : ℕ) : Type 0 where
+pub record Charged (s : Result Fuel Refusal) (old result new : ℕ) : Type 0 where
   pub number : result ≡ step_number s
   pub left : new ≡ step_left s old
 

@@ -20,10 +20,10 @@ fn once(
         ≡ again tested 1 (rowing words.old bytes.old cells.old items.old) op }
 {
     if tested {
-        row::operate(words, bytes, cells, items, op);
+        let _ = row::operate(words, bytes, cells, items, op);
         return;
     }
-    row::proceed(words, bytes, cells, items, op);
+    let _ = row::proceed(words, bytes, cells, items, op);
 }
 
 fn repeat(

@@ -19,7 +19,8 @@ ghost use Rattle.timing.specs.Timing.{page_of, memory_of, fuel_of, table_of, ref
 use memory::memory::Memory;
 use table::element::ElementSegment;
 use table::table::Table;
-use types::fuel::{Fuel, FuelCosts, FuelStep};
+use types::answer::Refusal;
+use types::fuel::{Fuel, FuelCosts};
 use types::index_ty::IndexType;
 use types::limiter::Limiter;
 use types::limits::Limits;
@@ -113,7 +114,7 @@ fn grow_from(
     let answer = grown.answer;
     *size = after.size;
     *left = paid.remaining;
-    answer.number()
+    types::answer::number(answer)
 }
 
 // A host read of as many bytes as the caller's buffer has.
@@ -136,7 +137,7 @@ fn read_from(memory: Memory, bytes: &[u8], offset: u64, to: &mut [u8]) -> u8
     ensures { Took (read_memory memory bytes.now offset to.old) result to.new }
 {
     let answer = memory.read(bytes, offset, to);
-    answer.number()
+    types::answer::number(answer)
 }
 
 // A host write of the caller's buffer.
@@ -159,19 +160,19 @@ fn write_to(memory: Memory, bytes: &mut [u8], offset: u64, from: &[u8]) -> u8
     ensures { Took (write_memory memory bytes.old offset from.now) result bytes.new }
 {
     let answer = memory.write(bytes, offset, from);
-    answer.number()
+    types::answer::number(answer)
 }
 
 // What the step leaves, and its number.
-fn settle(step: FuelStep, left: &mut u64) -> u8
+fn settle(step: Result<Fuel, Refusal>, left: &mut u64) -> u8
     ensures { Charged step left.old result left.new }
 {
     match step {
-        FuelStep::Done(fuel) => {
+        Ok(fuel) => {
             *left = fuel.remaining;
             0
         }
-        FuelStep::Refused(refusal) => refusal.number,
+        Err(refusal) => refusal.number,
     }
 }
 
@@ -234,8 +235,8 @@ fn get_from(table: Table, cells: &[u64], index: u64, value: &mut u64) -> u8
     ensures { Got (get_table table cells.now index) result value.new }
 {
     let answer = table.get(cells, index);
-    *value = answer.shown();
-    answer.number()
+    *value = types::answer::shown(answer);
+    types::answer::number(answer)
 }
 
 // One cell of a table, through an out parameter.
@@ -257,7 +258,7 @@ fn set_from(table: Table, cells: &mut [u64], index: u64, value: TypedRawRef) -> 
     ensures { Wrote (set_table table cells.old index value) result cells.new }
 {
     let answer = table.set(cells, index, value);
-    answer.number()
+    types::answer::number(answer)
 }
 
 // One cell of a table is set.
@@ -284,7 +285,7 @@ fn fill_from(
     let paid = filled.fuel;
     let answer = filled.answer;
     *left = paid.remaining;
-    answer.number()
+    types::answer::number(answer)
 }
 
 // A fill of the table that has all the buffer's first cells.
@@ -326,7 +327,7 @@ fn copy_from(
     let paid = copied.fuel;
     let answer = copied.answer;
     *left = paid.remaining;
-    answer.number()
+    types::answer::number(answer)
 }
 
 // A copy to the table of the first `size` cells from that of as many from `start` on, which may be the same.
@@ -371,7 +372,7 @@ fn init_from(
     let paid = written.fuel;
     let answer = written.answer;
     *left = paid.remaining;
-    answer.number()
+    types::answer::number(answer)
 }
 
 fn init_first(

@@ -19,12 +19,12 @@ fn echo(parsed: Read) -> Answer
     ensures { result ≡ echo_of parsed }
 {
     match parsed {
-        Read::Operation(_) => Answer::Value(Value::Number(0)),
-        Read::Making { .. } => Answer::Refusal(Refusal {
+        Read::Operation(_) => Ok(Value::Number(0)),
+        Read::Making { .. } => Err(Refusal {
             number: 18,
             amount: 0,
         }),
-        Read::Malformed => Answer::Refusal(Refusal {
+        Read::Malformed => Err(Refusal {
             number: 18,
             amount: 0,
         }),

@@ -1,8 +1,9 @@
 -- Laws of page sizes and sizes in bytes. Assumes nothing.
+use Rattle.std.specs.Prelude.{Some, None}
 use Rattle.types.proofs.Prelude.{◌≡◌, sym, ap, ◌∙◌, ℕ, ◌-◌, ◌*◌, ◌/◌, ◌^◌, ◌<◌, ◌≤◌, arith, lt-ltb, le-ltb, false, pick_true, pick_false}
 use Rattle.types.proofs.Prices.{too_large, product_fits}
 use Rattle.types.specs.{declared.memory_ty.PageSize.PageSize, declared.memory_ty.PageSize.TheVariants.One, declared.memory_ty.PageSize.TheVariants.Wasm}
-use Rattle.types.specs.{declared.memory_ty.ByteSize.TheVariants.Bytes, declared.memory_ty.ByteSize.TheVariants.Overflow, IndexType.max_size}
+use Rattle.types.specs.{IndexType.max_size}
 use Rattle.types.specs.{declared.index_ty.IndexType.IndexType, declared.index_ty.IndexType.TheVariants.I32, declared.index_ty.IndexType.TheVariants.I64}
 use Rattle.types.specs.{declared.memory_ty.MemoryType.MemoryType, MemoryType.page_bytes, MemoryType.byte_size, MemoryType.maximum_bytes}
 
@@ -10,22 +11,22 @@ pub page_pos : (p : PageSize) → 0 < page_bytes p
 page_pos One = omega arith
 page_pos Wasm = omega arith
 
-pub bytes_are : (n : ℕ) → n < 2 ^ 64 → Bytes n ≡ byte_size n
+pub bytes_are : (n : ℕ) → n < 2 ^ 64 → Some n ≡ byte_size n
 unfolding byte_size
 bytes_are n h = sym (pick_true _ _ _ (lt-ltb _ _ h))
 
-pub bytes_over : (n : ℕ) → 2 ^ 64 ≤ n → Overflow ≡ byte_size n
+pub bytes_over : (n : ℕ) → 2 ^ 64 ≤ n → None ≡ byte_size n
 unfolding byte_size
 bytes_over n h = sym (pick_false _ _ _ (le-ltb _ _ h))
 
-pub pages_over : (p : PageSize) (n size : ℕ) → size ≡ page_bytes p → (2 ^ 64 - 1) / size < n → Overflow ≡ byte_size (n * page_bytes p)
+pub pages_over : (p : PageSize) (n size : ℕ) → size ≡ page_bytes p → (2 ^ 64 - 1) / size < n → None ≡ byte_size (n * page_bytes p)
 pages_over p n size e h =
     bytes_over _ (omega (arith, too_large n (page_bytes p) (2 ^ 64 - 1) (λ z. absurd (omega (arith, page_pos p, z))) (rw e at h)))
 
 pub pages_fit : (n size : ℕ) → n ≤ (2 ^ 64 - 1) / size → n * size < 2 ^ 64
 pages_fit n size h = product_fits n size h
 
-pub pages_are : (p : PageSize) (n size : ℕ) → size ≡ page_bytes p → n ≤ (2 ^ 64 - 1) / size → Bytes (n * size) ≡ byte_size (n * page_bytes p)
+pub pages_are : (p : PageSize) (n size : ℕ) → size ≡ page_bytes p → n ≤ (2 ^ 64 - 1) / size → Some (n * size) ≡ byte_size (n * page_bytes p)
 pages_are p n size e h = bytes_are (n * size) (product_fits n size h) ∙ ap (λ (s : ℕ). byte_size (n * s)) e
 
 -- without a maximum the bound is the largest size
@@ -33,10 +34,10 @@ unlimited : (t : MemoryType) → t.limits.bounded ≡ false → maximum_bytes t 
 unfolding maximum_bytes
 unlimited t h = ap byte_size (pick_false _ _ _ h)
 
-pub unlimited_32 : (t : MemoryType) → t.limits.bounded ≡ false → t.index ≡ I32 → Bytes 4294967296 ≡ maximum_bytes t
+pub unlimited_32 : (t : MemoryType) → t.limits.bounded ≡ false → t.index ≡ I32 → Some 4294967296 ≡ maximum_bytes t
 unlimited_32 t h e =
     bytes_are (max_size I32) (omega arith) ∙ sym (unlimited t h ∙ ap (λ (i : IndexType). byte_size (max_size i)) e)
 
-pub unlimited_64 : (t : MemoryType) → t.limits.bounded ≡ false → t.index ≡ I64 → Overflow ≡ maximum_bytes t
+pub unlimited_64 : (t : MemoryType) → t.limits.bounded ≡ false → t.index ≡ I64 → None ≡ maximum_bytes t
 unlimited_64 t h e =
     bytes_over (max_size I64) (omega arith) ∙ sym (unlimited t h ∙ ap (λ (i : IndexType). byte_size (max_size i)) e)

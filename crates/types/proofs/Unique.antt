@@ -7,10 +7,10 @@ use Rattle.types.proofs.answer.Value.from_f64_bits.Reads as value_from_f64_bits_
 use Rattle.types.proofs.answer.Value.from_f64_bits.Kinds as value_from_f64_bits_kinds
 use Rattle.types.proofs.answer.Value.bits.Reads as value_bits_reads
 use Rattle.types.proofs.answer.Value.bits.Kinds as value_bits_kinds
-use Rattle.types.proofs.answer.Answer.number.Reads as answer_number_reads
-use Rattle.types.proofs.answer.Answer.number.Kinds as answer_number_kinds
-use Rattle.types.proofs.answer.Answer.shown.Reads as answer_shown_reads
-use Rattle.types.proofs.answer.Answer.shown.Kinds as answer_shown_kinds
+use Rattle.types.proofs.answer.number.Reads as answer_number_reads
+use Rattle.types.proofs.answer.number.Kinds as answer_number_kinds
+use Rattle.types.proofs.answer.shown.Reads as answer_shown_reads
+use Rattle.types.proofs.answer.shown.Kinds as answer_shown_kinds
 use Rattle.types.proofs.fuel.saturating_mul.Reads as fuel_saturating_mul_reads
 use Rattle.types.proofs.fuel.saturating_mul.Kinds as fuel_saturating_mul_kinds
 use Rattle.types.proofs.fuel.FuelCosts.default_costs.Reads as fuel_costs_default_costs_reads

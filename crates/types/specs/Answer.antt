@@ -1,10 +1,14 @@
 -- Document 01, "Numbers given back": an answer's number, and its value or amount; "Access": float bits stay, NaN payloads too.
-use Rattle.std.specs.Prelude.{ℕ}
+use Rattle.std.specs.Prelude.{ℕ, Result, Ok, Err}
 use Rattle.std.specs.Float.{binary32, binary64}
 use Rattle.std.specs.Float.Ieee.{of_bits, to_bits, nan_bits}
 use Rattle.std.specs.Int.{w32, w64}
 use Rattle.std.proofs.Common.{of_z}
-use Rattle.types.specs.{Pick.pick, declared.answer.Value.Value, declared.answer.Refusal.Refusal, declared.answer.Answer.Answer}
+use Rattle.types.specs.{Pick.pick, declared.answer.Value.Value, declared.answer.Refusal.Refusal}
+
+-- an answer is a value with its kind, or a refusal with its number and amount
+abbrev pub Answer : Type 0
+Answer = Result Value Refusal
 
 -- the float of its bits, or the bits themselves where they are a NaN's
 unfoldable pub float32 : ℕ → Value
@@ -30,19 +34,19 @@ refusal number amount = record { number = number; amount = amount }
 
 -- the answer of such a refusal
 abbrev pub refuse : ℕ → ℕ → Answer
-refuse number amount = Answer.Refusal (refusal number amount)
+refuse number amount = Err (refusal number amount)
 
 -- an accepted operation that answers a number
 abbrev pub accept : ℕ → Answer
-accept n = Answer.Value (Value.Number n)
+accept n = Ok (Value.Number n)
 
 -- document 01's number
 unfoldable pub number_of : Answer → ℕ
-number_of (Answer.Value v) = 0
-number_of (Answer.Refusal r) = r.number
+number_of (Ok v) = 0
+number_of (Err r) = r.number
 
 -- document 01's value or amount
 unfoldable pub shown_of : Answer → ℕ
 unfolding bits_of
-shown_of (Answer.Value v) = bits_of v
-shown_of (Answer.Refusal r) = r.amount
+shown_of (Ok v) = bits_of v
+shown_of (Err r) = r.amount

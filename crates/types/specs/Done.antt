@@ -1,6 +1,7 @@
 -- What every operation that is lent a buffer leaves behind: memories, tables and element segments alike.
 use Rattle.std.specs.Prelude.{ℕ, List}
-use Rattle.types.specs.declared.{answer.Answer.Answer, fuel.Fuel.Fuel, grant.Spanned.Spanned}
+use Rattle.types.specs.Answer.{Answer}
+use Rattle.types.specs.declared.{fuel.Fuel.Fuel, grant.Spanned.Spanned}
 
 -- a function's result, and the cells of the buffer that it is lent after it
 pub record Done (A : Type 0) : Type 0 where

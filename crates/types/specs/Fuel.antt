@@ -1,7 +1,9 @@
 -- Document 01, "Fuel" and "Numbers given back" (7, 15): the fuel record and its charges.
-use Rattle.std.specs.Prelude.{ℕ, ◌-◌, Bool, ltb}
+use Rattle.std.specs.Prelude.{ℕ, ◌-◌, Bool, ltb, Ok, Err, Result}
 use Rattle.types.specs.{Pick.pick, Pick.both, Answer.refusal, Answer.refuse, Answer.accept}
-use Rattle.types.specs.declared.{answer.Answer.Answer, fuel.FuelCosts.FuelCosts, fuel.Fuel.Fuel, fuel.FuelStep.FuelStep}
+use Rattle.types.specs.Answer.{Answer}
+use Rattle.types.specs.declared.{fuel.FuelCosts.FuelCosts, fuel.Fuel.Fuel}
+use Rattle.types.specs.declared.answer.Refusal.{Refusal}
 
 -- the costs where none are given: 64 bytes copied a unit, 7 units a byte translated, 2 a byte validated
 abbrev pub default_costs : FuelCosts
@@ -24,21 +26,21 @@ abbrev pub paid : Fuel → ℕ → Fuel
 paid f p = pick f.enabled (left f (f.remaining - p)) f
 
 -- n units are left from now on; 15 with metering off
-unfoldable pub set_fuel : Fuel → ℕ → FuelStep
-set_fuel f n = pick f.enabled (FuelStep.Done (left f n)) (FuelStep.Refused (refusal 15 0))
+unfoldable pub set_fuel : Fuel → ℕ → Result Fuel Refusal
+set_fuel f n = pick f.enabled (Ok (left f n)) (Err (refusal 15 0))
 
 -- how much is left; 15 with metering off
 unfoldable pub get_fuel : Fuel → Answer
 get_fuel f = pick f.enabled (accept f.remaining) (refuse 15 0)
 
 -- a charge that exceeds what is left takes nothing, and the refusal has the whole price
-unfoldable pub consume_unchecked : Fuel → ℕ → FuelStep
-consume_unchecked f p = pick (ltb f.remaining p) (FuelStep.Refused (refusal 7 p)) (FuelStep.Done (left f (f.remaining - p)))
+unfoldable pub consume_unchecked : Fuel → ℕ → Result Fuel Refusal
+consume_unchecked f p = pick (ltb f.remaining p) (Err (refusal 7 p)) (Ok (left f (f.remaining - p)))
 
 -- a charge; 15 with metering off
-unfoldable pub consume : Fuel → ℕ → FuelStep
-consume f p = pick f.enabled (consume_unchecked f p) (FuelStep.Refused (refusal 15 0))
+unfoldable pub consume : Fuel → ℕ → Result Fuel Refusal
+consume f p = pick f.enabled (consume_unchecked f p) (Err (refusal 15 0))
 
 -- the fuel step of the metered operations: free with metering off
-unfoldable pub consume_if : Fuel → ℕ → FuelStep
-consume_if f p = pick f.enabled (consume_unchecked f p) (FuelStep.Done f)
+unfoldable pub consume_if : Fuel → ℕ → Result Fuel Refusal
+consume_if f p = pick f.enabled (consume_unchecked f p) (Ok f)

@@ -1,7 +1,8 @@
 -- Document 01, "Numbers given back": the limiter is a byte script, 0 yes, 1 no, 2 its own error; past its end it answers 0.
-use Rattle.std.specs.Prelude.{ℕ, ◌+◌, Bool, true, List, [], ◌∷◌, ◌++◌, eqb, leb, ltb, length, take, drop, get_or, replicate}
+use Rattle.std.specs.Prelude.{ℕ, ◌+◌, Bool, true, List, [], ◌∷◌, ◌++◌, eqb, leb, ltb, length, take, drop, get_or, replicate, Ok, Err, Result, ⊤}
 use Rattle.types.specs.{Pick.pick, Pick.both, Answer.refusal, Answer.refuse, Answer.accept}
-use Rattle.types.specs.declared.{answer.Answer.Answer, answer.Refusal.Refusal, limiter.Limiter.Limiter, limiter.Permit.Permit}
+use Rattle.types.specs.Answer.{Answer}
+use Rattle.types.specs.declared.{answer.Refusal.Refusal, limiter.Limiter.Limiter}
 use Rattle.types.specs.declared.{limiter.Asked.Asked, limiter.Noticed.Noticed, limiter.HandedOver.HandedOver}
 
 -- the most answers that a script has
@@ -31,9 +32,9 @@ moved l =
     record { script = l.script; count = l.count; at = pick (ltb l.at l.count) (l.at + 1) l.at }
 
 -- a no has the number of its occasion, the limiter's own error is 4
-unfoldable pub permit_of : ℕ → ℕ → Permit
+unfoldable pub permit_of : ℕ → ℕ → Result ⊤ Refusal
 permit_of said deny =
-    pick (eqb said 1) (Permit.Denied (refusal deny 0)) (pick (eqb said 2) (Permit.Denied (refusal 4 0)) Permit.Granted)
+    pick (eqb said 1) (Err (refusal deny 0)) (pick (eqb said 2) (Err (refusal 4 0)) (Ok tt))
 
 -- one question
 unfoldable pub ask : Limiter → ℕ → Asked
@@ -49,7 +50,7 @@ notify l r = record { refusal = heard_of (says_of l) r; limiter = moved l }
 
 -- a refusal of which the limiter is told: 4 where the notice is met by its own error
 abbrev pub noticed : Limiter → ℕ → ℕ → Answer
-noticed l number amount = Answer.Refusal (heard_of (says_of l) (refusal number amount))
+noticed l number amount = Err (heard_of (says_of l) (refusal number amount))
 
 -- every byte is an answer
 unfoldable pub all_answers : List ℕ → Bool

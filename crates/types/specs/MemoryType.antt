@@ -1,10 +1,10 @@
 -- WebAssembly Core Specification 3.0, Validation, Types and Matching, memory types; document 01, "Types", for the page exponent and the page bound.
-use Rattle.std.specs.Prelude.{ℕ, ◌*◌, ◌/◌, ◌^◌, Bool, true, false, eqb, ltb}
+use Rattle.std.specs.Prelude.{ℕ, ◌*◌, ◌/◌, ◌^◌, Bool, true, false, eqb, ltb, Ok, Err, Some, None, Result, Option}
 use Rattle.types.specs.{Numbers.word64, Pick.pick, Pick.both, Answer.refusal, IndexType.max_size, IndexType.index_of, IndexType.same_index}
 use Rattle.types.specs.{Limits.valid_limits, Limits.match_limits, Limits.from_minimum}
 use Rattle.types.specs.declared.{limits.Limits.Limits, memory_ty.PageSize.PageSize, memory_ty.MemoryType.MemoryType}
-use Rattle.types.specs.declared.{memory_ty.BuiltMemory.BuiltMemory, memory_ty.ByteSize.ByteSize}
 use Rattle.types.specs.declared.memory_ty.PageSize.TheVariants.{One, Wasm}
+use Rattle.types.specs.declared.answer.Refusal.{Refusal}
 
 -- the exponent of a Wasm page, of 65,536 bytes
 abbrev pub wasm_exponent : ℕ
@@ -47,26 +47,26 @@ abbrev pub page_of : ℕ → PageSize
 page_of e = pick (eqb e 0) One Wasm
 
 -- a valid type, or 1
-unfoldable pub validated : MemoryType → BuiltMemory
-validated t = pick (valid_memory t) (BuiltMemory.Built t) (BuiltMemory.Refused (refusal 1 0))
+unfoldable pub validated : MemoryType → Result MemoryType Refusal
+validated t = pick (valid_memory t) (Ok t) (Err (refusal 1 0))
 
 -- the type of five fields: 64-bit or not, minimum, maximum if there is one, page exponent; or 1
-unfoldable pub build_memory : Bool → Limits → ℕ → BuiltMemory
+unfoldable pub build_memory : Bool → Limits → ℕ → Result MemoryType Refusal
 build_memory wide l e =
     pick (both (valid_exponent e) (valid_memory (memory_type wide (page_of e) l)))
-    (BuiltMemory.Built (memory_type wide (page_of e) l))
-    (BuiltMemory.Refused (refusal 1 0))
+    (Ok (memory_type wide (page_of e) l))
+    (Err (refusal 1 0))
 
 -- a size in bytes, where it is below 2^64
-unfoldable pub byte_size : ℕ → ByteSize
-byte_size n = pick (ltb n word64) (ByteSize.Bytes n) ByteSize.Overflow
+unfoldable pub byte_size : ℕ → Option ℕ
+byte_size n = pick (ltb n word64) (Some n) None
 
 -- the minimum in bytes
-unfoldable pub minimum_bytes : MemoryType → ByteSize
+unfoldable pub minimum_bytes : MemoryType → Option ℕ
 minimum_bytes t = byte_size (t.limits.minimum * page_bytes t.page)
 
 -- the maximum's bytes, or the largest size where there is no maximum
-unfoldable pub maximum_bytes : MemoryType → ByteSize
+unfoldable pub maximum_bytes : MemoryType → Option ℕ
 maximum_bytes t =
     byte_size (pick t.limits.bounded (t.limits.maximum * page_bytes t.page) (max_size t.index))
 

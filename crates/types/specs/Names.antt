@@ -13,8 +13,9 @@ pub use Rattle.types.specs.Limits.{admits_of}
 pub use Rattle.types.specs.MemoryType.{page_bytes, page_bound, valid_memory, memory_type, valid_exponent, page_of, build_memory, match_memory, dynamic_memory}
 pub use Rattle.types.specs.Raw.{typed_of, null_of, raw_bytes}
 pub use Rattle.types.specs.TableType.{table_bound, valid_table, table_type, element_matches}
-pub use declared.{answer.Answer.Answer, answer.Refusal.Refusal, answer.Value.Value, fuel.Fuel.Fuel, fuel.FuelCosts.FuelCosts, fuel.FuelStep.FuelStep}
-pub use declared.{limiter.HandedOver.HandedOver, limiter.Limiter.Limiter, memory_ty.BuiltMemory.BuiltMemory, memory_ty.MemoryType.MemoryType}
+pub use Rattle.types.specs.Answer.{Answer}
+pub use declared.{answer.Refusal.Refusal, answer.Value.Value, fuel.Fuel.Fuel, fuel.FuelCosts.FuelCosts}
+pub use declared.{limiter.HandedOver.HandedOver, limiter.Limiter.Limiter, memory_ty.MemoryType.MemoryType}
 pub use declared.{memory_ty.PageSize.PageSize, memory_ty.WantedMemory.WantedMemory, grant.Spanned.Spanned, span.CopySpan.CopySpan}
 pub use declared.{span.FillSpan.FillSpan, raw.RefType.RefType, raw.TypedRawRef.TypedRawRef, table_ty.TableType.TableType}
 pub use declared.{table_ty.WantedTable.WantedTable, index_ty.IndexType.IndexType, limits.Limits.Limits}

@@ -1,8 +1,9 @@
 -- WebAssembly Core Specification 3.0, Validation, Types and Matching, table types; document 01, "Types".
-use Rattle.std.specs.Prelude.{ℕ, ◌-◌, Bool}
+use Rattle.std.specs.Prelude.{ℕ, ◌-◌, Bool, Ok, Err, Result}
 use Rattle.types.specs.{Pick.pick, Pick.both, IndexType.max_size, IndexType.index_of, IndexType.same_index, Limits.valid_limits}
 use Rattle.types.specs.{Limits.match_limits, Limits.from_minimum, Raw.same_kind, Answer.refusal}
-use Rattle.types.specs.declared.{limits.Limits.Limits, raw.RefType.RefType, table_ty.TableType.TableType, table_ty.BuiltTable.BuiltTable}
+use Rattle.types.specs.declared.{limits.Limits.Limits, raw.RefType.RefType, table_ty.TableType.TableType}
+use Rattle.types.specs.declared.answer.Refusal.{Refusal}
 
 -- the most cells: 2^N - 1
 unfoldable pub table_bound : TableType → ℕ
@@ -17,11 +18,11 @@ abbrev pub table_type : RefType → Bool → Limits → TableType
 table_type k wide l = record { element = k; index = index_of wide; limits = l }
 
 -- a valid type, or 1
-unfoldable pub validated : TableType → BuiltTable
-validated t = pick (valid_table t) (BuiltTable.Built t) (BuiltTable.Refused (refusal 1 0))
+unfoldable pub validated : TableType → Result TableType Refusal
+validated t = pick (valid_table t) (Ok t) (Err (refusal 1 0))
 
 -- the type of these fields, or 1
-unfoldable pub build_table : RefType → Bool → Limits → BuiltTable
+unfoldable pub build_table : RefType → Bool → Limits → Result TableType Refusal
 build_table k wide l = validated (table_type k wide l)
 
 -- whether a reference of this kind may stand in the table; else 14

@@ -26,11 +26,8 @@ pub struct Refusal {
     pub amount: u64,
 }
 
-#[derive(Clone, Copy)]
-pub enum Answer {
-    Value(Value),
-    Refusal(Refusal),
-}
+// A value with its kind, or a refusal with its number and amount.
+pub type Answer = Result<Value, Refusal>;
 
 // Whether a pattern is a NaN's.
 fn is_nan32(bits: u32) -> bool
@@ -110,24 +107,22 @@ impl Value {
     }
 }
 
-impl Answer {
-    // The number given back: 0 where the operation is accepted.
-    pub fn number(self) -> u8
-        ensures { result ≡ number_of self }
-    {
-        match self {
-            Answer::Value(_) => 0,
-            Answer::Refusal(r) => r.number,
-        }
+// The number given back: 0 where the operation is accepted.
+pub fn number(answer: Answer) -> u8
+    ensures { result ≡ number_of answer }
+{
+    match answer {
+        Ok(_) => 0,
+        Err(r) => r.number,
     }
+}
 
-    // The bits of the value, or the amount.
-    pub fn shown(self) -> u64
-        ensures { result ≡ shown_of self }
-    {
-        match self {
-            Answer::Value(v) => v.bits(),
-            Answer::Refusal(r) => r.amount,
-        }
+// The bits of the value, or the amount.
+pub fn shown(answer: Answer) -> u64
+    ensures { result ≡ shown_of answer }
+{
+    match answer {
+        Ok(v) => v.bits(),
+        Err(r) => r.amount,
     }
 }

@@ -22,13 +22,6 @@ pub struct Fuel {
     pub costs: FuelCosts,
 }
 
-// The record after a step, or why there was none.
-#[derive(Clone, Copy)]
-pub enum FuelStep {
-    Done(Fuel),
-    Refused(Refusal),
-}
-
 // The product, or the largest number where it is larger.
 pub fn saturating_mul(a: u64, b: u64) -> u64
     ensures { result ≡ capped (a * b) }
@@ -96,18 +89,18 @@ impl Fuel {
     }
 
     // Sets what is left; 15 with metering off.
-    pub fn set_fuel(self, fuel: u64) -> FuelStep
+    pub fn set_fuel(self, fuel: u64) -> Result<Fuel, Refusal>
         ensures { result ≡ set_fuel self fuel }
     {
         if !self.enabled {
-            return FuelStep::Refused(Refusal {
+            return Err(Refusal {
                 number: 15,
                 amount: 0,
             });
         }
         let mut next = self;
         next.remaining = fuel;
-        FuelStep::Done(next)
+        Ok(next)
     }
 
     // What is left; 15 with metering off.
@@ -115,35 +108,35 @@ impl Fuel {
         ensures { result ≡ get_fuel self }
     {
         if !self.enabled {
-            return Answer::Refusal(Refusal {
+            return Err(Refusal {
                 number: 15,
                 amount: 0,
             });
         }
-        Answer::Value(Value::Number(self.remaining))
+        Ok(Value::Number(self.remaining))
     }
 
     // Charges, whether metering is on or not; 7 with the whole price where too little is left.
-    pub fn consume_fuel_unchecked(self, price: u64) -> FuelStep
+    pub fn consume_fuel_unchecked(self, price: u64) -> Result<Fuel, Refusal>
         ensures { result ≡ consume_unchecked self price }
     {
         if self.remaining < price {
-            return FuelStep::Refused(Refusal {
+            return Err(Refusal {
                 number: 7,
                 amount: price,
             });
         }
         let mut next = self;
         next.remaining = self.remaining - price;
-        FuelStep::Done(next)
+        Ok(next)
     }
 
     // Charges; 15 with metering off.
-    pub fn consume_fuel(self, price: u64) -> FuelStep
+    pub fn consume_fuel(self, price: u64) -> Result<Fuel, Refusal>
         ensures { result ≡ consume self price }
     {
         if !self.enabled {
-            return FuelStep::Refused(Refusal {
+            return Err(Refusal {
                 number: 15,
                 amount: 0,
             });
@@ -152,11 +145,11 @@ impl Fuel {
     }
 
     // Charges where metering is on.
-    pub fn consume_fuel_if(self, price: u64) -> FuelStep
+    pub fn consume_fuel_if(self, price: u64) -> Result<Fuel, Refusal>
         ensures { result ≡ consume_if self price }
     {
         if !self.enabled {
-            return FuelStep::Done(self);
+            return Ok(self);
         }
         self.consume_fuel_unchecked(price)
     }

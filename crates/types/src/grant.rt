@@ -4,13 +4,13 @@ ghost use Rattle.types.specs.stages.Grant.{told, creation_room, creation_permit,
 ghost use Rattle.types.specs.Fuel.{consume_if};
 
 use super::answer::{Answer, Refusal};
-use super::fuel::{Fuel, FuelStep};
-use super::limiter::{Asked, Limiter, Permit};
+use super::fuel::Fuel;
+use super::limiter::{Asked, Limiter};
 
 // What a growth's checks leave: the permit, and fuel and limiter after them.
 #[derive(Clone, Copy)]
 pub struct Growth {
-    pub permit: Permit,
+    pub permit: Result<(), Refusal>,
     pub fuel: Fuel,
     pub limiter: Limiter,
 }
@@ -30,7 +30,7 @@ fn tell(limiter: Limiter, refusal: Refusal) -> Asked
     let heard = noticed.refusal;
     let left = noticed.limiter;
     Asked {
-        permit: Permit::Denied(heard),
+        permit: Err(heard),
         limiter: left,
     }
 }
@@ -46,12 +46,12 @@ pub fn grant_creation(limiter: Limiter, fits: bool) -> Asked
 }
 
 // By what the limiter says.
-fn creation_permit(permit: Permit, limiter: Limiter, fits: bool) -> Asked
+fn creation_permit(permit: Result<(), Refusal>, limiter: Limiter, fits: bool) -> Asked
     ensures { result ≡ creation_permit permit limiter fits }
 {
     match permit {
-        Permit::Denied(_) => Asked { permit, limiter },
-        Permit::Granted => creation_room(limiter, fits),
+        Err(_) => Asked { permit, limiter },
+        Ok(()) => creation_room(limiter, fits),
     }
 }
 
@@ -61,7 +61,7 @@ fn creation_room(limiter: Limiter, fits: bool) -> Asked
 {
     if fits {
         return Asked {
-            permit: Permit::Granted,
+            permit: Ok(()),
             limiter,
         };
     }
@@ -94,7 +94,7 @@ fn growth_room(limiter: Limiter, fuel: Fuel, fits: bool) -> Growth
 {
     if fits {
         return Growth {
-            permit: Permit::Granted,
+            permit: Ok(()),
             fuel,
             limiter,
         };
@@ -110,12 +110,12 @@ fn growth_room(limiter: Limiter, fuel: Fuel, fits: bool) -> Growth
 }
 
 // By what the fuel step says.
-fn growth_paid(step: FuelStep, limiter: Limiter, fuel: Fuel, fits: bool) -> Growth
+fn growth_paid(step: Result<Fuel, Refusal>, limiter: Limiter, fuel: Fuel, fits: bool) -> Growth
     ensures { result ≡ growth_paid step limiter fuel fits }
 {
     match step {
-        FuelStep::Refused(refusal) => growth_told(limiter, fuel, refusal),
-        FuelStep::Done(left) => growth_room(limiter, left, fits),
+        Err(refusal) => growth_told(limiter, fuel, refusal),
+        Ok(left) => growth_room(limiter, left, fits),
     }
 }
 
@@ -145,7 +145,7 @@ fn growth_fuel(limiter: Limiter, fuel: Fuel, admits: bool, price: u64, fits: boo
 
 // By what the limiter says.
 fn growth_permit(
-    permit: Permit,
+    permit: Result<(), Refusal>,
     limiter: Limiter,
     fuel: Fuel,
     admits: bool,
@@ -155,12 +155,12 @@ fn growth_permit(
     ensures { result ≡ growth_permit permit limiter fuel admits price fits }
 {
     match permit {
-        Permit::Denied(_) => Growth {
+        Err(_) => Growth {
             permit,
             fuel,
             limiter,
         },
-        Permit::Granted => growth_fuel(limiter, fuel, admits, price, fits),
+        Ok(()) => growth_fuel(limiter, fuel, admits, price, fits),
     }
 }
 
@@ -175,11 +175,11 @@ pub fn grant_growth(limiter: Limiter, fuel: Fuel, admits: bool, price: u64, fits
 }
 
 // Whether a span operation may go on: its bounds, then the fuel step.
-pub fn grant_span(fuel: Fuel, in_bounds: bool, number: u8, price: u64) -> FuelStep
+pub fn grant_span(fuel: Fuel, in_bounds: bool, number: u8, price: u64) -> Result<Fuel, Refusal>
     ensures { result ≡ grant_span fuel in_bounds number price }
 {
     if in_bounds {
         return fuel.consume_fuel_if(price);
     }
-    FuelStep::Refused(Refusal { number, amount: 0 })
+    Err(Refusal { number, amount: 0 })
 }

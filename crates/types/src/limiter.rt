@@ -15,14 +15,8 @@ pub struct Limiter {
 }
 
 #[derive(Clone, Copy)]
-pub enum Permit {
-    Granted,
-    Denied(Refusal),
-}
-
-#[derive(Clone, Copy)]
 pub struct Asked {
-    pub permit: Permit,
+    pub permit: Result<(), Refusal>,
     pub limiter: Limiter,
 }
 
@@ -102,7 +96,7 @@ impl Limiter {
             return taken(script);
         }
         HandedOver {
-            answer: Answer::Refusal(Refusal {
+            answer: Err(Refusal {
                 number: 18,
                 amount: 0,
             }),
@@ -112,22 +106,22 @@ impl Limiter {
 }
 
 // What an answer to a question permits.
-fn permit_of(said: u8, deny: u8) -> Permit
+fn permit_of(said: u8, deny: u8) -> Result<(), Refusal>
     ensures { result ≡ permit_of said deny }
 {
     if said == 1 {
-        return Permit::Denied(Refusal {
+        return Err(Refusal {
             number: deny,
             amount: 0,
         });
     }
     if said == 2 {
-        return Permit::Denied(Refusal {
+        return Err(Refusal {
             number: 4,
             amount: 0,
         });
     }
-    Permit::Granted
+    Ok(())
 }
 
 // What is left of a refusal after the answer to its notice.
@@ -181,7 +175,7 @@ fn taken(script: &[u8]) -> HandedOver
 {
     let script_row = row_of(script);
     HandedOver {
-        answer: Answer::Value(Value::Number(0)),
+        answer: Ok(Value::Number(0)),
         limiter: Limiter {
             script: script_row,
             count: script.len(),

@@ -30,19 +30,6 @@ pub struct WantedMemory {
     pub exponent: u8,
 }
 
-#[derive(Clone, Copy)]
-pub enum BuiltMemory {
-    Built(MemoryType),
-    Refused(Refusal),
-}
-
-// A size in bytes, or that it reaches 2^64.
-#[derive(Clone, Copy)]
-pub enum ByteSize {
-    Bytes(u64),
-    Overflow,
-}
-
 impl PageSize {
     pub fn page_size_log2(self) -> u8
         ensures { result ≡ log2_of self }
@@ -78,20 +65,20 @@ impl PageSize {
     }
 
     // The bytes of a number of pages.
-    pub fn byte_size(self, pages: u64) -> ByteSize
+    pub fn byte_size(self, pages: u64) -> Option<u64>
         ensures { result ≡ byte_size (pages * page_bytes self) }
     {
         let size = self.page_size();
         if 18446744073709551615 / size < pages {
-            return ByteSize::Overflow;
+            return None;
         }
-        ByteSize::Bytes(pages * size)
+        Some(pages * size)
     }
 }
 
 impl MemoryType {
     // The type of these fields, or refusal 1.
-    pub fn build(is_64: bool, limits: Limits, exponent: u8) -> BuiltMemory
+    pub fn build(is_64: bool, limits: Limits, exponent: u8) -> Result<MemoryType, Refusal>
         ensures { result ≡ build_memory is_64 limits exponent }
     {
         if exponent == 0 {
@@ -100,14 +87,14 @@ impl MemoryType {
         if exponent == 16 {
             return MemoryType::paged(is_64, PageSize::Wasm, limits);
         }
-        BuiltMemory::Refused(Refusal {
+        Err(Refusal {
             number: 1,
             amount: 0,
         })
     }
 
     // The type of these fields with pages of this size, or refusal 1.
-    fn paged(is_64: bool, page: PageSize, limits: Limits) -> BuiltMemory
+    fn paged(is_64: bool, page: PageSize, limits: Limits) -> Result<MemoryType, Refusal>
         ensures { result ≡ validated (memory_type is_64 page limits) }
     {
         let index = IndexType::of(is_64);
@@ -120,13 +107,13 @@ impl MemoryType {
     }
 
     // This type where it is valid, or refusal 1.
-    pub fn validated(self) -> BuiltMemory
+    pub fn validated(self) -> Result<MemoryType, Refusal>
         ensures { result ≡ validated self }
     {
         if self.is_valid() {
-            return BuiltMemory::Built(self);
+            return Ok(self);
         }
-        BuiltMemory::Refused(Refusal {
+        Err(Refusal {
             number: 1,
             amount: 0,
         })
@@ -170,7 +157,7 @@ impl MemoryType {
         }
     }
 
-    pub fn minimum_byte_size(self) -> ByteSize
+    pub fn minimum_byte_size(self) -> Option<u64>
         ensures { result ≡ minimum_bytes self }
     {
         let page = self.page;
@@ -178,7 +165,7 @@ impl MemoryType {
     }
 
     // The bytes of the maximum, or of the page bound where there is none.
-    pub fn maximum_byte_size(self) -> ByteSize
+    pub fn maximum_byte_size(self) -> Option<u64>
         ensures { result ≡ maximum_bytes self }
     {
         let page = self.page;
@@ -187,8 +174,8 @@ impl MemoryType {
         }
         let index = self.index;
         match index {
-            IndexType::I32 => ByteSize::Bytes(WORD32),
-            IndexType::I64 => ByteSize::Overflow,
+            IndexType::I32 => Some(WORD32),
+            IndexType::I64 => None,
         }
     }
 

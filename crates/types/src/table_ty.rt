@@ -24,15 +24,9 @@ pub struct WantedTable {
     pub limits: Limits,
 }
 
-#[derive(Clone, Copy)]
-pub enum BuiltTable {
-    Built(TableType),
-    Refused(Refusal),
-}
-
 impl TableType {
     // The type of these fields, or refusal 1.
-    pub fn build(element: RefType, is_64: bool, limits: Limits) -> BuiltTable
+    pub fn build(element: RefType, is_64: bool, limits: Limits) -> Result<TableType, Refusal>
         ensures { result ≡ build_table element is_64 limits }
     {
         let index = IndexType::of(is_64);
@@ -45,13 +39,13 @@ impl TableType {
     }
 
     // This type where it is valid, or refusal 1.
-    pub fn validated(self) -> BuiltTable
+    pub fn validated(self) -> Result<TableType, Refusal>
         ensures { result ≡ validated self }
     {
         if self.is_valid() {
-            return BuiltTable::Built(self);
+            return Ok(self);
         }
-        BuiltTable::Refused(Refusal {
+        Err(Refusal {
             number: 1,
             amount: 0,
         })

@@ -110,8 +110,8 @@ fn two_items() -> Operation {
 
 // A table of two cells and a segment of two items.
 fn table_and_segment(words: &mut [u64], bytes: &mut [u8], cells: &mut [u64], items: &mut [u64]) {
-    row::operate(words, bytes, cells, items, two_cells());
-    row::operate(words, bytes, cells, items, two_items());
+    let _ = row::operate(words, bytes, cells, items, two_cells());
+    let _ = row::operate(words, bytes, cells, items, two_items());
 }
 
 fn empty_init(to: u64) -> Operation {
@@ -192,7 +192,7 @@ fn five_units(words: &mut [u64], bytes: &mut [u8], cells: &mut [u64], items: &mu
     let set = Operation::Fuel {
         op: FuelOp::SetFuel { amount: 5 },
     };
-    row::operate(words, bytes, cells, items, set);
+    let _ = row::operate(words, bytes, cells, items, set);
 }
 
 pub(crate) fn length_zero_with_b_zero(
@@ -222,8 +222,8 @@ fn store_ff() -> Operation {
 // A memory of one byte that holds ff.
 fn one_byte(words: &mut [u64], bytes: &mut [u8], cells: &mut [u64], items: &mut [u64]) {
     fresh(words, 64);
-    row::operate(words, bytes, cells, items, new_memory(1, false, 1, 0));
-    row::operate(words, bytes, cells, items, store_ff());
+    let _ = row::operate(words, bytes, cells, items, new_memory(1, false, 1, 0));
+    let _ = row::operate(words, bytes, cells, items, store_ff());
 }
 
 fn load(kind: LoadKind, pointer: u64, offset: u64) -> Operation {

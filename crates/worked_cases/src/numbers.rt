@@ -4,7 +4,7 @@ use std::io;
 use types::fuel::FuelCosts;
 use types::index_ty::IndexType;
 use types::limits::Limits;
-use types::memory_ty::{BuiltMemory, MemoryType};
+use types::memory_ty::MemoryType;
 
 fn costs(copied: u32) -> FuelCosts {
     FuelCosts {
@@ -53,8 +53,8 @@ fn built(is_64: bool, minimum: u64, bounded: bool, maximum: u64, exponent: u8) -
     };
     let kind = MemoryType::build(is_64, limits, exponent);
     match kind {
-        BuiltMemory::Built(_) => 0,
-        BuiltMemory::Refused(refusal) => refusal.number as u64,
+        Ok(_) => 0,
+        Err(refusal) => refusal.number as u64,
     }
 }
 

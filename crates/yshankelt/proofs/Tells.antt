@@ -1,7 +1,7 @@
 -- Laws of what C is told of a machine in a row of words. Assumes nothing.
 use Rattle.types.proofs.Prelude.{ℕ, ◌+◌, ◌≤◌, ◌<◌, ◌≡◌, refl, sym, ap, ◌∙◌, true, false, List, [], ◌∷◌, arith, length, get_or, replicate, le-leb, eq-eqb, ne_eqb}
 use Rattle.types.proofs.{Prelude.pick_true, Prelude.pick_false, Prelude.either, Spans.length_over}
-use Rattle.types.specs.{Pick.pick, Span.over, Answer.refuse, Answer.number_of, Answer.shown_of, Raw.raw_bytes, declared.answer.Answer.Answer}
+use Rattle.types.specs.{Pick.pick, Span.over, Answer.refuse, Answer.number_of, Answer.shown_of, Raw.raw_bytes, Answer.Answer}
 use Rattle.types.specs.declared.fuel.Fuel.{Fuel}
 use Rattle.machine.specs.{Machine.Buffers, Operation.well_formed, Outcome.settled, Outcome.changed, Step.decide, Step.step}
 use Rattle.machine.specs.{Words.row_length, Words.machine_from, Words.in_form, Words.words_of, Row.InRow, Row.operate_row, Row.fuel_of, stages.Rows.Shaped}

@@ -1,12 +1,11 @@
 -- Document 01, "Access" and "Numbers given back": what C gets of an answer. The number is the result; a refusal leaves the out parameter alone.
-use Rattle.std.specs.Prelude.{ℕ, ◌≡◌, List}
+use Rattle.std.specs.Prelude.{ℕ, ◌≡◌, List, Ok, Err}
 use Rattle.types.specs.Names.{bits_of, number_of, Done, Answer}
-use Rattle.types.specs.declared.answer.Answer.TheVariants as answer
 
 -- the value's bits, or what stood there
 unfoldable pub delivered : Answer → ℕ → ℕ
-delivered (answer.Value v) old = bits_of v
-delivered (answer.Refusal r) old = old
+delivered (Ok v) old = bits_of v
+delivered (Err r) old = old
 
 -- of a load: the number, and the out parameter after it
 pub record Given (a : Answer) (old result new : ℕ) : Type 0 where

@@ -20,11 +20,11 @@ fn deliver(answer: Answer, out: &mut u64) -> u8
     ensures { Given answer out.old result out.new }
 {
     match answer {
-        Answer::Value(v) => {
+        Ok(v) => {
             *out = v.bits();
             0
         }
-        Answer::Refusal(refusal) => refusal.number,
+        Err(refusal) => refusal.number,
     }
 }
 
@@ -39,7 +39,7 @@ fn store_from(bytes: &mut [u8], kind: StoreKind, ptr: u64, offset: u64, bits: u6
     ensures { Taken (store kind bytes.old ptr offset bits) result bytes.new }
 {
     let answer = access::store(bytes, kind, ptr, offset, bits);
-    answer.number()
+    types::answer::number(answer)
 }
 
 #[unsafe(no_mangle)]

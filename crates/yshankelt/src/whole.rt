@@ -94,7 +94,7 @@ fn line_from(code: u8, fields: &[u64]) -> Line
 fn malformed() -> Answer
     ensures { result ≡ refuse 18 0 }
 {
-    Answer::Refusal(Refusal {
+    Err(Refusal {
         number: 18,
         amount: 0,
     })
@@ -133,11 +133,11 @@ fn tell(words: &[u64], answer: Answer, value: &mut u64, fuel: &mut u64) -> u8
     ensures { (b : Buffers) → call result value.new fuel.new words.now b
         ≡ told value.old fuel.old (record { answer = answer; words = words.now; buffers = b }) }
 {
-    let number = answer.number();
+    let number = types::answer::number(answer);
     if number == 19 {
         return 19;
     }
-    *value = answer.shown();
+    *value = types::answer::shown(answer);
     *fuel = fuel_left(row::fuel_of(words));
     number
 }

@@ -1,6 +1,6 @@
 -- How a request to a lent fuel record is carried out: the record by value gives what is left, and that is written back.
 use Rattle.std.specs.Prelude.{ℕ}
-use Rattle.types.specs.declared.answer.Answer.{Answer}
+use Rattle.types.specs.Answer.{Answer}
 use Rattle.lent.specs.Fuel.{FuelDone}
 use Rattle.lent.specs.declared.fuel.FuelLeft.{FuelLeft}
 

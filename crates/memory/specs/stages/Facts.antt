@@ -1,13 +1,9 @@
 -- What the inner functions of this crate ask of each other, as records of plain facts; no public function asks any.
-use Rattle.std.specs.Prelude.{ℕ, suc, ◌+◌, ◌-◌, ◌*◌, ◌^◌, ◌≤◌, ◌<◌, ◌≡◌, List, ltb, ℤ, pos, negsuc}
+use Rattle.std.specs.Prelude.{ℕ, suc, ◌+◌, ◌-◌, ◌*◌, ◌^◌, ◌≤◌, ◌<◌, ◌≡◌, List, ltb, ℤ, pos, negsuc, Some, Option}
 use mir.Val.{sel}
 use Rattle.types.specs.Span.{cut}
-use Rattle.types.specs.declared.memory_ty.ByteSize.{ByteSize}
-use Rattle.types.specs.declared.memory_ty.ByteSize.TheVariants.{Bytes}
 use Rattle.memory.specs.LittleEndian.{le_value}
 use Rattle.memory.specs.declared.memory.Memory.{Memory}
-use Rattle.memory.specs.declared.access.Address.{Address}
-use Rattle.memory.specs.declared.access.Address.TheVariants.{At}
 
 -- an access of n bytes, at most 8
 pub record Reach (at n len : ℕ) : Type 0 where
@@ -20,8 +16,8 @@ pub record Read (bs : List ℕ) (at n r : ℕ) : Type 0 where
   pub small : r < 2 ^ (8 * n)
 
 -- an address that was found leaves room for n bytes behind base
-abbrev pub Found : Address → ℕ → ℕ → ℕ → Type 0
-Found found base n len = (a : ℕ) → found ≡ At a → base + (a + n) ≤ len
+abbrev pub Found : Option ℕ → ℕ → ℕ → ℕ → Type 0
+Found found base n len = (a : ℕ) → found ≡ Some a → base + (a + n) ≤ len
 
 -- the number of a bit pattern whose sign's bit is worth top
 unfoldable pub signed_of : ℕ → ℕ → ℤ
@@ -44,5 +40,5 @@ pub record Held (m : Memory) (size len : ℕ) : Type 0 where
   pub inside : m.start + m.room ≤ len
 
 -- what is reached is held
-abbrev pub Reaches : ByteSize → Memory → ℕ → Type 0
-Reaches to m len = (size : ℕ) → to ≡ Bytes size → Held m size len
+abbrev pub Reaches : Option ℕ → Memory → ℕ → Type 0
+Reaches to m len = (size : ℕ) → to ≡ Some size → Held m size len

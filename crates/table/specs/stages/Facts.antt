@@ -1,10 +1,9 @@
 -- What the inner functions of this crate ask of each other, as records of plain facts; no public function asks any.
-use Rattle.std.specs.Prelude.{ℕ, ◌+◌, ◌≤◌, ◌≡◌}
+use Rattle.std.specs.Prelude.{ℕ, ◌+◌, ◌≤◌, ◌≡◌, Ok, Result}
 use Rattle.types.specs.declared.fuel.Fuel.{Fuel}
-use Rattle.types.specs.declared.fuel.FuelStep.{FuelStep}
-use Rattle.types.specs.declared.fuel.FuelStep.TheVariants.{Done}
 use Rattle.table.specs.declared.table.Table.{Table}
 use Rattle.table.specs.declared.element.ElementSegment.{ElementSegment}
+use Rattle.types.specs.declared.answer.Refusal.{Refusal}
 
 -- a size no less than before that lies in the buffer
 pub record Roomy (t : Table) (size len : ℕ) : Type 0 where
@@ -20,8 +19,8 @@ abbrev pub Within : Table → ℕ → Type 0
 Within t len = t.start + t.size ≤ len
 
 -- where the step goes on, the end is not past the buffer's
-abbrev pub Goes : FuelStep → ℕ → ℕ → Type 0
-Goes step end len = (g : Fuel) → step ≡ Done g → end ≤ len
+abbrev pub Goes : Result Fuel Refusal → ℕ → ℕ → Type 0
+Goes step end len = (g : Fuel) → step ≡ Ok g → end ≤ len
 
 -- the items in use lie in the buffer
 abbrev pub Places : ElementSegment → ℕ → Type 0

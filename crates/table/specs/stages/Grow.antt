@@ -1,17 +1,14 @@
 -- The stages of a growth as the code has them; crates/table/proofs/Readings.antt shows that together they are `grow_table`.
-use Rattle.std.specs.Prelude.{ℕ, ◌+◌, ◌-◌, ◌*◌, List, eqb, leb, ltb, replicate}
+use Rattle.std.specs.Prelude.{ℕ, ◌+◌, ◌-◌, ◌*◌, List, eqb, leb, ltb, replicate, Ok, Err, Result, ⊤}
 use Rattle.types.specs.Pick.{pick}
 use Rattle.types.specs.Done.{Done, done}
 use Rattle.types.specs.Span.{over}
 use Rattle.types.specs.Answer.{refuse, accept}
 use Rattle.types.specs.Price.{price}
 use Rattle.types.specs.stages.Grant.{grant_growth}
-use Rattle.types.specs.declared.answer.Answer.TheVariants as answer
 use Rattle.types.specs.declared.fuel.Fuel.{Fuel}
 use Rattle.types.specs.declared.grant.Growth.{Growth}
 use Rattle.types.specs.declared.limiter.Limiter.{Limiter}
-use Rattle.types.specs.declared.limiter.Permit.{Permit}
-use Rattle.types.specs.declared.limiter.Permit.TheVariants.{Granted, Denied}
 use Rattle.types.specs.IndexType.{max_size}
 use Rattle.types.specs.Limits.{admits_of}
 use Rattle.types.specs.TableType.{element_matches}
@@ -20,11 +17,12 @@ use Rattle.table.specs.Table.{resized}
 use Rattle.table.specs.Grow.{answered}
 use Rattle.table.specs.declared.table.Table.{Table}
 use Rattle.table.specs.declared.grow.GrownTable.{GrownTable}
+use Rattle.types.specs.declared.answer.Refusal.{Refusal}
 
 -- the new cells hold the reference given, and the answer is the size before
-unfoldable pub enlarged_by : Permit → Fuel → Limiter → Table → List ℕ → ℕ → ℕ → Done GrownTable
-enlarged_by (Denied r) f l t cs size bits = done (answered (answer.Refusal r) t f l) cs
-enlarged_by Granted f l t cs size bits =
+unfoldable pub enlarged_by : Result ⊤ Refusal → Fuel → Limiter → Table → List ℕ → ℕ → ℕ → Done GrownTable
+enlarged_by (Err r) f l t cs size bits = done (answered (Err r) t f l) cs
+enlarged_by (Ok tt) f l t cs size bits =
     done (answered (accept t.size) (resized t size) f l) (over cs (t.start + t.size) (replicate (size - t.size) bits))
 
 -- limiter 6/4; 6 with notice above the type's maximum; 7 with notice; 8 with notice

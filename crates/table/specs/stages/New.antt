@@ -1,27 +1,23 @@
 -- The stages of a creation as the code has them; crates/table/proofs/Readings.antt shows that together they are `new_table`.
-use Rattle.std.specs.Prelude.{ℕ, List, leb, replicate}
+use Rattle.std.specs.Prelude.{ℕ, List, leb, replicate, Ok, Err, Result, ⊤}
 use Rattle.types.specs.Pick.{pick}
 use Rattle.types.specs.Done.{Done, done}
 use Rattle.types.specs.Span.{over}
 use Rattle.types.specs.Answer.{refusal}
 use Rattle.types.specs.stages.Grant.{grant_creation}
 use Rattle.types.specs.declared.limiter.Limiter.{Limiter}
-use Rattle.types.specs.declared.limiter.Permit.{Permit}
-use Rattle.types.specs.declared.limiter.Permit.TheVariants.{Granted, Denied}
 use Rattle.types.specs.TableType.{element_matches}
 use Rattle.types.specs.declared.raw.TypedRawRef.{TypedRawRef}
 use Rattle.types.specs.declared.table_ty.TableType.{TableType}
-use Rattle.types.specs.declared.table_ty.BuiltTable.{BuiltTable}
-use Rattle.types.specs.declared.table_ty.BuiltTable.TheVariants as built
 use Rattle.table.specs.New.{refused, table_of}
 use Rattle.table.specs.declared.table.Table.{Table}
-use Rattle.table.specs.declared.new.MadeTable.TheVariants.{Made}
 use Rattle.table.specs.declared.new.CreatedTable.{CreatedTable}
+use Rattle.types.specs.declared.answer.Refusal.{Refusal}
 
 -- the table's cells become the initial reference, whatever stood there
-unfoldable pub made_by : Permit → Limiter → Table → ℕ → List ℕ → Done CreatedTable
-made_by (Denied r) l t bits cs = done (refused l r) cs
-made_by Granted l t bits cs = done (record { made = Made t; limiter = l }) (over cs t.start (replicate t.size bits))
+unfoldable pub made_by : Result ⊤ Refusal → Limiter → Table → ℕ → List ℕ → Done CreatedTable
+made_by (Err r) l t bits cs = done (refused l r) cs
+made_by (Ok u) l t bits cs = done (record { made = Ok t; limiter = l }) (over cs t.start (replicate t.size bits))
 
 -- limiter 3/4, room 5 with notice
 unfoldable pub made_of : Limiter → Table → ℕ → List ℕ → Done CreatedTable
@@ -36,6 +32,6 @@ by_kind l t start room init cs =
     (done (refused l (refusal 14 0)) cs)
 
 -- 1 where the type is invalid
-unfoldable pub by_type : BuiltTable → Limiter → ℕ → ℕ → TypedRawRef → List ℕ → Done CreatedTable
-by_type (built.Refused r) l start room init cs = done (refused l r) cs
-by_type (built.Built t) l start room init cs = by_kind l t start room init cs
+unfoldable pub by_type : Result TableType Refusal → Limiter → ℕ → ℕ → TypedRawRef → List ℕ → Done CreatedTable
+by_type (Err r) l start room init cs = done (refused l r) cs
+by_type (Ok t) l start room init cs = by_kind l t start room init cs

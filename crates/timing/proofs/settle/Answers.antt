@@ -1,10 +1,10 @@
 use Rattle.timing.specs.Timing.{step_left, step_number}
 use Rattle.timing.proofs.settle.Goals as goal
 
-pub returns-in-Done : goal.returns-in-Done
+pub returns-in-Ok : goal.returns-in-Ok
 unfolding step_number step_left
-returns-in-Done c = record { number = cc; left = cc }
+returns-in-Ok c = record { number = cc; left = cc }
 
-pub returns-in-Refused : goal.returns-in-Refused
+pub returns-in-Err : goal.returns-in-Err
 unfolding step_number step_left
-returns-in-Refused c = record { number = cc; left = cc }
+returns-in-Err c = record { number = cc; left = cc }

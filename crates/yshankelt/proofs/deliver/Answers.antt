@@ -2,10 +2,10 @@ use Rattle.types.specs.Answer.{number_of}
 use Rattle.yshankelt.specs.Face.{delivered}
 use Rattle.yshankelt.proofs.deliver.Goals as goal
 
-pub returns-in-Value : goal.returns-in-Value
+pub returns-in-Ok : goal.returns-in-Ok
 unfolding number_of delivered
-returns-in-Value c = record { number = cc; out = cc }
+returns-in-Ok c = record { number = cc; out = cc }
 
-pub returns-in-Refusal : goal.returns-in-Refusal
+pub returns-in-Err : goal.returns-in-Err
 unfolding number_of delivered
-returns-in-Refusal c = record { number = cc; out = cc }
+returns-in-Err c = record { number = cc; out = cc }

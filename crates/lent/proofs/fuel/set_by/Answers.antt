@@ -1,10 +1,10 @@
 use Rattle.lent.specs.{Fuel.set_by, stages.Fuel.left_of}
 use Rattle.lent.proofs.fuel.set_by.Goals as goal
 
-pub returns-in-Refused : goal.returns-in-Refused
+pub returns-in-Err : goal.returns-in-Err
 unfolding set_by left_of
-returns-in-Refused c = rw c.in-Refused.is c.leaves.ensures
+returns-in-Err c = rw c.in-Err.is c.leaves.ensures
 
-pub returns-in-Done : goal.returns-in-Done
+pub returns-in-Ok : goal.returns-in-Ok
 unfolding set_by left_of
-returns-in-Done c = rw c.in-Done.is c.leaves-in-Done.ensures
+returns-in-Ok c = rw c.in-Ok.is c.leaves-in-Ok.ensures

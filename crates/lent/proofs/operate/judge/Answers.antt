@@ -1,5 +1,5 @@
 use Rattle.types.proofs.Prelude.{sym, ap, ◌∙◌, true, pick_false, cases}
-use Rattle.types.specs.declared.answer.Answer.{Answer}
+use Rattle.types.specs.Answer.{Answer}
 use Rattle.lent.specs.{declared.operate.Verdict.Verdict, stages.Places.verdict}
 use Rattle.lent.proofs.operate.judge.Goals as goal
 

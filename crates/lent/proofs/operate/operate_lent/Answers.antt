@@ -1,5 +1,5 @@
 use Rattle.types.proofs.Prelude.{ap, ◌∙◌}
-use Rattle.types.specs.{Raw.raw_bytes, declared.answer.Answer.Answer}
+use Rattle.types.specs.{Raw.raw_bytes, Answer.Answer}
 use Rattle.machine.specs.Machine.{buffers}
 use Rattle.lent.specs.Records.{lent, lent_stepped}
 use Rattle.lent.specs.stages.Places.{placing}

@@ -1,6 +1,6 @@
 use Rattle.types.proofs.Prelude.{refl, ap, ◌∙◌, true, length, List, ℕ}
 use Rattle.machine.specs.{Words.machine_from, Machine.buffers}
-use Rattle.types.specs.{Raw.raw_bytes, Span.over, declared.answer.Answer.Answer}
+use Rattle.types.specs.{Raw.raw_bytes, Span.over, Answer.Answer}
 use Rattle.lines.specs.{stages.Runs.held_on, AnswerLine.answer_line}
 use Rattle.lines.proofs.{Runs.skip_short, Runs.skip_none, Runs.skip_closed, Carried.ready_row, Carried.row_line}
 use Rattle.lines.proofs.session.skip_on.Goals as goal

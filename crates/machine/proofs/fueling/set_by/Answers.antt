@@ -1,10 +1,10 @@
 use Rattle.machine.specs.Fueling.{set_by}
 use Rattle.machine.proofs.fueling.set_by.Goals as goal
 
-pub returns-in-Refused : goal.returns-in-Refused
+pub returns-in-Err : goal.returns-in-Err
 unfolding set_by
-returns-in-Refused c = rw c.in-Refused.is c.meters.ensures
+returns-in-Err c = rw c.in-Err.is c.meters.ensures
 
-pub returns-in-Done : goal.returns-in-Done
+pub returns-in-Ok : goal.returns-in-Ok
 unfolding set_by
-returns-in-Done c = rw c.in-Done.is c.meters-in-Done.ensures
+returns-in-Ok c = rw c.in-Ok.is c.meters-in-Ok.ensures

@@ -3,10 +3,10 @@ use Rattle.types.specs.{Answer.accept, Pick.pick}
 use Rattle.machine.specs.Memories.{linked}
 use Rattle.machine.proofs.memories.linked.Goals as goal
 
-pub returns-in-Refused : goal.returns-in-Refused
+pub returns-in-Err : goal.returns-in-Err
 unfolding linked
-returns-in-Refused c = rw c.in-Refused.is refl
+returns-in-Err c = rw c.in-Err.is refl
 
-pub returns-in-Built : goal.returns-in-Built
+pub returns-in-Ok : goal.returns-in-Ok
 unfolding linked
-returns-in-Built c = rw c.in-Built.is (c.link_number.ensures ∙ ap (λ (b : Bool). accept (pick b 1 0)) c.is_subtype_of.ensures)
+returns-in-Ok c = rw c.in-Ok.is (c.link_number.ensures ∙ ap (λ (b : Bool). accept (pick b 1 0)) c.is_subtype_of.ensures)

@@ -1,5 +1,5 @@
 use Rattle.types.proofs.Prelude.{sym, ap, ◌∙◌}
-use Rattle.types.specs.declared.answer.Answer.{Answer}
+use Rattle.types.specs.Answer.{Answer}
 use Rattle.machine.specs.{Machine.buffers, Row.in_row, Words.machine_from}
 use Rattle.machine.proofs.Formed.{form_long}
 use Rattle.machine.proofs.Settling.{sound_inside, operates_malformed, operates_out_of_form, operates_unsound, operates_goes}

@@ -1,5 +1,5 @@
 use Rattle.types.proofs.Prelude.{sym, ap, ◌∙◌}
-use Rattle.types.specs.declared.answer.Answer.{Answer}
+use Rattle.types.specs.Answer.{Answer}
 use Rattle.machine.specs.{Machine.buffers, Row.in_row, Words.machine_from}
 use Rattle.machine.proofs.Settling.{tested_inside, proceeds_malformed, proceeds_short, proceeds_outside, proceeds_goes}
 use Rattle.machine.proofs.row.proceed.Goals as goal

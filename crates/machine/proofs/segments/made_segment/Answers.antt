@@ -1,10 +1,10 @@
 use Rattle.machine.specs.{Segments.made_segment}
 use Rattle.machine.proofs.segments.made_segment.Goals as goal
 
-pub returns-in-Refused : goal.returns-in-Refused
+pub returns-in-Err : goal.returns-in-Err
 unfolding made_segment
-returns-in-Refused c = rw c.in-Refused.is c.keeps.ensures
+returns-in-Err c = rw c.in-Err.is c.keeps.ensures
 
-pub returns-in-Made : goal.returns-in-Made
+pub returns-in-Ok : goal.returns-in-Ok
 unfolding made_segment
-returns-in-Made c = rw c.in-Made.is cc
+returns-in-Ok c = rw c.in-Ok.is cc

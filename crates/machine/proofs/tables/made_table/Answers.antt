@@ -1,10 +1,10 @@
 use Rattle.machine.specs.{Tables.made_table}
 use Rattle.machine.proofs.tables.made_table.Goals as goal
 
-pub returns-in-Refused : goal.returns-in-Refused
+pub returns-in-Err : goal.returns-in-Err
 unfolding made_table
-returns-in-Refused c = rw c.in-Refused.is cc
+returns-in-Err c = rw c.in-Err.is cc
 
-pub returns-in-Made : goal.returns-in-Made
+pub returns-in-Ok : goal.returns-in-Ok
 unfolding made_table
-returns-in-Made c = rw c.in-Made.is cc
+returns-in-Ok c = rw c.in-Ok.is cc

@@ -2,10 +2,10 @@ use Rattle.types.proofs.Prelude.{refl}
 use Rattle.memory.specs.Access.{load_found}
 use Rattle.memory.proofs.access.load_found.Goals as goal
 
-pub returns-in-Outside : goal.returns-in-Outside
+pub returns-in-None : goal.returns-in-None
 unfolding load_found
-returns-in-Outside c = rw c.in-Outside.is refl
+returns-in-None c = rw c.in-None.is refl
 
-pub returns-in-At : goal.returns-in-At
+pub returns-in-Some : goal.returns-in-Some
 unfolding load_found
-returns-in-At c = rw c.in-At.is c.load_value.ensures
+returns-in-Some c = rw c.in-Some.is c.load_value.ensures

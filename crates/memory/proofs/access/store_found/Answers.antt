@@ -3,9 +3,9 @@ use Rattle.memory.proofs.Accesses.{stored_at}
 use Rattle.memory.specs.Access.{store_found}
 use Rattle.memory.proofs.access.store_found.Goals as goal
 
-pub returns-in-Outside : goal.returns-in-Outside
+pub returns-in-None : goal.returns-in-None
 unfolding store_found
-returns-in-Outside c = rw c.in-Outside.is refl
+returns-in-None c = rw c.in-None.is refl
 
-pub returns-in-At : goal.returns-in-At
-returns-in-At c = stored_at _ _ _ _ _ _ _ _ c.in-At.is c.width.ensures c.store_width.ensures
+pub returns-in-Some : goal.returns-in-Some
+returns-in-Some c = stored_at _ _ _ _ _ _ _ _ c.in-Some.is c.width.ensures c.store_width.ensures

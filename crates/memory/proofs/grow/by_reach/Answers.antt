@@ -2,10 +2,10 @@ use Rattle.types.proofs.{Prelude.refl, Dones.done_as}
 use Rattle.memory.specs.stages.Grow.{by_reach}
 use Rattle.memory.proofs.grow.by_reach.Goals as goal
 
-pub returns-in-Overflow : goal.returns-in-Overflow
+pub returns-in-None : goal.returns-in-None
 unfolding by_reach
-returns-in-Overflow c = rw c.in-Overflow.is (done_as c.refused.ensures refl)
+returns-in-None c = rw c.in-None.is (done_as c.refused.ensures refl)
 
-pub returns-in-Bytes : goal.returns-in-Bytes
+pub returns-in-Some : goal.returns-in-Some
 unfolding by_reach
-returns-in-Bytes c = rw c.in-Bytes.is c.grow_to.ensures
+returns-in-Some c = rw c.in-Some.is c.grow_to.ensures

@@ -2,10 +2,10 @@ use Rattle.types.proofs.{Prelude.refl, Dones.done_as}
 use Rattle.memory.specs.stages.New.{by_size}
 use Rattle.memory.proofs.new.by_size.Goals as goal
 
-pub returns-in-Overflow : goal.returns-in-Overflow
+pub returns-in-None : goal.returns-in-None
 unfolding by_size
-returns-in-Overflow c = rw c.in-Overflow.is (done_as c.no_memory.ensures refl)
+returns-in-None c = rw c.in-None.is (done_as c.no_memory.ensures refl)
 
-pub returns-in-Bytes : goal.returns-in-Bytes
+pub returns-in-Some : goal.returns-in-Some
 unfolding by_size
-returns-in-Bytes c = rw c.in-Bytes.is c.make_sized.ensures
+returns-in-Some c = rw c.in-Some.is c.make_sized.ensures

@@ -1,10 +1,10 @@
 use Rattle.types.specs.stages.Grant.{creation_permit}
 use Rattle.types.proofs.grant.creation_permit.Goals as goal
 
-pub returns-in-Denied : goal.returns-in-Denied
+pub returns-in-Err : goal.returns-in-Err
 unfolding creation_permit
-returns-in-Denied c = cc
+returns-in-Err c = cc
 
-pub returns-in-Granted : goal.returns-in-Granted
+pub returns-in-Ok : goal.returns-in-Ok
 unfolding creation_permit
-returns-in-Granted c = rw c.in-Granted.is c.creation_room.ensures
+returns-in-Ok c = rw c.in-Ok.is c.creation_room.ensures

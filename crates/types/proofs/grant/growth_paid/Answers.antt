@@ -1,10 +1,10 @@
 use Rattle.types.specs.stages.Grant.{growth_paid}
 use Rattle.types.proofs.grant.growth_paid.Goals as goal
 
-pub returns-in-Refused : goal.returns-in-Refused
+pub returns-in-Err : goal.returns-in-Err
 unfolding growth_paid
-returns-in-Refused c = rw c.in-Refused.is c.growth_told.ensures
+returns-in-Err c = rw c.in-Err.is c.growth_told.ensures
 
-pub returns-in-Done : goal.returns-in-Done
+pub returns-in-Ok : goal.returns-in-Ok
 unfolding growth_paid
-returns-in-Done c = rw c.in-Done.is c.growth_room.ensures
+returns-in-Ok c = rw c.in-Ok.is c.growth_room.ensures

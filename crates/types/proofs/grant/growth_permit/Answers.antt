@@ -1,10 +1,10 @@
 use Rattle.types.specs.stages.Grant.{growth_permit}
 use Rattle.types.proofs.grant.growth_permit.Goals as goal
 
-pub returns-in-Denied : goal.returns-in-Denied
+pub returns-in-Err : goal.returns-in-Err
 unfolding growth_permit
-returns-in-Denied c = cc
+returns-in-Err c = cc
 
-pub returns-in-Granted : goal.returns-in-Granted
+pub returns-in-Ok : goal.returns-in-Ok
 unfolding growth_permit
-returns-in-Granted c = rw c.in-Granted.is c.growth_fuel.ensures
+returns-in-Ok c = rw c.in-Ok.is c.growth_fuel.ensures

@@ -1,5 +1,5 @@
 use Rattle.types.proofs.Prelude.{ap}
-use Rattle.types.specs.declared.answer.Answer.{Answer}
+use Rattle.types.specs.Answer.{Answer}
 use Rattle.machine.specs.Row.{in_row}
 use Rattle.yshankelt.specs.Whole.{answered}
 use Rattle.yshankelt.proofs.whole.answered.Goals as goal
