@@ -1,4 +1,5 @@
 // Fuel: the three costs, prices, and the record that is charged.
+#![tactic(auto, using(crate::proofs::Picks::cases), unfolding(crate::specs::Fuel::set_fuel, crate::specs::Fuel::get_fuel, crate::specs::Fuel::consume_unchecked, crate::specs::Fuel::consume, crate::specs::Fuel::consume_if))]
 ghost use Rattle.std.specs.Prelude.{◌≡◌, ◌*◌};
 ghost use Rattle.types.specs.Price.{capped, price};
 ghost use Rattle.types.specs.Fuel.{default_costs, new_fuel, set_fuel, get_fuel, consume_unchecked, consume_if, consume};
