@@ -67,3 +67,6 @@ price_covers b n h g =
 -- cells of up to 16 bytes, up to 2^32 of them: the byte length is never capped
 pub bytes_whole : (n r : ℕ) → n ≤ 2 ^ 32 → r ≤ 16 → n * r < 2 ^ 64
 bytes_whole n r h g = omega (arith, mul-le-mul h g)
+
+-- what a price's function needs
+pub ruleset priced = (price_none, price_word, price_capped)

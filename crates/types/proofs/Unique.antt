@@ -11,8 +11,6 @@ use Rattle.types.proofs.answer.number.Reads as answer_number_reads
 use Rattle.types.proofs.answer.number.Kinds as answer_number_kinds
 use Rattle.types.proofs.answer.shown.Reads as answer_shown_reads
 use Rattle.types.proofs.answer.shown.Kinds as answer_shown_kinds
-use Rattle.types.proofs.fuel.saturating_mul.Reads as fuel_saturating_mul_reads
-use Rattle.types.proofs.fuel.saturating_mul.Kinds as fuel_saturating_mul_kinds
 use Rattle.types.proofs.fuel.FuelCosts.default_costs.Reads as fuel_costs_default_costs_reads
 use Rattle.types.proofs.fuel.FuelCosts.default_costs.Kinds as fuel_costs_default_costs_kinds
 use Rattle.types.proofs.fuel.FuelCosts.fuel_for_copying_bytes.Reads as fuel_costs_fuel_for_copying_bytes_reads
@@ -142,9 +140,6 @@ answer_number_one κs a x x' s s' z p q = p ∙ sym q
 
 pub answer_shown_one : One 0 answer_shown_kinds.ps answer_shown_kinds.r answer_shown_reads.Pre answer_shown_reads.Post
 answer_shown_one κs a x x' s s' z p q = p ∙ sym q
-
-pub fuel_saturating_mul_one : One 0 fuel_saturating_mul_kinds.ps fuel_saturating_mul_kinds.r fuel_saturating_mul_reads.Pre fuel_saturating_mul_reads.Post
-fuel_saturating_mul_one κs a x x' s s' z p q = p ∙ sym q
 
 pub fuel_costs_default_costs_one : One 0 fuel_costs_default_costs_kinds.ps fuel_costs_default_costs_kinds.r fuel_costs_default_costs_reads.Pre fuel_costs_default_costs_reads.Post
 fuel_costs_default_costs_one κs a x x' s s' z p q = p ∙ sym q

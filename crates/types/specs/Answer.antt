@@ -4,7 +4,7 @@ use Rattle.std.specs.Float.{binary32, binary64}
 use Rattle.std.specs.Float.Ieee.{of_bits, to_bits, nan_bits}
 use Rattle.std.specs.Int.{w32, w64}
 use Rattle.std.proofs.Common.{of_z}
-use Rattle.types.specs.{Pick.pick, declared.answer.Value.Value, declared.answer.Refusal.Refusal}
+use Rattle.types.specs.{Pick.pick, declared.answer.Value.Value, declared.answer.Reason.Reason, declared.answer.Refusal.Refusal}
 
 -- an answer is a value with its kind, or a refusal with its number and amount
 abbrev pub Answer : Type 0
@@ -27,6 +27,28 @@ bits_of (Value.F64 x) = to_bits binary64 x
 bits_of (Value.Nan32 n) = n
 bits_of (Value.Nan64 n) = n
 bits_of (Value.Number n) = n
+
+-- document 01's number of a reason to refuse
+abbrev pub number_for : Reason → ℕ
+number_for Reason.TypeInvalid = 1
+number_for Reason.MinimumTooLarge = 2
+number_for Reason.CreationDenied = 3
+number_for Reason.LimiterFailed = 4
+number_for Reason.RoomTooSmall = 5
+number_for Reason.GrowthDenied = 6
+number_for Reason.FuelShort = 7
+number_for Reason.BeyondRoom = 8
+number_for Reason.AccessOutside = 9
+number_for Reason.SetOutside = 10
+number_for Reason.FillOutside = 11
+number_for Reason.CopyOutside = 12
+number_for Reason.InitOutside = 13
+number_for Reason.KindsDiffer = 14
+number_for Reason.MeteringOff = 15
+number_for Reason.NumberUnknown = 16
+number_for Reason.NoPlace = 17
+number_for Reason.Malformed = 18
+number_for Reason.Unsound = 19
 
 -- a refusal with its number and amount
 abbrev pub refusal : ℕ → ℕ → Refusal

@@ -1,12 +1,9 @@
 // Answers: a value with its kind, or a refusal with its number and amount.
+#![tactic(auto, using(crate::proofs::Picks::cases, crate::proofs::Signs::signs), unfolding(crate::specs::Answer::float32, crate::specs::Answer::float64, crate::specs::Answer::bits_of, crate::specs::Answer::number_of, crate::specs::Answer::shown_of))]
 ghost use Rattle.std.specs.Prelude.{◌≡◌};
 ghost use Rattle.std.specs.Float.{binary32, binary64};
 ghost use Rattle.std.specs.Float.Ieee.{nan_bits, to_bits};
-ghost use Rattle.std.specs.Int.{w64};
-ghost use Rattle.std.proofs.Common.{of_z};
-ghost use Rattle.types.specs.Answer.{float32, float64, bits_of, number_of, shown_of};
-
-use super::wide::WORD32;
+ghost use Rattle.types.specs.Answer.{float32, float64, bits_of, number_for, refusal, number_of, shown_of};
 
 // A NaN's bits stand beside the floats, since no float of the language keeps a payload.
 #[derive(Clone, Copy)]
@@ -20,10 +17,47 @@ pub enum Value {
     Number(u64),
 }
 
-#[derive(Clone, Copy)]
+// Why an operation is refused, by document 01's number.
+#[derive(Clone, Copy, PartialEq, Eq)]
+pub enum Reason {
+    TypeInvalid = 1,
+    MinimumTooLarge = 2,
+    CreationDenied = 3,
+    LimiterFailed = 4,
+    RoomTooSmall = 5,
+    GrowthDenied = 6,
+    FuelShort = 7,
+    BeyondRoom = 8,
+    AccessOutside = 9,
+    SetOutside = 10,
+    FillOutside = 11,
+    CopyOutside = 12,
+    InitOutside = 13,
+    KindsDiffer = 14,
+    MeteringOff = 15,
+    NumberUnknown = 16,
+    NoPlace = 17,
+    Malformed = 18,
+    Unsound = 19,
+}
+
+// A number is what C, the answer lines and a limiter's no are given; any number may stand here, so it is not the enum itself.
+#[derive(Clone, Copy, PartialEq, Eq)]
 pub struct Refusal {
     pub number: u8,
     pub amount: u64,
+}
+
+// All amounts but that of a price are 0.
+impl From<Reason> for Refusal {
+    ghost from_gives = { λ reason r. r ≡ refusal (number_for reason) 0 };
+
+    fn from(reason: Reason) -> Refusal {
+        Refusal {
+            number: reason as u8,
+            amount: 0,
+        }
+    }
 }
 
 // A value with its kind, or a refusal with its number and amount.
@@ -59,36 +93,26 @@ fn bits64(x: f64) -> u64
     }
 }
 
-// The bits of a signed number, in two's complement.
-fn unsigned(z: i64) -> u64
-    ensures { result ≡ of_z w64 z }
-{
-    if 0 <= z {
-        return z as u64;
-    }
-    18446744073709551615 - ((-1 - z) as u64)
-}
-
 impl Value {
     // The float of its bits; a NaN's bits stay as they are.
     pub fn from_f32_bits(bits: u32) -> Value
         ensures { result ≡ float32 bits }
     {
-        let nan = is_nan32(bits);
-        if nan {
-            return Value::Nan32(bits);
+        if is_nan32(bits) {
+            Value::Nan32(bits)
+        } else {
+            Value::F32(f32::from_bits(bits))
         }
-        Value::F32(f32::from_bits(bits))
     }
 
     pub fn from_f64_bits(bits: u64) -> Value
         ensures { result ≡ float64 bits }
     {
-        let nan = is_nan64(bits);
-        if nan {
-            return Value::Nan64(bits);
+        if is_nan64(bits) {
+            Value::Nan64(bits)
+        } else {
+            Value::F64(f64::from_bits(bits))
         }
-        Value::F64(f64::from_bits(bits))
     }
 
     // The bits of a value, 32 of them below zeros where it has 32.
@@ -96,11 +120,11 @@ impl Value {
         ensures { result ≡ bits_of self }
     {
         match self {
-            Value::I32(z) => unsigned(z as i64) % WORD32,
-            Value::I64(z) => unsigned(z),
-            Value::F32(x) => bits32(x) as u64,
+            Value::I32(z) => u64::from(z.cast_unsigned()),
+            Value::I64(z) => z.cast_unsigned(),
+            Value::F32(x) => u64::from(bits32(x)),
             Value::F64(x) => bits64(x),
-            Value::Nan32(n) => n as u64,
+            Value::Nan32(n) => u64::from(n),
             Value::Nan64(n) => n,
             Value::Number(n) => n,
         }

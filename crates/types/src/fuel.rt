@@ -1,10 +1,11 @@
 // Fuel: the three costs, prices, and the record that is charged.
-#![tactic(auto, using(crate::proofs::Picks::cases), unfolding(crate::specs::Fuel::set_fuel, crate::specs::Fuel::get_fuel, crate::specs::Fuel::consume_unchecked, crate::specs::Fuel::consume, crate::specs::Fuel::consume_if))]
+#![tactic(auto, using(crate::proofs::Picks::cases, crate::proofs::Prices::priced), unfolding(crate::specs::Price::capped, crate::specs::Fuel::set_fuel, crate::specs::Fuel::get_fuel, crate::specs::Fuel::consume_unchecked, crate::specs::Fuel::consume, crate::specs::Fuel::consume_if))]
+
 ghost use Rattle.std.specs.Prelude.{◌≡◌, ◌*◌};
 ghost use Rattle.types.specs.Price.{capped, price};
 ghost use Rattle.types.specs.Fuel.{default_costs, new_fuel, set_fuel, get_fuel, consume_unchecked, consume_if, consume};
 
-use super::answer::{Answer, Refusal, Value};
+use super::answer::{Answer, Reason, Refusal, Value};
 
 #[derive(Clone, Copy)]
 pub struct FuelCosts {
@@ -23,19 +24,6 @@ pub struct Fuel {
     pub costs: FuelCosts,
 }
 
-// The product, or the largest number where it is larger.
-pub fn saturating_mul(a: u64, b: u64) -> u64
-    ensures { result ≡ capped (a * b) }
-{
-    if b == 0 {
-        return 0;
-    }
-    if 18446744073709551615 / b < a {
-        return 18446744073709551615;
-    }
-    a * b
-}
-
 impl FuelCosts {
     pub fn default_costs() -> FuelCosts
         ensures { result ≡ default_costs }
@@ -52,29 +40,28 @@ impl FuelCosts {
         ensures { result ≡ price self.copied len }
     {
         if self.copied == 0 {
-            return 18446744073709551615;
+            return u64::MAX;
         }
-        len / (self.copied as u64)
+        len / u64::from(self.copied)
     }
 
     // The price of copying `len` values of `size` bytes.
     pub fn fuel_for_copying_values(self, len: u64, size: u64) -> u64
         ensures { result ≡ price self.copied (len * size) }
     {
-        let bytes = saturating_mul(len, size);
-        self.fuel_for_copying_bytes(bytes)
+        self.fuel_for_copying_bytes(len.saturating_mul(size))
     }
 
     pub fn fuel_for_translating_bytes(self, len: u64) -> u64
         ensures { result ≡ capped (len * self.translated) }
     {
-        saturating_mul(len, self.translated as u64)
+        len.saturating_mul(u64::from(self.translated))
     }
 
     pub fn fuel_for_validating_bytes(self, len: u64) -> u64
         ensures { result ≡ capped (len * self.validated) }
     {
-        saturating_mul(len, self.validated as u64)
+        len.saturating_mul(u64::from(self.validated))
     }
 }
 
@@ -94,14 +81,12 @@ impl Fuel {
         ensures { result ≡ set_fuel self fuel }
     {
         if !self.enabled {
-            return Err(Refusal {
-                number: 15,
-                amount: 0,
-            });
+            return Err(Refusal::from(Reason::MeteringOff));
         }
-        let mut next = self;
-        next.remaining = fuel;
-        Ok(next)
+        Ok(Fuel {
+            remaining: fuel,
+            ..self
+        })
     }
 
     // What is left; 15 with metering off.
@@ -109,10 +94,7 @@ impl Fuel {
         ensures { result ≡ get_fuel self }
     {
         if !self.enabled {
-            return Err(Refusal {
-                number: 15,
-                amount: 0,
-            });
+            return Err(Refusal::from(Reason::MeteringOff));
         }
         Ok(Value::Number(self.remaining))
     }
@@ -121,15 +103,13 @@ impl Fuel {
     pub fn consume_fuel_unchecked(self, price: u64) -> Result<Fuel, Refusal>
         ensures { result ≡ consume_unchecked self price }
     {
-        if self.remaining < price {
+        let Some(remaining) = self.remaining.checked_sub(price) else {
             return Err(Refusal {
-                number: 7,
+                number: Reason::FuelShort as u8,
                 amount: price,
             });
-        }
-        let mut next = self;
-        next.remaining = self.remaining - price;
-        Ok(next)
+        };
+        Ok(Fuel { remaining, ..self })
     }
 
     // Charges; 15 with metering off.
@@ -137,10 +117,7 @@ impl Fuel {
         ensures { result ≡ consume self price }
     {
         if !self.enabled {
-            return Err(Refusal {
-                number: 15,
-                amount: 0,
-            });
+            return Err(Refusal::from(Reason::MeteringOff));
         }
         self.consume_fuel_unchecked(price)
     }
