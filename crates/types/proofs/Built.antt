@@ -51,3 +51,6 @@ module _ (wide : Bool) (limits : Limits) (e : ℕ) where
       either (both (valid_exponent e) (valid_memory (memory_type wide (page_of e) limits)))
       (λ h. let d : Ok (memory_type wide (page_of e) limits) ≡ Err r = sym (pick_true _ _ _ h) ∙ q in let z : ◌≡◌ {A = ℕ} 0 1 = cc in absurd (omega arith))
       (λ h. let d : Err (refusal 1 0) ≡ Err r = sym (pick_false _ _ _ h) ∙ q in cc)
+
+-- what building a type needs
+pub ruleset built = (built_one, built_wasm, built_none)

@@ -41,3 +41,6 @@ unlimited_32 t h e =
 pub unlimited_64 : (t : MemoryType) → t.limits.bounded ≡ false → t.index ≡ I64 → None ≡ maximum_bytes t
 unlimited_64 t h e =
     bytes_over (max_size I64) (omega arith) ∙ sym (unlimited t h ∙ ap (λ (i : IndexType). byte_size (max_size i)) e)
+
+-- what a type's sizes need
+pub ruleset sizes = (bytes_are, bytes_over, unlimited_32, unlimited_64)

@@ -57,10 +57,6 @@ use Rattle.types.proofs.index_ty.IndexType.of.Reads as index_type_of_reads
 use Rattle.types.proofs.index_ty.IndexType.of.Kinds as index_type_of_kinds
 use Rattle.types.proofs.index_ty.IndexType.is_64.Reads as index_type_is_64_reads
 use Rattle.types.proofs.index_ty.IndexType.is_64.Kinds as index_type_is_64_kinds
-use Rattle.types.proofs.index_ty.IndexType.same.Reads as index_type_same_reads
-use Rattle.types.proofs.index_ty.IndexType.same.Kinds as index_type_same_kinds
-use Rattle.types.proofs.index_ty.IndexType.min.Reads as index_type_min_reads
-use Rattle.types.proofs.index_ty.IndexType.min.Kinds as index_type_min_kinds
 use Rattle.types.proofs.index_ty.IndexType.max_size.Reads as index_type_max_size_reads
 use Rattle.types.proofs.index_ty.IndexType.max_size.Kinds as index_type_max_size_kinds
 use Rattle.types.proofs.limits.Limits.valid_within.Reads as limits_valid_within_reads
@@ -75,8 +71,6 @@ use Rattle.types.proofs.memory_ty.PageSize.page_size_log2.Reads as page_size_pag
 use Rattle.types.proofs.memory_ty.PageSize.page_size_log2.Kinds as page_size_page_size_log2_kinds
 use Rattle.types.proofs.memory_ty.PageSize.page_size.Reads as page_size_page_size_reads
 use Rattle.types.proofs.memory_ty.PageSize.page_size.Kinds as page_size_page_size_kinds
-use Rattle.types.proofs.memory_ty.PageSize.same.Reads as page_size_same_reads
-use Rattle.types.proofs.memory_ty.PageSize.same.Kinds as page_size_same_kinds
 use Rattle.types.proofs.memory_ty.PageSize.byte_size.Reads as page_size_byte_size_reads
 use Rattle.types.proofs.memory_ty.PageSize.byte_size.Kinds as page_size_byte_size_kinds
 use Rattle.types.proofs.memory_ty.MemoryType.build.Reads as memory_type_build_reads
@@ -95,8 +89,6 @@ use Rattle.types.proofs.memory_ty.MemoryType.is_subtype_of.Reads as memory_type_
 use Rattle.types.proofs.memory_ty.MemoryType.is_subtype_of.Kinds as memory_type_is_subtype_of_kinds
 use Rattle.types.proofs.memory_ty.MemoryType.dynamic_ty.Reads as memory_type_dynamic_ty_reads
 use Rattle.types.proofs.memory_ty.MemoryType.dynamic_ty.Kinds as memory_type_dynamic_ty_kinds
-use Rattle.types.proofs.raw.RefType.same.Reads as ref_type_same_reads
-use Rattle.types.proofs.raw.RefType.same.Kinds as ref_type_same_kinds
 use Rattle.types.proofs.raw.RawRef.null.Reads as raw_ref_null_reads
 use Rattle.types.proofs.raw.RawRef.null.Kinds as raw_ref_null_kinds
 use Rattle.types.proofs.raw.RawRef.is_null.Reads as raw_ref_is_null_reads
@@ -121,10 +113,6 @@ use Rattle.types.proofs.table_ty.TableType.is_subtype_of.Reads as table_type_is_
 use Rattle.types.proofs.table_ty.TableType.is_subtype_of.Kinds as table_type_is_subtype_of_kinds
 use Rattle.types.proofs.table_ty.TableType.dynamic_ty.Reads as table_type_dynamic_ty_reads
 use Rattle.types.proofs.table_ty.TableType.dynamic_ty.Kinds as table_type_dynamic_ty_kinds
-use Rattle.types.proofs.wide.Wide.covers.Reads as wide_covers_reads
-use Rattle.types.proofs.wide.Wide.covers.Kinds as wide_covers_kinds
-use Rattle.types.proofs.wide.Wide.exceeds.Reads as wide_exceeds_reads
-use Rattle.types.proofs.wide.Wide.exceeds.Kinds as wide_exceeds_kinds
 
 pub value_from_f32_bits_one : One 0 value_from_f32_bits_kinds.ps value_from_f32_bits_kinds.r value_from_f32_bits_reads.Pre value_from_f32_bits_reads.Post
 value_from_f32_bits_one κs a x x' s s' z p q = p ∙ sym q
@@ -210,12 +198,6 @@ index_type_of_one κs a x x' s s' z p q = p ∙ sym q
 pub index_type_is_64_one : One 0 index_type_is_64_kinds.ps index_type_is_64_kinds.r index_type_is_64_reads.Pre index_type_is_64_reads.Post
 index_type_is_64_one κs a x x' s s' z p q = p ∙ sym q
 
-pub index_type_same_one : One 0 index_type_same_kinds.ps index_type_same_kinds.r index_type_same_reads.Pre index_type_same_reads.Post
-index_type_same_one κs a x x' s s' z p q = p ∙ sym q
-
-pub index_type_min_one : One 0 index_type_min_kinds.ps index_type_min_kinds.r index_type_min_reads.Pre index_type_min_reads.Post
-index_type_min_one κs a x x' s s' z p q = p ∙ sym q
-
 pub index_type_max_size_one : One 0 index_type_max_size_kinds.ps index_type_max_size_kinds.r index_type_max_size_reads.Pre index_type_max_size_reads.Post
 index_type_max_size_one κs a x x' s s' z p q = p ∙ sym q
 
@@ -236,9 +218,6 @@ page_size_page_size_log2_one κs a x x' s s' z p q = p ∙ sym q
 
 pub page_size_page_size_one : One 0 page_size_page_size_kinds.ps page_size_page_size_kinds.r page_size_page_size_reads.Pre page_size_page_size_reads.Post
 page_size_page_size_one κs a x x' s s' z p q = p ∙ sym q
-
-pub page_size_same_one : One 0 page_size_same_kinds.ps page_size_same_kinds.r page_size_same_reads.Pre page_size_same_reads.Post
-page_size_same_one κs a x x' s s' z p q = p ∙ sym q
 
 pub page_size_byte_size_one : One 0 page_size_byte_size_kinds.ps page_size_byte_size_kinds.r page_size_byte_size_reads.Pre page_size_byte_size_reads.Post
 page_size_byte_size_one κs a x x' s s' z p q = p ∙ sym q
@@ -266,9 +245,6 @@ memory_type_is_subtype_of_one κs a x x' s s' z p q = p ∙ sym q
 
 pub memory_type_dynamic_ty_one : One 0 memory_type_dynamic_ty_kinds.ps memory_type_dynamic_ty_kinds.r memory_type_dynamic_ty_reads.Pre memory_type_dynamic_ty_reads.Post
 memory_type_dynamic_ty_one κs a x x' s s' z p q = p ∙ sym q
-
-pub ref_type_same_one : One 0 ref_type_same_kinds.ps ref_type_same_kinds.r ref_type_same_reads.Pre ref_type_same_reads.Post
-ref_type_same_one κs a x x' s s' z p q = p ∙ sym q
 
 pub raw_ref_null_one : One 0 raw_ref_null_kinds.ps raw_ref_null_kinds.r raw_ref_null_reads.Pre raw_ref_null_reads.Post
 raw_ref_null_one κs a x x' s s' z p q = p ∙ sym q
@@ -305,9 +281,3 @@ table_type_is_subtype_of_one κs a x x' s s' z p q = p ∙ sym q
 
 pub table_type_dynamic_ty_one : One 0 table_type_dynamic_ty_kinds.ps table_type_dynamic_ty_kinds.r table_type_dynamic_ty_reads.Pre table_type_dynamic_ty_reads.Post
 table_type_dynamic_ty_one κs a x x' s s' z p q = p ∙ sym q
-
-pub wide_covers_one : One 0 wide_covers_kinds.ps wide_covers_kinds.r wide_covers_reads.Pre wide_covers_reads.Post
-wide_covers_one κs a x x' s s' z p q = p ∙ sym q
-
-pub wide_exceeds_one : One 0 wide_exceeds_kinds.ps wide_exceeds_kinds.r wide_exceeds_reads.Pre wide_exceeds_reads.Post
-wide_exceeds_one κs a x x' s s' z p q = p ∙ sym q

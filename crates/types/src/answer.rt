@@ -1,5 +1,6 @@
 // Answers: a value with its kind, or a refusal with its number and amount.
 #![tactic(auto, using(crate::proofs::Picks::cases, crate::proofs::Signs::signs), unfolding(crate::specs::Answer::float32, crate::specs::Answer::float64, crate::specs::Answer::bits_of, crate::specs::Answer::number_of, crate::specs::Answer::shown_of))]
+
 ghost use Rattle.std.specs.Prelude.{◌≡◌};
 ghost use Rattle.std.specs.Float.{binary32, binary64};
 ghost use Rattle.std.specs.Float.Ieee.{nan_bits, to_bits};

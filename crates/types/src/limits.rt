@@ -1,9 +1,8 @@
 // The limits of a memory or table type: a minimum and perhaps a maximum.
+#![tactic(auto, using(crate::proofs::Picks::cases), unfolding(crate::specs::Limits::admits_of, crate::specs::Limits::match_limits, crate::specs::Limits::valid_maximum, crate::specs::Limits::valid_limits))]
+
 ghost use Rattle.std.specs.Prelude.{◌≡◌};
 ghost use Rattle.types.specs.Limits.{valid_limits, valid_maximum, match_limits, admits_of, from_minimum};
-ghost use Rattle.types.specs.Wide.{whole};
-
-use super::wide::Wide;
 
 #[derive(Clone, Copy)]
 pub struct Limits {
@@ -14,60 +13,38 @@ pub struct Limits {
 
 impl Limits {
     // Whether minimum and maximum are in order and at most the bound.
-    pub fn valid_within(self, bound: Wide) -> bool
-        ensures { result ≡ valid_limits self (whole bound) }
+    pub fn valid_within(self, bound: u128) -> bool
+        ensures { result ≡ valid_limits self bound }
     {
-        if !bound.covers(self.minimum) {
-            return false;
-        }
-        if !self.bounded {
-            return true;
-        }
-        self.maximum_within(bound)
+        u128::from(self.minimum) <= bound && (!self.bounded || self.maximum_within(bound))
     }
 
     // Whether the maximum is at most the bound and not below the minimum.
-    fn maximum_within(self, bound: Wide) -> bool
-        ensures { result ≡ valid_maximum self (whole bound) }
+    fn maximum_within(self, bound: u128) -> bool
+        ensures { result ≡ valid_maximum self bound }
     {
-        if !bound.covers(self.maximum) {
-            return false;
-        }
-        self.minimum <= self.maximum
+        u128::from(self.maximum) <= bound && self.minimum <= self.maximum
     }
 
     // Whether what has these limits may stand where `other` is wanted.
     pub fn matches(self, other: Limits) -> bool
         ensures { result ≡ match_limits self other }
     {
-        if self.minimum < other.minimum {
-            return false;
-        }
-        if !other.bounded {
-            return true;
-        }
-        if !self.bounded {
-            return false;
-        }
-        self.maximum <= other.maximum
+        other.minimum <= self.minimum
+            && (!other.bounded || (self.bounded && self.maximum <= other.maximum))
     }
 
     // Whether a size is at most the maximum, if there is one.
     pub fn admits(self, size: u64) -> bool
         ensures { result ≡ admits_of self size }
     {
-        if self.bounded {
-            return size <= self.maximum;
-        }
-        true
+        !self.bounded || size <= self.maximum
     }
 
     // The same limits with another minimum.
     pub fn from(self, minimum: u64) -> Limits
         ensures { result ≡ from_minimum self minimum }
     {
-        let mut next = self;
-        next.minimum = minimum;
-        next
+        Limits { minimum, ..self }
     }
 }

@@ -1,37 +1,16 @@
 // References: 64 bits here, and the kind of what they refer to.
-ghost use Rattle.std.specs.Prelude.{◌≡◌};
-ghost use Rattle.types.specs.declared.raw.RefType.TheVariants.{Extern};
-ghost use Rattle.types.specs.Raw.{null_ref, is_null, null_of, typed_of, same_kind, raw_bytes};
+#![tactic(auto, unfolding(crate::specs::Raw::raw_bytes))]
 
-#[derive(Clone, Copy)]
+ghost use Rattle.std.specs.Prelude.{◌≡◌};
+ghost use Rattle.types.specs.Raw.{null_ref, is_null, null_of, typed_of, raw_bytes};
+
+#[derive(Clone, Copy, PartialEq, Eq)]
 pub enum RefType {
     Func,
     Extern,
 }
 
-// A kind is a flag: two flags are compared in a few instructions, two kinds by a table of cases.
-fn is_extern(kind: RefType) -> bool
-    ensures { result ≡ same_kind Extern kind }
-{
-    match kind {
-        RefType::Func => false,
-        RefType::Extern => true,
-    }
-}
-
-impl RefType {
-    // Whether two element kinds are one.
-    pub fn same(self, other: RefType) -> bool
-        ensures { result ≡ same_kind self other }
-    {
-        if is_extern(self) {
-            return is_extern(other);
-        }
-        !is_extern(other)
-    }
-}
-
-#[derive(Clone, Copy)]
+#[derive(Clone, Copy, PartialEq, Eq)]
 pub struct RawRef {
     pub bits: u64,
 }
@@ -57,7 +36,7 @@ impl RawRef {
     }
 }
 
-#[derive(Clone, Copy)]
+#[derive(Clone, Copy, PartialEq, Eq)]
 pub struct TypedRawRef {
     pub raw: RawRef,
     pub ty: RefType,
