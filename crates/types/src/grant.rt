@@ -1,9 +1,10 @@
 // The steps that memories and tables share, from the limiter's question to the room.
-ghost use Rattle.std.specs.Prelude.{◌≡◌};
-ghost use Rattle.types.specs.stages.Grant.{told, creation_room, creation_permit, grant_creation, growth_of, growth_room, growth_paid, growth_fuel, growth_permit, grant_growth, grant_span};
-ghost use Rattle.types.specs.Fuel.{consume_if};
+#![tactic(auto, using(crate::proofs::Picks::cases), unfolding(crate::specs::stages::Grant::told, crate::specs::stages::Grant::creation_room, crate::specs::stages::Grant::creation_permit, crate::specs::stages::Grant::grant_creation, crate::specs::stages::Grant::growth_room, crate::specs::stages::Grant::growth_paid, crate::specs::stages::Grant::growth_fuel, crate::specs::stages::Grant::growth_permit, crate::specs::stages::Grant::grant_growth, crate::specs::stages::Grant::grant_span))]
 
-use super::answer::{Answer, Refusal};
+ghost use Rattle.std.specs.Prelude.{◌≡◌};
+ghost use Rattle.types.specs.stages.Grant.{told, grant_creation, growth_of, grant_growth, grant_span};
+
+use super::answer::{Answer, Reason, Refusal};
 use super::fuel::Fuel;
 use super::limiter::{Asked, Limiter};
 
@@ -27,51 +28,10 @@ fn tell(limiter: Limiter, refusal: Refusal) -> Asked
     ensures { result ≡ told limiter refusal }
 {
     let noticed = limiter.notify(refusal);
-    let heard = noticed.refusal;
-    let left = noticed.limiter;
     Asked {
-        permit: Err(heard),
-        limiter: left,
+        permit: Err(noticed.refusal),
+        limiter: noticed.limiter,
     }
-}
-
-// Whether a creation may go on: the limiter's question, then the room.
-pub fn grant_creation(limiter: Limiter, fits: bool) -> Asked
-    ensures { result ≡ grant_creation limiter fits }
-{
-    let asked = limiter.ask(3);
-    let permit = asked.permit;
-    let left = asked.limiter;
-    creation_permit(permit, left, fits)
-}
-
-// By what the limiter says.
-fn creation_permit(permit: Result<(), Refusal>, limiter: Limiter, fits: bool) -> Asked
-    ensures { result ≡ creation_permit permit limiter fits }
-{
-    match permit {
-        Err(_) => Asked { permit, limiter },
-        Ok(()) => creation_room(limiter, fits),
-    }
-}
-
-// The room of a creation.
-fn creation_room(limiter: Limiter, fits: bool) -> Asked
-    ensures { result ≡ creation_room limiter fits }
-{
-    if fits {
-        return Asked {
-            permit: Ok(()),
-            limiter,
-        };
-    }
-    tell(
-        limiter,
-        Refusal {
-            number: 5,
-            amount: 0,
-        },
-    )
 }
 
 // A growth that is refused after its limiter was told.
@@ -79,107 +39,56 @@ fn growth_told(limiter: Limiter, fuel: Fuel, refusal: Refusal) -> Growth
     ensures { result ≡ growth_of (told limiter refusal) fuel }
 {
     let asked = tell(limiter, refusal);
-    let permit = asked.permit;
-    let left = asked.limiter;
     Growth {
-        permit,
+        permit: asked.permit,
         fuel,
-        limiter: left,
+        limiter: asked.limiter,
     }
 }
 
-// The room, after the fuel step.
-fn growth_room(limiter: Limiter, fuel: Fuel, fits: bool) -> Growth
-    ensures { result ≡ growth_room limiter fuel fits }
+// Whether a creation may go on: the limiter's question, then the room.
+pub fn grant_creation(limiter: Limiter, fits: bool) -> Asked
+    ensures { result ≡ grant_creation limiter fits }
 {
-    if fits {
-        return Growth {
-            permit: Ok(()),
-            fuel,
-            limiter,
-        };
+    let asked = limiter.ask(Reason::CreationDenied as u8);
+    if asked.permit.is_err() || fits {
+        return asked;
     }
-    growth_told(
-        limiter,
-        fuel,
-        Refusal {
-            number: 8,
-            amount: 0,
-        },
-    )
-}
-
-// By what the fuel step says.
-fn growth_paid(step: Result<Fuel, Refusal>, limiter: Limiter, fuel: Fuel, fits: bool) -> Growth
-    ensures { result ≡ growth_paid step limiter fuel fits }
-{
-    match step {
-        Err(refusal) => growth_told(limiter, fuel, refusal),
-        Ok(left) => growth_room(limiter, left, fits),
-    }
-}
-
-fn growth_charge(limiter: Limiter, fuel: Fuel, price: u64, fits: bool) -> Growth
-    ensures { result ≡ growth_paid (consume_if fuel price) limiter fuel fits }
-{
-    let step = fuel.consume_fuel_if(price);
-    growth_paid(step, limiter, fuel, fits)
-}
-
-// The maximum, then the fuel step.
-fn growth_fuel(limiter: Limiter, fuel: Fuel, admits: bool, price: u64, fits: bool) -> Growth
-    ensures { result ≡ growth_fuel limiter fuel admits price fits }
-{
-    if admits {
-        return growth_charge(limiter, fuel, price, fits);
-    }
-    growth_told(
-        limiter,
-        fuel,
-        Refusal {
-            number: 6,
-            amount: 0,
-        },
-    )
-}
-
-// By what the limiter says.
-fn growth_permit(
-    permit: Result<(), Refusal>,
-    limiter: Limiter,
-    fuel: Fuel,
-    admits: bool,
-    price: u64,
-    fits: bool,
-) -> Growth
-    ensures { result ≡ growth_permit permit limiter fuel admits price fits }
-{
-    match permit {
-        Err(_) => Growth {
-            permit,
-            fuel,
-            limiter,
-        },
-        Ok(()) => growth_fuel(limiter, fuel, admits, price, fits),
-    }
+    tell(asked.limiter, Refusal::from(Reason::RoomTooSmall))
 }
 
 // Whether a growth may go on: the limiter's question, the maximum, the fuel step, the room.
 pub fn grant_growth(limiter: Limiter, fuel: Fuel, admits: bool, price: u64, fits: bool) -> Growth
     ensures { result ≡ grant_growth limiter fuel admits price fits }
 {
-    let asked = limiter.ask(6);
-    let permit = asked.permit;
-    let left = asked.limiter;
-    growth_permit(permit, left, fuel, admits, price, fits)
+    let Asked { permit, limiter } = limiter.ask(Reason::GrowthDenied as u8);
+    if permit.is_err() {
+        return Growth {
+            permit,
+            fuel,
+            limiter,
+        };
+    }
+    if !admits {
+        return growth_told(limiter, fuel, Refusal::from(Reason::GrowthDenied));
+    }
+    match fuel.consume_fuel_if(price) {
+        Err(refusal) => growth_told(limiter, fuel, refusal),
+        Ok(fuel) if fits => Growth {
+            permit,
+            fuel,
+            limiter,
+        },
+        Ok(fuel) => growth_told(limiter, fuel, Refusal::from(Reason::BeyondRoom)),
+    }
 }
 
 // Whether a span operation may go on: its bounds, then the fuel step.
 pub fn grant_span(fuel: Fuel, in_bounds: bool, number: u8, price: u64) -> Result<Fuel, Refusal>
     ensures { result ≡ grant_span fuel in_bounds number price }
 {
-    if in_bounds {
-        return fuel.consume_fuel_if(price);
+    if !in_bounds {
+        return Err(Refusal { number, amount: 0 });
     }
-    Err(Refusal { number, amount: 0 })
+    fuel.consume_fuel_if(price)
 }

@@ -1,8 +1,10 @@
 // The limiter, as scripted answers: 0 yes, 1 no, 2 its own error.
-ghost use Rattle.std.specs.Prelude.{◌≡◌, ◌≤◌, length};
-ghost use Rattle.types.specs.Limiter.{longest_script, no_limiter, says_of, moved, ask, notify, permit_of, heard_of, well_formed, padded, taken_of, hand_over};
+#![tactic(auto, using(crate::proofs::Picks::cases, crate::proofs::Scripts::scripts), unfolding(crate::specs::Limiter::no_limiter, crate::specs::Limiter::moved, crate::specs::Limiter::permit_of, crate::specs::Limiter::ask, crate::specs::Limiter::heard_of, crate::specs::Limiter::notify, crate::specs::Limiter::hand_over))]
 
-use super::answer::{Answer, Refusal, Value};
+ghost use Rattle.std.specs.Prelude.{◌≡◌, ◌≤◌, length};
+ghost use Rattle.types.specs.Limiter.{longest_script, no_limiter, says_of, moved, ask, notify, permit_of, heard_of, well_formed, taken_of, hand_over};
+
+use super::answer::{Answer, Reason, Refusal, Value};
 
 // The most answers that a script has.
 pub const LONGEST_SCRIPT: usize = 16;
@@ -48,14 +50,11 @@ impl Limiter {
     pub fn says(self) -> u8
         ensures { result ≡ says_of self }
     {
-        let at = self.at;
-        if self.count <= at {
-            return 0;
+        if self.at < self.count && self.at < LONGEST_SCRIPT {
+            self.script[self.at]
+        } else {
+            0
         }
-        if LONGEST_SCRIPT <= at {
-            return 0;
-        }
-        self.script[at]
     }
 
     // The script moved on by one answer; it stops at its end.
@@ -65,43 +64,43 @@ impl Limiter {
         if self.count <= self.at {
             return self;
         }
-        let mut next = self;
-        next.at = self.at + 1;
-        next
+        Limiter {
+            at: self.at + 1,
+            ..self
+        }
     }
 
     // One question, with the number that a no stands for.
     pub fn ask(self, deny: u8) -> Asked
         ensures { result ≡ ask self deny }
     {
-        let limiter = self.moved();
-        let permit = permit_of(self.says(), deny);
-        Asked { permit, limiter }
+        Asked {
+            permit: permit_of(self.says(), deny),
+            limiter: self.moved(),
+        }
     }
 
     // One notice of a refusal: the limiter's own error takes its place.
     pub fn notify(self, refusal: Refusal) -> Noticed
         ensures { result ≡ notify self refusal }
     {
-        let limiter = self.moved();
-        let refusal = heard(self.says(), refusal);
-        Noticed { refusal, limiter }
+        Noticed {
+            refusal: heard(self.says(), refusal),
+            limiter: self.moved(),
+        }
     }
 
     // Another script takes the place of this one; 18 where it is no script, and then this one stays.
     pub fn hand_over(self, script: &[u8]) -> HandedOver
         ensures { result ≡ hand_over self script.now }
     {
-        if well_formed(script) {
-            return taken(script);
+        if !well_formed(script) {
+            return HandedOver {
+                answer: Err(Refusal::from(Reason::Malformed)),
+                limiter: self,
+            };
         }
-        HandedOver {
-            answer: Err(Refusal {
-                number: 18,
-                amount: 0,
-            }),
-            limiter: self,
-        }
+        taken(script)
     }
 }
 
@@ -109,19 +108,14 @@ impl Limiter {
 fn permit_of(said: u8, deny: u8) -> Result<(), Refusal>
     ensures { result ≡ permit_of said deny }
 {
-    if said == 1 {
-        return Err(Refusal {
+    match said {
+        1 => Err(Refusal {
             number: deny,
             amount: 0,
-        });
+        }),
+        2 => Err(Refusal::from(Reason::LimiterFailed)),
+        _ => Ok(()),
     }
-    if said == 2 {
-        return Err(Refusal {
-            number: 4,
-            amount: 0,
-        });
-    }
-    Ok(())
 }
 
 // What is left of a refusal after the answer to its notice.
@@ -129,55 +123,30 @@ fn heard(said: u8, refusal: Refusal) -> Refusal
     ensures { result ≡ heard_of said refusal }
 {
     if said == 2 {
-        return Refusal {
-            number: 4,
-            amount: 0,
-        };
+        Refusal::from(Reason::LimiterFailed)
+    } else {
+        refusal
     }
-    refusal
 }
 
 // Whether bytes are a script: at most 16, each 0, 1 or 2.
 fn well_formed(script: &[u8]) -> bool
     ensures { result ≡ well_formed script.now }
 {
-    if LONGEST_SCRIPT < script.len() {
-        return false;
-    }
-    let mut i = 0;
-    while i < script.len() {
-        if 2 < script[i] {
-            return false;
-        }
-        i += 1;
-    }
-    true
+    script.len() <= LONGEST_SCRIPT && script.iter().all(|answer| *answer <= 2)
 }
 
-// The script in its row, with zeros behind it.
-fn row_of(script: &[u8]) -> [u8; LONGEST_SCRIPT]
-    requires { length script.now ≤ longest_script }
-    ensures { result ≡ padded script.now }
-{
-    let mut row = [0u8; LONGEST_SCRIPT];
-    let mut i = 0;
-    while i < script.len() {
-        row[i] = script[i];
-        i += 1;
-    }
-    row
-}
-
-// The limiter of a script, at its start.
+// The limiter of a script, at its start, with zeros behind it in its row.
 fn taken(script: &[u8]) -> HandedOver
     requires { length script.now ≤ longest_script }
     ensures { result ≡ taken_of script.now }
 {
-    let script_row = row_of(script);
+    let mut row = [0u8; LONGEST_SCRIPT];
+    row[..script.len()].copy_from_slice(script);
     HandedOver {
         answer: Ok(Value::Number(0)),
         limiter: Limiter {
-            script: script_row,
+            script: row,
             count: script.len(),
             at: 0,
         },

@@ -1,17 +1,11 @@
-use Rattle.types.proofs.Prelude.{arith}
-use Rattle.types.proofs.Scripts.{answers_all, answers_bad, answers_more, too_long}
+use Rattle.std.proofs.lemmas.Iterator.{cases_from_all, YieldsList-from_slice}
+use borrow.Author.{Rules.rules, Tests.tests}
+use Rattle.types.proofs.{Prelude.◌<◌, Prelude.◌≤◌, Scripts.answers_by}
 use Rattle.types.proofs.limiter.well_formed.Goals as goal
 
-pub returns-then-script-gt-LONGEST_SCRIPT : goal.returns-then-script-gt-LONGEST_SCRIPT
-returns-then-script-gt-LONGEST_SCRIPT c = search too_long
-
-pub returns-then-script-i-gt2 : goal.returns-then-script-i-gt2
-returns-then-script-i-gt2 c = search answers_bad
-
-pub loop-i-preserved : goal.loop-i-preserved
-loop-i-preserved c = (omega arith, search answers_more)
-
-pub returns : goal.returns
-returns c =
-    let l = c.loop-i in
-    answers_all _ l.i (omega arith) (omega arith) l.invariant.1
+pub returns-then-script-le-LONGEST_SCRIPT : goal.returns-then-script-le-LONGEST_SCRIPT
+returns-then-script-le-LONGEST_SCRIPT c =
+    let s = c.args.script.now in
+    answers_by s _ (search rules)
+    (cases_from_all _ _ _ (λ b. b ≤ 2) (λ b. 2 < b) c.all.ensures.ran (YieldsList-from_slice s cc)
+    (λ x q k. search (rules, tests)) (λ x q k. search (rules, tests)))
