@@ -118,8 +118,7 @@ fn grow_to(
 fn below_largest(index: IndexType, size: u64) -> bool
     ensures { result ≡ ltb size (max_size index) }
 {
-    let largest = index.max_size();
-    largest.exceeds(size)
+    u128::from(size) < index.max_size()
 }
 
 // The new size stays below the index type's largest.

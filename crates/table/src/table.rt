@@ -66,8 +66,7 @@ pub(crate) fn both_within(i: u64, a: u64, j: u64, b: u64, n: u64) -> bool
 fn within_bound(ty: TableType, size: u64) -> bool
     ensures { result ≡ leb size (table_bound ty) }
 {
-    let bound = ty.absolute_max();
-    bound.covers(size)
+    u128::from(size) <= ty.absolute_max()
 }
 
 // Whether the type is valid and has so many cells, as for a memory.

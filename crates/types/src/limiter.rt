@@ -84,9 +84,10 @@ impl Limiter {
     pub fn notify(self, refusal: Refusal) -> Noticed
         ensures { result ≡ notify self refusal }
     {
+        let limiter = self.moved();
         Noticed {
             refusal: heard(self.says(), refusal),
-            limiter: self.moved(),
+            limiter,
         }
     }
 
