@@ -1,6 +1,6 @@
 -- Laws of the price, over the byte length and so over the cell size. Assumes nothing.
 use Rattle.types.proofs.Prelude.{◌≡◌, ap, sym, ◌∙◌, ℕ, suc, ◌+◌, ◌-◌, ◌*◌, ◌/◌, ◌^◌, ◌<◌, ◌≤◌, arith, eq-eqb, ne_eqb, eqb, pick_true, pick_false}
-use native.Mathlib.Nat.{div-mul-le_self, mul-le-mul_right, mul_comm, lt-div-mul-add, mul-zero, mul-le-mul}
+use native.Mathlib.Nat.{div-mul-le_self, mul-le-mul_right, mul_comm, lt-div-mul-add, mul-le-mul}
 use Rattle.types.specs.{Pick.pick, Price.capped, Price.price}
 
 pub capped_small : (n : ℕ) → n < 2 ^ 64 → capped n ≡ n
@@ -28,18 +28,8 @@ too_large a b m h g =
 pub within_quotient : (a b m : ℕ) → a ≤ m / b → a * b ≤ m
 within_quotient a b m h = omega (arith, mul-le-mul_right b h, div-mul-le_self m b)
 
-pub product_none : (a b : ℕ) → b ≡ 0 → 0 ≡ capped (a * b)
-unfolding capped
-product_none a b e = sym (ap (λ (n : ℕ). capped (a * n)) e ∙ ap capped (mul-zero a))
-
-pub product_large : (a b : ℕ) → (b ≡ 0 → ⊥) → (2 ^ 64 - 1) / b < a → 2 ^ 64 - 1 ≡ capped (a * b)
-product_large a b h g = sym (capped_large (a * b) (omega (arith, too_large a b (2 ^ 64 - 1) h g)))
-
 pub product_fits : (a b : ℕ) → a ≤ (2 ^ 64 - 1) / b → a * b < 2 ^ 64
 product_fits a b h = omega (arith, within_quotient a b (2 ^ 64 - 1) h)
-
-pub product_small : (a b : ℕ) → a ≤ (2 ^ 64 - 1) / b → a * b ≡ capped (a * b)
-product_small a b h = sym (capped_small (a * b) (product_fits a b h))
 
 -- B = 0: every length costs the most
 pub price_none : (b n : ℕ) → b ≡ 0 → 2 ^ 64 - 1 ≡ price b n

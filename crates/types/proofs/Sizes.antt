@@ -1,7 +1,6 @@
 -- Laws of page sizes and sizes in bytes. Assumes nothing.
 use Rattle.std.specs.Prelude.{Some, None}
-use Rattle.types.proofs.Prelude.{◌≡◌, sym, ap, ◌∙◌, ℕ, ◌-◌, ◌*◌, ◌/◌, ◌^◌, ◌<◌, ◌≤◌, arith, lt-ltb, le-ltb, false, pick_true, pick_false}
-use Rattle.types.proofs.Prices.{too_large, product_fits}
+use Rattle.types.proofs.Prelude.{◌≡◌, sym, ap, ◌∙◌, ℕ, ◌^◌, ◌<◌, ◌≤◌, arith, lt-ltb, le-ltb, false, pick_true, pick_false}
 use Rattle.types.specs.{declared.memory_ty.PageSize.PageSize, declared.memory_ty.PageSize.TheVariants.One, declared.memory_ty.PageSize.TheVariants.Wasm}
 use Rattle.types.specs.{IndexType.max_size}
 use Rattle.types.specs.{declared.index_ty.IndexType.IndexType, declared.index_ty.IndexType.TheVariants.I32, declared.index_ty.IndexType.TheVariants.I64}
@@ -18,16 +17,6 @@ bytes_are n h = sym (pick_true _ _ _ (lt-ltb _ _ h))
 pub bytes_over : (n : ℕ) → 2 ^ 64 ≤ n → None ≡ byte_size n
 unfolding byte_size
 bytes_over n h = sym (pick_false _ _ _ (le-ltb _ _ h))
-
-pub pages_over : (p : PageSize) (n size : ℕ) → size ≡ page_bytes p → (2 ^ 64 - 1) / size < n → None ≡ byte_size (n * page_bytes p)
-pages_over p n size e h =
-    bytes_over _ (omega (arith, too_large n (page_bytes p) (2 ^ 64 - 1) (λ z. absurd (omega (arith, page_pos p, z))) (rw e at h)))
-
-pub pages_fit : (n size : ℕ) → n ≤ (2 ^ 64 - 1) / size → n * size < 2 ^ 64
-pages_fit n size h = product_fits n size h
-
-pub pages_are : (p : PageSize) (n size : ℕ) → size ≡ page_bytes p → n ≤ (2 ^ 64 - 1) / size → Some (n * size) ≡ byte_size (n * page_bytes p)
-pages_are p n size e h = bytes_are (n * size) (product_fits n size h) ∙ ap (λ (s : ℕ). byte_size (n * s)) e
 
 -- without a maximum the bound is the largest size
 unlimited : (t : MemoryType) → t.limits.bounded ≡ false → maximum_bytes t ≡ byte_size (max_size t.index)

@@ -28,4 +28,3 @@ same_index I32 I32 = true
 same_index I32 I64 = false
 same_index I64 I32 = false
 same_index I64 I64 = true
-
