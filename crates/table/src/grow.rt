@@ -118,7 +118,8 @@ fn grow_to(
 fn below_largest(index: IndexType, size: u64) -> bool
     ensures { result ≡ ltb size (max_size index) }
 {
-    u128::from(size) < index.max_size()
+    let largest = index.max_size();
+    largest.exceeds(size)
 }
 
 // The new size stays below the index type's largest.

@@ -66,7 +66,8 @@ pub(crate) fn both_within(i: u64, a: u64, j: u64, b: u64, n: u64) -> bool
 fn within_bound(ty: TableType, size: u64) -> bool
     ensures { result ≡ leb size (table_bound ty) }
 {
-    u128::from(size) <= ty.absolute_max()
+    let bound = ty.absolute_max();
+    bound.covers(size)
 }
 
 // Whether the type is valid and has so many cells, as for a memory.

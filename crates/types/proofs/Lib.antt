@@ -13,6 +13,7 @@ pub mod Stepping
 pub mod Grants
 pub mod Chains
 pub mod Unique
+pub mod Halves
 pub mod Sizes
 pub mod Held
 pub mod Built

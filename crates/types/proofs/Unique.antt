@@ -11,6 +11,8 @@ use Rattle.types.proofs.answer.number.Reads as answer_number_reads
 use Rattle.types.proofs.answer.number.Kinds as answer_number_kinds
 use Rattle.types.proofs.answer.shown.Reads as answer_shown_reads
 use Rattle.types.proofs.answer.shown.Kinds as answer_shown_kinds
+use Rattle.types.proofs.fuel.saturating_mul.Reads as fuel_saturating_mul_reads
+use Rattle.types.proofs.fuel.saturating_mul.Kinds as fuel_saturating_mul_kinds
 use Rattle.types.proofs.fuel.FuelCosts.default_costs.Reads as fuel_costs_default_costs_reads
 use Rattle.types.proofs.fuel.FuelCosts.default_costs.Kinds as fuel_costs_default_costs_kinds
 use Rattle.types.proofs.fuel.FuelCosts.fuel_for_copying_bytes.Reads as fuel_costs_fuel_for_copying_bytes_reads
@@ -57,6 +59,10 @@ use Rattle.types.proofs.index_ty.IndexType.of.Reads as index_type_of_reads
 use Rattle.types.proofs.index_ty.IndexType.of.Kinds as index_type_of_kinds
 use Rattle.types.proofs.index_ty.IndexType.is_64.Reads as index_type_is_64_reads
 use Rattle.types.proofs.index_ty.IndexType.is_64.Kinds as index_type_is_64_kinds
+use Rattle.types.proofs.index_ty.IndexTypePartialEq.eq.Reads as index_type_same_reads
+use Rattle.types.proofs.index_ty.IndexTypePartialEq.eq.Kinds as index_type_same_kinds
+use Rattle.types.proofs.index_ty.IndexType.min.Reads as index_type_min_reads
+use Rattle.types.proofs.index_ty.IndexType.min.Kinds as index_type_min_kinds
 use Rattle.types.proofs.index_ty.IndexType.max_size.Reads as index_type_max_size_reads
 use Rattle.types.proofs.index_ty.IndexType.max_size.Kinds as index_type_max_size_kinds
 use Rattle.types.proofs.limits.Limits.valid_within.Reads as limits_valid_within_reads
@@ -71,6 +77,8 @@ use Rattle.types.proofs.memory_ty.PageSize.page_size_log2.Reads as page_size_pag
 use Rattle.types.proofs.memory_ty.PageSize.page_size_log2.Kinds as page_size_page_size_log2_kinds
 use Rattle.types.proofs.memory_ty.PageSize.page_size.Reads as page_size_page_size_reads
 use Rattle.types.proofs.memory_ty.PageSize.page_size.Kinds as page_size_page_size_kinds
+use Rattle.types.proofs.memory_ty.PageSizePartialEq.eq.Reads as page_size_same_reads
+use Rattle.types.proofs.memory_ty.PageSizePartialEq.eq.Kinds as page_size_same_kinds
 use Rattle.types.proofs.memory_ty.PageSize.byte_size.Reads as page_size_byte_size_reads
 use Rattle.types.proofs.memory_ty.PageSize.byte_size.Kinds as page_size_byte_size_kinds
 use Rattle.types.proofs.memory_ty.MemoryType.build.Reads as memory_type_build_reads
@@ -89,6 +97,8 @@ use Rattle.types.proofs.memory_ty.MemoryType.is_subtype_of.Reads as memory_type_
 use Rattle.types.proofs.memory_ty.MemoryType.is_subtype_of.Kinds as memory_type_is_subtype_of_kinds
 use Rattle.types.proofs.memory_ty.MemoryType.dynamic_ty.Reads as memory_type_dynamic_ty_reads
 use Rattle.types.proofs.memory_ty.MemoryType.dynamic_ty.Kinds as memory_type_dynamic_ty_kinds
+use Rattle.types.proofs.raw.RefTypePartialEq.eq.Reads as ref_type_same_reads
+use Rattle.types.proofs.raw.RefTypePartialEq.eq.Kinds as ref_type_same_kinds
 use Rattle.types.proofs.raw.RawRef.null.Reads as raw_ref_null_reads
 use Rattle.types.proofs.raw.RawRef.null.Kinds as raw_ref_null_kinds
 use Rattle.types.proofs.raw.RawRef.is_null.Reads as raw_ref_is_null_reads
@@ -113,6 +123,10 @@ use Rattle.types.proofs.table_ty.TableType.is_subtype_of.Reads as table_type_is_
 use Rattle.types.proofs.table_ty.TableType.is_subtype_of.Kinds as table_type_is_subtype_of_kinds
 use Rattle.types.proofs.table_ty.TableType.dynamic_ty.Reads as table_type_dynamic_ty_reads
 use Rattle.types.proofs.table_ty.TableType.dynamic_ty.Kinds as table_type_dynamic_ty_kinds
+use Rattle.types.proofs.wide.Wide.covers.Reads as wide_covers_reads
+use Rattle.types.proofs.wide.Wide.covers.Kinds as wide_covers_kinds
+use Rattle.types.proofs.wide.Wide.exceeds.Reads as wide_exceeds_reads
+use Rattle.types.proofs.wide.Wide.exceeds.Kinds as wide_exceeds_kinds
 
 pub value_from_f32_bits_one : One 0 value_from_f32_bits_kinds.ps value_from_f32_bits_kinds.r value_from_f32_bits_reads.Pre value_from_f32_bits_reads.Post
 value_from_f32_bits_one κs a x x' s s' z p q = p ∙ sym q
@@ -128,6 +142,9 @@ answer_number_one κs a x x' s s' z p q = p ∙ sym q
 
 pub answer_shown_one : One 0 answer_shown_kinds.ps answer_shown_kinds.r answer_shown_reads.Pre answer_shown_reads.Post
 answer_shown_one κs a x x' s s' z p q = p ∙ sym q
+
+pub fuel_saturating_mul_one : One 0 fuel_saturating_mul_kinds.ps fuel_saturating_mul_kinds.r fuel_saturating_mul_reads.Pre fuel_saturating_mul_reads.Post
+fuel_saturating_mul_one κs a x x' s s' z p q = p ∙ sym q
 
 pub fuel_costs_default_costs_one : One 0 fuel_costs_default_costs_kinds.ps fuel_costs_default_costs_kinds.r fuel_costs_default_costs_reads.Pre fuel_costs_default_costs_reads.Post
 fuel_costs_default_costs_one κs a x x' s s' z p q = p ∙ sym q
@@ -198,6 +215,12 @@ index_type_of_one κs a x x' s s' z p q = p ∙ sym q
 pub index_type_is_64_one : One 0 index_type_is_64_kinds.ps index_type_is_64_kinds.r index_type_is_64_reads.Pre index_type_is_64_reads.Post
 index_type_is_64_one κs a x x' s s' z p q = p ∙ sym q
 
+pub index_type_same_one : One 2 index_type_same_kinds.ps index_type_same_kinds.r index_type_same_reads.Pre index_type_same_reads.Post
+index_type_same_one κs a x x' s s' z p q = p ∙ sym q
+
+pub index_type_min_one : One 0 index_type_min_kinds.ps index_type_min_kinds.r index_type_min_reads.Pre index_type_min_reads.Post
+index_type_min_one κs a x x' s s' z p q = p ∙ sym q
+
 pub index_type_max_size_one : One 0 index_type_max_size_kinds.ps index_type_max_size_kinds.r index_type_max_size_reads.Pre index_type_max_size_reads.Post
 index_type_max_size_one κs a x x' s s' z p q = p ∙ sym q
 
@@ -218,6 +241,9 @@ page_size_page_size_log2_one κs a x x' s s' z p q = p ∙ sym q
 
 pub page_size_page_size_one : One 0 page_size_page_size_kinds.ps page_size_page_size_kinds.r page_size_page_size_reads.Pre page_size_page_size_reads.Post
 page_size_page_size_one κs a x x' s s' z p q = p ∙ sym q
+
+pub page_size_same_one : One 2 page_size_same_kinds.ps page_size_same_kinds.r page_size_same_reads.Pre page_size_same_reads.Post
+page_size_same_one κs a x x' s s' z p q = p ∙ sym q
 
 pub page_size_byte_size_one : One 0 page_size_byte_size_kinds.ps page_size_byte_size_kinds.r page_size_byte_size_reads.Pre page_size_byte_size_reads.Post
 page_size_byte_size_one κs a x x' s s' z p q = p ∙ sym q
@@ -245,6 +271,9 @@ memory_type_is_subtype_of_one κs a x x' s s' z p q = p ∙ sym q
 
 pub memory_type_dynamic_ty_one : One 0 memory_type_dynamic_ty_kinds.ps memory_type_dynamic_ty_kinds.r memory_type_dynamic_ty_reads.Pre memory_type_dynamic_ty_reads.Post
 memory_type_dynamic_ty_one κs a x x' s s' z p q = p ∙ sym q
+
+pub ref_type_same_one : One 2 ref_type_same_kinds.ps ref_type_same_kinds.r ref_type_same_reads.Pre ref_type_same_reads.Post
+ref_type_same_one κs a x x' s s' z p q = p ∙ sym q
 
 pub raw_ref_null_one : One 0 raw_ref_null_kinds.ps raw_ref_null_kinds.r raw_ref_null_reads.Pre raw_ref_null_reads.Post
 raw_ref_null_one κs a x x' s s' z p q = p ∙ sym q
@@ -281,3 +310,9 @@ table_type_is_subtype_of_one κs a x x' s s' z p q = p ∙ sym q
 
 pub table_type_dynamic_ty_one : One 0 table_type_dynamic_ty_kinds.ps table_type_dynamic_ty_kinds.r table_type_dynamic_ty_reads.Pre table_type_dynamic_ty_reads.Post
 table_type_dynamic_ty_one κs a x x' s s' z p q = p ∙ sym q
+
+pub wide_covers_one : One 0 wide_covers_kinds.ps wide_covers_kinds.r wide_covers_reads.Pre wide_covers_reads.Post
+wide_covers_one κs a x x' s s' z p q = p ∙ sym q
+
+pub wide_exceeds_one : One 0 wide_exceeds_kinds.ps wide_exceeds_kinds.r wide_exceeds_reads.Pre wide_exceeds_reads.Post
+wide_exceeds_one κs a x x' s s' z p q = p ∙ sym q

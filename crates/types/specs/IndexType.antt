@@ -28,3 +28,8 @@ same_index I32 I32 = true
 same_index I32 I64 = false
 same_index I64 I32 = false
 same_index I64 I64 = true
+
+-- the smaller of two
+abbrev pub smaller : IndexType → IndexType → IndexType
+smaller I32 j = I32
+smaller I64 j = j

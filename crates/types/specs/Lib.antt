@@ -7,6 +7,7 @@ pub mod Fuel
 pub mod Limiter
 pub mod Span
 pub mod Steps
+pub mod Wide
 pub mod IndexType
 pub mod Limits
 pub mod MemoryType

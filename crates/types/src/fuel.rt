@@ -24,6 +24,13 @@ pub struct Fuel {
     pub costs: FuelCosts,
 }
 
+// The product, or the largest number where it is larger.
+pub fn saturating_mul(a: u64, b: u64) -> u64
+    ensures { result ≡ capped (a * b) }
+{
+    a.saturating_mul(b)
+}
+
 impl FuelCosts {
     pub fn default_costs() -> FuelCosts
         ensures { result ≡ default_costs }
@@ -49,19 +56,19 @@ impl FuelCosts {
     pub fn fuel_for_copying_values(self, len: u64, size: u64) -> u64
         ensures { result ≡ price self.copied (len * size) }
     {
-        self.fuel_for_copying_bytes(len.saturating_mul(size))
+        self.fuel_for_copying_bytes(saturating_mul(len, size))
     }
 
     pub fn fuel_for_translating_bytes(self, len: u64) -> u64
         ensures { result ≡ capped (len * self.translated) }
     {
-        len.saturating_mul(u64::from(self.translated))
+        saturating_mul(len, u64::from(self.translated))
     }
 
     pub fn fuel_for_validating_bytes(self, len: u64) -> u64
         ensures { result ≡ capped (len * self.validated) }
     {
-        len.saturating_mul(u64::from(self.validated))
+        saturating_mul(len, u64::from(self.validated))
     }
 }
 

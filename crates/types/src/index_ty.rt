@@ -1,8 +1,11 @@
 // The index type of memories and tables.
-#![tactic(auto, using(crate::proofs::Picks::cases))]
+#![tactic(auto, using(crate::proofs::Picks::cases), unfolding(crate::specs::Wide::halves))]
 
 ghost use Rattle.std.specs.Prelude.{◌≡◌};
-ghost use Rattle.types.specs.IndexType.{is64, index_of, max_size};
+ghost use Rattle.types.specs.IndexType.{is64, index_of, smaller, max_size};
+ghost use Rattle.types.specs.Wide.{halves};
+
+use super::wide::{WORD32, Wide};
 
 // The smaller one stands first.
 #[derive(Clone, Copy, PartialEq, Eq, PartialOrd, Ord)]
@@ -29,13 +32,23 @@ impl IndexType {
         matches!(self, IndexType::I64)
     }
 
+    // The smaller of two index types.
+    pub fn min(self, other: IndexType) -> IndexType
+        ensures { result ≡ smaller self other }
+    {
+        Ord::min(self, other)
+    }
+
     // The largest size, 2^32 or 2^64.
-    pub fn max_size(self) -> u128
-        ensures { result ≡ max_size self }
+    pub fn max_size(self) -> Wide
+        ensures { result ≡ halves (max_size self) }
     {
         match self {
-            IndexType::I32 => 1 << 32,
-            IndexType::I64 => 1 << 64,
+            IndexType::I32 => Wide {
+                high: 0,
+                low: WORD32,
+            },
+            IndexType::I64 => Wide { high: 1, low: 0 },
         }
     }
 }

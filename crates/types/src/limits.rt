@@ -3,6 +3,9 @@
 
 ghost use Rattle.std.specs.Prelude.{◌≡◌};
 ghost use Rattle.types.specs.Limits.{valid_limits, valid_maximum, match_limits, admits_of, from_minimum};
+ghost use Rattle.types.specs.Wide.{whole};
+
+use super::wide::Wide;
 
 #[derive(Clone, Copy)]
 pub struct Limits {
@@ -13,17 +16,17 @@ pub struct Limits {
 
 impl Limits {
     // Whether minimum and maximum are in order and at most the bound.
-    pub fn valid_within(self, bound: u128) -> bool
-        ensures { result ≡ valid_limits self bound }
+    pub fn valid_within(self, bound: Wide) -> bool
+        ensures { result ≡ valid_limits self (whole bound) }
     {
-        u128::from(self.minimum) <= bound && (!self.bounded || self.maximum_within(bound))
+        bound.covers(self.minimum) && (!self.bounded || self.maximum_within(bound))
     }
 
     // Whether the maximum is at most the bound and not below the minimum.
-    fn maximum_within(self, bound: u128) -> bool
-        ensures { result ≡ valid_maximum self bound }
+    fn maximum_within(self, bound: Wide) -> bool
+        ensures { result ≡ valid_maximum self (whole bound) }
     {
-        u128::from(self.maximum) <= bound && self.minimum <= self.maximum
+        bound.covers(self.maximum) && self.minimum <= self.maximum
     }
 
     // Whether what has these limits may stand where `other` is wanted.

@@ -1,12 +1,14 @@
 // Memory types: validity, sizes in bytes, subtyping, the dynamic type.
-#![tactic(auto, using(crate::proofs::Picks::cases, crate::proofs::Sizes::sizes, crate::proofs::Built::built), unfolding(crate::specs::MemoryType::page_bound, crate::specs::MemoryType::valid_memory, crate::specs::MemoryType::validated, crate::specs::MemoryType::byte_size, crate::specs::MemoryType::minimum_bytes, crate::specs::MemoryType::maximum_bytes, crate::specs::MemoryType::match_memory, crate::specs::MemoryType::dynamic_memory))]
+#![tactic(auto, using(crate::proofs::Picks::cases, crate::proofs::Sizes::sizes, crate::proofs::Built::built, crate::proofs::Halves::halved), unfolding(crate::specs::Wide::halves, crate::specs::MemoryType::page_bound, crate::specs::MemoryType::valid_memory, crate::specs::MemoryType::validated, crate::specs::MemoryType::byte_size, crate::specs::MemoryType::minimum_bytes, crate::specs::MemoryType::maximum_bytes, crate::specs::MemoryType::match_memory, crate::specs::MemoryType::dynamic_memory))]
 
 ghost use Rattle.std.specs.Prelude.{◌≡◌, ◌*◌};
 ghost use Rattle.types.specs.MemoryType.{log2_of, page_bytes, page_bound, memory_type, valid_memory, build_memory, validated, byte_size, minimum_bytes, maximum_bytes, match_memory, dynamic_memory};
+ghost use Rattle.types.specs.Wide.{halves};
 
 use super::answer::{Reason, Refusal};
 use super::index_ty::IndexType;
 use super::limits::Limits;
+use super::wide::Wide;
 
 // Pages of one byte, or of 64 KiB.
 #[derive(Clone, Copy, PartialEq, Eq)]
@@ -89,10 +91,28 @@ impl MemoryType {
     }
 
     // The page bound: 2^32 or 2^64 bytes, in pages of 2^0 or 2^16.
-    pub fn absolute_max(self) -> u128
-        ensures { result ≡ page_bound self }
+    pub fn absolute_max(self) -> Wide
+        ensures { result ≡ halves (page_bound self) }
     {
-        self.index.max_size() >> self.page.page_size_log2()
+        match (self.index, self.page) {
+            (IndexType::I32, PageSize::One) => Wide {
+                high: 0,
+                low: 1 << 32,
+            },
+            (IndexType::I32, PageSize::Wasm) => Wide {
+                high: 0,
+                low: 1 << 16,
+            },
+            // 2^64 is 2^0 in the high half.
+            (IndexType::I64, PageSize::One) => Wide {
+                high: 1 << 0,
+                low: 0,
+            },
+            (IndexType::I64, PageSize::Wasm) => Wide {
+                high: 0,
+                low: 1 << 48,
+            },
+        }
     }
 
     pub fn minimum_byte_size(self) -> Option<u64>

@@ -1,13 +1,15 @@
 // Table types: validity, element kinds, subtyping, the dynamic type.
-#![tactic(auto, using(crate::proofs::Picks::cases), unfolding(crate::specs::TableType::table_bound, crate::specs::TableType::valid_table, crate::specs::TableType::validated, crate::specs::TableType::build_table, crate::specs::TableType::match_table, crate::specs::TableType::dynamic_table, crate::specs::TableType::element_matches))]
+#![tactic(auto, using(crate::proofs::Picks::cases, crate::proofs::Halves::halved), unfolding(crate::specs::Wide::halves, crate::specs::TableType::table_bound, crate::specs::TableType::valid_table, crate::specs::TableType::validated, crate::specs::TableType::build_table, crate::specs::TableType::match_table, crate::specs::TableType::dynamic_table, crate::specs::TableType::element_matches))]
 
 ghost use Rattle.std.specs.Prelude.{◌≡◌};
 ghost use Rattle.types.specs.TableType.{table_bound, valid_table, validated, build_table, match_table, dynamic_table, element_matches};
+ghost use Rattle.types.specs.Wide.{halves};
 
 use super::answer::{Reason, Refusal};
 use super::index_ty::IndexType;
 use super::limits::Limits;
 use super::raw::RefType;
+use super::wide::Wide;
 
 #[derive(Clone, Copy)]
 pub struct TableType {
@@ -54,10 +56,19 @@ impl TableType {
     }
 
     // The most cells: one below the largest size.
-    pub fn absolute_max(self) -> u128
-        ensures { result ≡ table_bound self }
+    pub fn absolute_max(self) -> Wide
+        ensures { result ≡ halves (table_bound self) }
     {
-        self.index.max_size() - 1
+        match self.index {
+            IndexType::I32 => Wide {
+                high: 0,
+                low: u32::MAX as u64,
+            },
+            IndexType::I64 => Wide {
+                high: 0,
+                low: u64::MAX,
+            },
+        }
     }
 
     // Whether a reference of this kind may stand in the table.

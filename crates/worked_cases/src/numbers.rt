@@ -77,7 +77,8 @@ pub(crate) fn types(rt: &impl Print) -> io::Result<()> {
 
 // 6 where a 32-bit table of 2^32-2 cells may not grow by so many.
 fn grown(delta: u64) -> u64 {
-    if u128::from(4294967294 + (delta % 4)) < IndexType::I32.max_size() {
+    let largest = IndexType::I32.max_size();
+    if largest.exceeds(4294967294 + (delta % 4)) {
         return 0;
     }
     6
