@@ -7,6 +7,8 @@ use Rattle.types.proofs.answer.Value.from_f64_bits.Reads as value_from_f64_bits_
 use Rattle.types.proofs.answer.Value.from_f64_bits.Kinds as value_from_f64_bits_kinds
 use Rattle.types.proofs.answer.Value.bits.Reads as value_bits_reads
 use Rattle.types.proofs.answer.Value.bits.Kinds as value_bits_kinds
+use Rattle.types.proofs.answer.RefusalFromReason.from.Reads as refusal_from_reads
+use Rattle.types.proofs.answer.RefusalFromReason.from.Kinds as refusal_from_kinds
 use Rattle.types.proofs.answer.number.Reads as answer_number_reads
 use Rattle.types.proofs.answer.number.Kinds as answer_number_kinds
 use Rattle.types.proofs.answer.shown.Reads as answer_shown_reads
@@ -136,6 +138,9 @@ value_from_f64_bits_one κs a x x' s s' z p q = p ∙ sym q
 
 pub value_bits_one : One 0 value_bits_kinds.ps value_bits_kinds.r value_bits_reads.Pre value_bits_reads.Post
 value_bits_one κs a x x' s s' z p q = p ∙ sym q
+
+pub refusal_from_one : One 0 refusal_from_kinds.ps refusal_from_kinds.r refusal_from_reads.Pre refusal_from_reads.Post
+refusal_from_one κs a x x' s s' z p q = p ∙ sym q
 
 pub answer_number_one : One 0 answer_number_kinds.ps answer_number_kinds.r answer_number_reads.Pre answer_number_reads.Post
 answer_number_one κs a x x' s s' z p q = p ∙ sym q
