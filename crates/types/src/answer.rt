@@ -64,7 +64,7 @@ impl From<Reason> for Refusal {
 // A value with its kind, or a refusal with its number and amount.
 pub type Answer = Result<Value, Refusal>;
 
-// Whether a pattern is a NaN's.
+// Whether a pattern is a NaN's. Of 32 bits and of 64: each names its own float, casts and case of Value, so a trait would say all of it twice too.
 fn is_nan32(bits: u32) -> bool
     ensures { result ≡ nan_bits binary32 bits }
 {

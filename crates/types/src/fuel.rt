@@ -20,6 +20,7 @@ pub struct FuelCosts {
 #[derive(Clone, Copy)]
 pub struct Fuel {
     pub remaining: u64,
+    // What is left counts with metering off too: an unchecked charge takes it.
     pub enabled: bool,
     pub costs: FuelCosts,
 }

@@ -9,6 +9,7 @@ use super::answer::{Answer, Reason, Refusal, Value};
 // The most answers that a script has.
 pub const LONGEST_SCRIPT: usize = 16;
 
+// The row is as long as a script can be: no heap.
 #[derive(Clone, Copy)]
 pub struct Limiter {
     pub script: [u8; LONGEST_SCRIPT],
@@ -46,7 +47,7 @@ impl Limiter {
         }
     }
 
-    // What the script says next: past its end, 0.
+    // What the script says next: past its end, 0. A number, since a record that is out of form may hold any byte (`says_of`).
     pub fn says(self) -> u8
         ensures { result ≡ says_of self }
     {

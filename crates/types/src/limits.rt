@@ -7,9 +7,10 @@ ghost use Rattle.types.specs.Wide.{whole};
 
 use super::wide::Wide;
 
-#[derive(Clone, Copy)]
+#[derive(Clone, Copy, PartialEq, Eq)]
 pub struct Limits {
     pub minimum: u64,
+    // No Option holds the maximum: a row in place (`row::operate`) keeps the word of one that is not used.
     pub bounded: bool,
     pub maximum: u64,
 }

@@ -74,7 +74,7 @@ impl MemoryType {
         ty.validated()
     }
 
-    // This type where it is valid, or refusal 1.
+    // This type where it is valid, or refusal 1. A trait over memory and table types would be longer than these two bodies.
     pub fn validated(self) -> Result<MemoryType, Refusal>
         ensures { result ≡ validated self }
     {
