@@ -1,12 +1,11 @@
 -- Laws of an access: its address, and the bytes that a store leaves. Assumes nothing.
-use Rattle.std.specs.Prelude.{Some, None, Option}
-use Rattle.types.proofs.Prelude.{ℕ, ◌+◌, ◌-◌, ◌^◌, ◌≤◌, ◌<◌, ◌≡◌, refl, sym, ap, ◌∙◌, Bool, true, false, List, arith, ltb, length, lt-ltb, le-ltb, pick_true}
-use Rattle.types.proofs.{Prelude.pick_false, Spans.within_is, Moves.put_part}
-use borrow.Rule.Slice.PartMut.{put_mid, mid_of, mid_len}
-use Rattle.types.specs.{Pick.pick, Done.done, Span.inside, Span.over, Answer.accept}
-use Rattle.memory.specs.{LittleEndian.le_bytes, Access.width_bytes, Access.address_of, Access.store_width, Access.store_found, stages.Facts.Found}
-use Rattle.memory.specs.{declared.access.Width.Width, declared.access.StoreKind.StoreKind}
-use Rattle.memory.proofs.Bytes.{length_bytes}
+use Rattle.std.specs.Prelude.{Some, None, Option, Ok}
+use Rattle.types.proofs.Prelude.{ℕ, ◌+◌, ◌-◌, ◌^◌, ◌≤◌, ◌<◌, ◌≡◌, refl, sym, ap, ◌∙◌, Bool, true, false, List, arith, ltb, lt-ltb, le-ltb, pick_true}
+use Rattle.types.proofs.{Prelude.pick_false, Spans.within_is}
+use Rattle.types.specs.{Pick.pick, Done.done, Span.inside, Span.cut, Span.over, Answer.refuse, Answer.accept}
+use Rattle.memory.specs.LittleEndian.{le_bytes, le_value}
+use Rattle.memory.specs.Access.{width_bytes, address_of, load_width, extend, loaded_of, load_found, load_at, store_width, store_found, store_at}
+use Rattle.memory.specs.{declared.access.Width.Width, declared.access.LoadKind.LoadKind, declared.access.StoreKind.StoreKind}
 
 -- the address of a sum that is no word, and of one that is
 pub address_over : (size ptr offset n : ℕ) → 2 ^ 64 - 1 - ptr < offset → None ≡ address_of size ptr offset n
@@ -40,20 +39,34 @@ address_is size ptr offset n a = go (ltb (ptr + offset) (2 ^ 64)) (inside (ptr +
     go true false e q = let z : ◌≡◌ {A = ℕ} 0 1 = cc in absurd (omega arith)
     go false u e q = let z : ◌≡◌ {A = ℕ} 0 1 = cc in absurd (omega arith)
 
-pub address_found : (size ptr offset n base len : ℕ) (r : Option ℕ) → r ≡ address_of size ptr offset n → base + size ≤ len → Found r base n len
-address_found size ptr offset n base len r e h a q = omega (arith, (address_is size ptr offset n a (sym e ∙ q)).1)
+-- what the code found of an access of width w, and where
+module _ (size ptr offset : ℕ) {w v : Width} {n : ℕ} {r : Option ℕ} (p : w ≡ v) (q : n ≡ width_bytes w) (d : r ≡ address_of size ptr offset n) where
+  pub asked : {x : Option ℕ} → r ≡ x → address_of size ptr offset (width_bytes v) ≡ x
+  asked e = ap (λ (u : Width). address_of size ptr offset (width_bytes u)) (sym p) ∙ ap (address_of size ptr offset) (sym q) ∙ sym d ∙ e
 
--- a part that became a number's bytes
-pub put_bytes : (a n v : ℕ) (l ys : List ℕ) → a + n ≤ length l → ys ≡ le_bytes (length (mid_of a (a + n - a) l)) v → put_mid a (a + n - a) l ys ≡ over l a (le_bytes n v)
-put_bytes a n v l ys g q =
-    let e : a + n - a ≡ n = omega arith in
-    let r : ys ≡ le_bytes n v = q ∙ ap (λ (k : ℕ). le_bytes k v) (mid_len a (a + n) l g ∙ e) in
-    ap (put_mid a (a + n - a) l) r ∙ put_part a (a + n) l (le_bytes n v) (omega arith) g (length_bytes n v ∙ sym e)
+  pub address_found : (base len : ℕ) {a : ℕ} → r ≡ Some a → base + size ≤ len → base + a + width_bytes w ≤ len
+  address_found base len {a} e h = omega (arith, (address_is size ptr offset n a (sym d ∙ e)).1, q)
 
--- an accepted store, by where it goes
-pub stored_at : (k : StoreKind) (bs : List ℕ) (base v a : ℕ) (f : Option ℕ) (w : Width) (cs : List ℕ) → f ≡ Some a → w ≡ store_width k
-    → cs ≡ over bs (base + a) (le_bytes (width_bytes w) v) → done (accept 0) cs ≡ store_found k bs base v f
-unfolding store_found
-stored_at k bs base v a f w cs e q p =
-    ap (done (accept 0)) (p ∙ ap (λ (x : Width). over bs (base + a) (le_bytes (width_bytes x) v)) q)
-    ∙ ap (store_found k bs base v) (sym e)
+-- a load by what was found
+module _ (k : LoadKind) (bs : List ℕ) (base size ptr offset : ℕ) where
+  pub load_missed : address_of size ptr offset (width_bytes (load_width k)) ≡ None → refuse 9 0 ≡ load_at k bs base size ptr offset
+  unfolding load_at load_found
+  load_missed e = ap (load_found k bs base) (sym e)
+
+  pub loaded_at : {w : Width} {a v : ℕ} → w ≡ load_width k → address_of size ptr offset (width_bytes (load_width k)) ≡ Some a
+      → v ≡ le_value (cut bs (base + a) (width_bytes w)) → Ok (extend k v) ≡ load_at k bs base size ptr offset
+  unfolding load_at load_found loaded_of
+  loaded_at {w} {a} p e q =
+      ap (λ (x : ℕ). Ok (extend k x)) (q ∙ ap (λ (u : Width). le_value (cut bs (base + a) (width_bytes u))) p) ∙ ap (load_found k bs base) (sym e)
+
+-- a store by what was found
+module _ (k : StoreKind) (bs : List ℕ) (base size ptr offset v : ℕ) where
+  pub store_missed : address_of size ptr offset (width_bytes (store_width k)) ≡ None → done (refuse 9 0) bs ≡ store_at k bs base size ptr offset v
+  unfolding store_at store_found
+  store_missed e = ap (store_found k bs base v) (sym e)
+
+  pub stored_at : {w : Width} {a : ℕ} {cs : List ℕ} → w ≡ store_width k → address_of size ptr offset (width_bytes (store_width k)) ≡ Some a
+      → cs ≡ over bs (base + a) (le_bytes (width_bytes w) v) → done (accept 0) cs ≡ store_at k bs base size ptr offset v
+  unfolding store_at store_found
+  stored_at {w} {a} p e q =
+      ap (done (accept 0)) (q ∙ ap (λ (u : Width). over bs (base + a) (le_bytes (width_bytes u) v)) p) ∙ ap (store_found k bs base v) (sym e)

@@ -1,6 +1,4 @@
 pub mod Bytes
-pub mod Patterns
-pub mod Values
 pub mod Accesses
 pub mod Sounds
 pub mod Growths

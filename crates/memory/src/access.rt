@@ -1,14 +1,11 @@
 // Little-endian loads and stores: one routine over a byte count each, and the typed ones above them.
 ghost use Rattle.std.specs.Prelude.{◌≡◌, ◌+◌, ◌*◌, ◌^◌, ◌≤◌, ◌<◌, length};
-ghost use Rattle.std.specs.Int.{w64};
-ghost use Rattle.std.proofs.Common.{to_z};
 ghost use Rattle.types.specs.Done.{done};
 ghost use Rattle.types.specs.Span.{over};
 ghost use Rattle.memory.specs.LittleEndian.{le_bytes};
-ghost use Rattle.memory.specs.stages.Facts.{Read, Reach, SignsBy, signed_of, Found};
-ghost use Rattle.memory.specs.Access.{address_of, width_bytes, load_width, extend, loaded_of, load_found, load_at, load, store_width, store_found, store_at, store};
+ghost use Rattle.memory.specs.stages.Facts.{Read, Reach};
+ghost use Rattle.memory.specs.Access.{address_of, width_bytes, load_width, extend, load_at, load, store_width, store_at, store};
 
-use super::buffer;
 use types::answer::{Answer, Refusal, Value};
 
 // How many bytes an access has.
@@ -110,19 +107,8 @@ impl StoreKind {
 pub fn locate(size: u64, ptr: u64, offset: u64, n: u64) -> Option<u64>
     ensures { result ≡ address_of size ptr offset n }
 {
-    if 18446744073709551615 - ptr < offset {
-        return None;
-    }
-    if types::span::within(ptr + offset, n, size) {
-        return Some(ptr + offset);
-    }
-    None
-}
-
-fn wide(b: u8) -> u64
-    ensures { (result ≡ b) × (result < 256) }
-{
-    b as u64
+    let at = ptr.checked_add(offset)?;
+    types::span::within(at, n, size).then_some(at)
 }
 
 // The number of `n` bytes.
@@ -130,13 +116,9 @@ fn load_n(bytes: &[u8], at: usize, n: usize) -> u64
     requires { Reach at n (length bytes.now) }
     ensures { Read bytes.now at n result }
 {
-    let mut r: u64 = 0;
-    let mut i = n;
-    while 0 < i {
-        i -= 1;
-        r = r * 256 + wide(bytes[at + i]);
-    }
-    r
+    let mut row = [0u8; 8];
+    row[..n].copy_from_slice(&bytes[at..at + n]);
+    u64::from_le_bytes(row)
 }
 
 // The number of the bytes of a width: a literal count is one load in the machine code.
@@ -152,67 +134,27 @@ fn load_width(bytes: &[u8], at: usize, width: Width) -> u64
     }
 }
 
-// The number of a bit pattern whose sign's bit is worth `top`: one sign-extending move in the machine code.
-fn signed(x: u64, top: u64) -> i64
-    requires { SignsBy top x }
-    ensures { result ≡ signed_of top x }
-{
-    (((x + top) % (top + top)) as i64) - (top as i64)
-}
-
-// The same for all 64 bits.
-fn signed64(x: u64) -> i64
-    ensures { result ≡ to_z w64 x }
-{
-    if x < 9223372036854775808 {
-        return x as i64;
-    }
-    -1 - ((18446744073709551615 - x) as i64)
-}
-
 // The value of the bits that a load read.
+#[tactic(auto, using(std::proofs::lemmas::Int::ints), unfolding(crate::specs::Access::extend))]
 fn value(kind: LoadKind, bits: u64) -> Value
     requires { bits < 2 ^ (8 * width_bytes (load_width kind)) }
     ensures { result ≡ extend kind bits }
 {
     match kind {
-        LoadKind::I32 => Value::I32(signed(bits, 2147483648) as i32),
-        LoadKind::I64 => Value::I64(signed64(bits)),
+        LoadKind::I32 => Value::I32((bits as u32).cast_signed()),
+        LoadKind::I64 => Value::I64(bits.cast_signed()),
         LoadKind::F32 => Value::from_f32_bits(bits as u32),
         LoadKind::F64 => Value::from_f64_bits(bits),
-        LoadKind::I32From8S => Value::I32(signed(bits, 128) as i32),
+        LoadKind::I32From8S => Value::I32(i32::from((bits as u8).cast_signed())),
         LoadKind::I32From8U => Value::I32(bits as i32),
-        LoadKind::I32From16S => Value::I32(signed(bits, 32768) as i32),
+        LoadKind::I32From16S => Value::I32(i32::from((bits as u16).cast_signed())),
         LoadKind::I32From16U => Value::I32(bits as i32),
-        LoadKind::I64From8S => Value::I64(signed(bits, 128)),
+        LoadKind::I64From8S => Value::I64(i64::from((bits as u8).cast_signed())),
         LoadKind::I64From8U => Value::I64(bits as i64),
-        LoadKind::I64From16S => Value::I64(signed(bits, 32768)),
+        LoadKind::I64From16S => Value::I64(i64::from((bits as u16).cast_signed())),
         LoadKind::I64From16U => Value::I64(bits as i64),
-        LoadKind::I64From32S => Value::I64(signed(bits, 2147483648)),
+        LoadKind::I64From32S => Value::I64(i64::from((bits as u32).cast_signed())),
         LoadKind::I64From32U => Value::I64(bits as i64),
-    }
-}
-
-// The value at a place where it fits.
-fn load_value(bytes: &[u8], at: usize, kind: LoadKind) -> Answer
-    requires { at + width_bytes (load_width kind) ≤ length bytes.now }
-    ensures { result ≡ loaded_of kind bytes.now at }
-{
-    let bits = load_width(bytes, at, kind.width());
-    Ok(value(kind, bits))
-}
-
-// By where the access starts.
-fn load_found(bytes: &[u8], base: usize, kind: LoadKind, found: Option<u64>) -> Answer
-    requires { Found found base (width_bytes (load_width kind)) (length bytes.now) }
-    ensures { result ≡ load_found kind bytes.now base found }
-{
-    match found {
-        None => Err(Refusal {
-            number: 9,
-            amount: 0,
-        }),
-        Some(a) => load_value(bytes, base + (a as usize), kind),
     }
 }
 
@@ -228,17 +170,27 @@ pub(crate) fn load_at(
     requires { base + size ≤ length bytes.now }
     ensures { result ≡ load_at kind bytes.now base size ptr offset }
 {
-    let n = kind.width().bytes();
-    let found = locate(size, ptr, offset, n);
-    load_found(bytes, base, kind, found)
+    let width = kind.width();
+    let Some(at) = locate(size, ptr, offset, width.bytes()) else {
+        return Err(Refusal::of(9));
+    };
+    let bits = load_width(bytes, base + (at as usize), width);
+    Ok(value(kind, bits))
 }
 
 // A load from a memory that has all the bytes.
 pub fn load(bytes: &[u8], kind: LoadKind, ptr: u64, offset: u64) -> Answer
     ensures { result ≡ load kind bytes.now ptr offset }
 {
-    let size = bytes.len() as u64;
-    load_at(bytes, 0, size, kind, ptr, offset)
+    load_at(bytes, 0, bytes.len() as u64, kind, ptr, offset)
+}
+
+// The low `n` bytes of a number, at most 8, go to a place.
+fn store_n(bytes: &mut [u8], at: usize, n: usize, bits: u64)
+    requires { Reach at n (length bytes.old) }
+    ensures { bytes.new ≡ over bytes.old at (le_bytes n bits) }
+{
+    bytes[at..at + n].copy_from_slice(&bits.to_le_bytes()[..n]);
 }
 
 // The low bytes of a number go to the part of a width: a literal count is one store in the machine code.
@@ -251,37 +203,6 @@ fn store_width(bytes: &mut [u8], at: usize, width: Width, bits: u64)
         Width::W16 => store_n(bytes, at, 2, bits),
         Width::W32 => store_n(bytes, at, 4, bits),
         Width::W64 => store_n(bytes, at, 8, bits),
-    }
-}
-
-// The span of the `n` bytes is lent on.
-fn store_n(bytes: &mut [u8], at: usize, n: usize, bits: u64)
-    requires { at + n ≤ length bytes.old }
-    ensures { bytes.new ≡ over bytes.old at (le_bytes n bits) }
-{
-    buffer::put_number(&mut bytes[at..at + n], bits);
-}
-
-// By where the access starts.
-fn store_found(
-    bytes: &mut [u8],
-    base: usize,
-    kind: StoreKind,
-    bits: u64,
-    found: Option<u64>,
-) -> Answer
-    requires { Found found base (width_bytes (store_width kind)) (length bytes.old) }
-    ensures { done result bytes.new ≡ store_found kind bytes.old base bits found }
-{
-    match found {
-        None => Err(Refusal {
-            number: 9,
-            amount: 0,
-        }),
-        Some(a) => {
-            store_width(bytes, base + (a as usize), kind.width(), bits);
-            Ok(Value::Number(0))
-        }
     }
 }
 
@@ -298,9 +219,12 @@ pub(crate) fn store_at(
     requires { base + size ≤ length bytes.old }
     ensures { done result bytes.new ≡ store_at kind bytes.old base size ptr offset bits }
 {
-    let n = kind.width().bytes();
-    let found = locate(size, ptr, offset, n);
-    store_found(bytes, base, kind, bits, found)
+    let width = kind.width();
+    let Some(at) = locate(size, ptr, offset, width.bytes()) else {
+        return Err(Refusal::of(9));
+    };
+    store_width(bytes, base + (at as usize), width, bits);
+    Ok(Value::Number(0))
 }
 
 // A store to a memory that has all the bytes.

@@ -2,7 +2,6 @@
 #![tactic(auto)]
 
 pub mod access;
-pub mod buffer;
 pub mod grow;
 pub mod memory;
 pub mod new;

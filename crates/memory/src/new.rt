@@ -7,7 +7,6 @@ ghost use Rattle.types.specs.Span.{over};
 ghost use Rattle.memory.specs.New.{refused, new_memory};
 ghost use Rattle.memory.specs.stages.New.{made_by, made_of, by_size, by_type};
 
-use super::buffer;
 use super::memory::Memory;
 use types::answer::Refusal;
 use types::limiter::Limiter;
@@ -33,7 +32,7 @@ pub(crate) fn zero(bytes: &mut [u8], from: usize, n: usize)
     requires { from + n ≤ length bytes.old }
     ensures { bytes.new ≡ over bytes.old from (replicate n 0) }
 {
-    buffer::fill(&mut bytes[from..from + n], 0);
+    bytes[from..from + n].fill(0);
 }
 
 // The memory that was granted.

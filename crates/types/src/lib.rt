@@ -9,6 +9,7 @@ pub mod limiter;
 pub mod limits;
 pub mod memory_ty;
 pub mod raw;
+pub mod refusal;
 pub mod span;
 pub mod table_ty;
 pub mod wide;

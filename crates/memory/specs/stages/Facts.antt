@@ -1,6 +1,5 @@
 -- What the inner functions of this crate ask of each other, as records of plain facts; no public function asks any.
-use Rattle.std.specs.Prelude.{ℕ, suc, ◌+◌, ◌-◌, ◌*◌, ◌^◌, ◌≤◌, ◌<◌, ◌≡◌, List, ltb, ℤ, pos, negsuc, Some, Option}
-use mir.Val.{sel}
+use Rattle.std.specs.Prelude.{ℕ, ◌+◌, ◌*◌, ◌^◌, ◌≤◌, ◌<◌, ◌≡◌, List, Some, Option}
 use Rattle.types.specs.Span.{cut}
 use Rattle.memory.specs.LittleEndian.{le_value}
 use Rattle.memory.specs.declared.memory.Memory.{Memory}
@@ -14,20 +13,6 @@ pub record Reach (at n len : ℕ) : Type 0 where
 pub record Read (bs : List ℕ) (at n r : ℕ) : Type 0 where
   pub value : r ≡ le_value (cut bs at n)
   pub small : r < 2 ^ (8 * n)
-
--- an address that was found leaves room for n bytes behind base
-abbrev pub Found : Option ℕ → ℕ → ℕ → ℕ → Type 0
-Found found base n len = (a : ℕ) → found ≡ Some a → base + (a + n) ≤ len
-
--- the number of a bit pattern whose sign's bit is worth top
-unfoldable pub signed_of : ℕ → ℕ → ℤ
-signed_of top x = sel (ltb x top) (pos x) (negsuc (top + top - suc x))
-
--- a pattern below twice its sign's bit
-pub record SignsBy (top x : ℕ) : Type 0 where
-  pub some : 0 < top
-  pub fits : top ≤ 2 ^ 62
-  pub below : x < top + top
 
 -- a size no less than before that lies in the room, and the room in the buffer
 pub record Roomy (m : Memory) (size len : ℕ) : Type 0 where

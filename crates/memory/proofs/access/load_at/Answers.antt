@@ -1,15 +1,21 @@
-use Rattle.types.proofs.Prelude.{◌≡◌}
-use Rattle.memory.proofs.Accesses.{address_found}
-use Rattle.memory.specs.Access.{address_of, load_at, load_width, width_bytes}
+use Rattle.types.proofs.Prelude.{ap, ◌∙◌, arith}
+use Rattle.std.specs.Prelude.{Ok, Err}
+use Rattle.memory.proofs.Accesses.{address_found, asked, load_missed, loaded_at}
 use Rattle.memory.proofs.access.load_at.Goals as goal
 
-pub load_found-requires : goal.load_found-requires
-load_found-requires c =
-    let s = c in
-    let a = s.args in
-    let e : c.locate-found.result ≡ address_of a.size a.ptr a.offset (width_bytes (load_width a.kind)) = cc in
-    address_found _ _ _ _ _ _ _ e s.requires
+pub returns-in_default : goal.returns-in_default
+returns-in_default c =
+    ap Err c.of.ensures ∙ load_missed _ _ _ _ _ _ (asked _ _ _ c.width-width.ensures c.bytes.ensures c.locate.ensures c.in_default.is)
+
+pub overflow_add-base : goal.overflow_add-base
+overflow_add-base c =
+    let h = address_found _ _ _ c.width-width.ensures c.bytes.ensures c.locate.ensures _ _ c.in-Some.is c.requires in
+    omega arith
+
+pub load_width-bits-requires : goal.load_width-bits-requires
+load_width-bits-requires c = address_found _ _ _ c.width-width.ensures c.bytes.ensures c.locate.ensures _ _ c.in-Some.is c.requires
 
 pub returns : goal.returns
-unfolding load_at
-returns c = cc
+returns c =
+    ap Ok c.value.ensures
+    ∙ loaded_at _ _ _ _ _ _ c.width-width.ensures (asked _ _ _ c.width-width.ensures c.bytes.ensures c.locate.ensures c.in-Some.is) c.load_width-bits.ensures.value

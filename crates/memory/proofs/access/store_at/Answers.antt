@@ -1,15 +1,21 @@
-use Rattle.types.proofs.Prelude.{◌≡◌}
-use Rattle.memory.proofs.Accesses.{address_found}
-use Rattle.memory.specs.Access.{address_of, store_at, store_width, width_bytes}
+use Rattle.types.proofs.Prelude.{ap, ◌∙◌, arith}
+use Rattle.std.specs.Prelude.{Err}
+use Rattle.types.specs.{Done.done, declared.answer.Refusal.Refusal}
+use Rattle.memory.proofs.Accesses.{address_found, asked, store_missed, stored_at}
 use Rattle.memory.proofs.access.store_at.Goals as goal
 
-pub store_found-requires : goal.store_found-requires
-store_found-requires c =
-    let s = c in
-    let a = s.args in
-    let e : c.locate-found.result ≡ address_of a.size a.ptr a.offset (width_bytes (store_width a.kind)) = cc in
-    address_found _ _ _ _ _ _ _ e s.requires
+pub returns-in_default : goal.returns-in_default
+returns-in_default c =
+    ap (λ (r : Refusal). done (Err r) c.args.bytes.now) c.of.ensures ∙ store_missed _ _ _ _ _ _ _ (asked _ _ _ c.width-width.ensures c.bytes.ensures c.locate.ensures c.in_default.is)
+
+pub overflow_add-base : goal.overflow_add-base
+overflow_add-base c =
+    let h = address_found _ _ _ c.width-width.ensures c.bytes.ensures c.locate.ensures _ _ c.in-Some.is c.requires in
+    omega arith
+
+pub store_width-requires : goal.store_width-requires
+store_width-requires c = address_found _ _ _ c.width-width.ensures c.bytes.ensures c.locate.ensures _ _ c.in-Some.is c.requires
 
 pub returns : goal.returns
-unfolding store_at
-returns c = cc
+returns c =
+    stored_at _ _ _ _ _ _ _ c.width-width.ensures (asked _ _ _ c.width-width.ensures c.bytes.ensures c.locate.ensures c.in-Some.is) c.store_width.ensures

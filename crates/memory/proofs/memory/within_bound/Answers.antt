@@ -4,14 +4,14 @@ use Rattle.types.specs.declared.memory_ty.PageSize.TheVariants.{One, Wasm}
 use borrow.Author.Rules.{rules}
 use Rattle.memory.proofs.memory.within_bound.Goals as goal
 
-pub returns-in-One : goal.returns-in-One
-returns-in-One c = bound_of _ I32 One _ (search rules) (search rules)
+pub returns-in-I32-One : goal.returns-in-I32-One
+returns-in-I32-One c = bound_of _ I32 One _ (search rules) (search rules)
 
-pub returns-in-Wasm : goal.returns-in-Wasm
-returns-in-Wasm c = bound_of _ I32 Wasm _ (search rules) (search rules)
+pub returns-in-I32-Wasm : goal.returns-in-I32-Wasm
+returns-in-I32-Wasm c = bound_of _ I32 Wasm _ (search rules) (search rules)
 
-pub returns-in-One-page : goal.returns-in-One-page
-returns-in-One-page c = bound_all _ _ (search rules) (search rules) (search rules)
+pub returns-in-I64-One : goal.returns-in-I64-One
+returns-in-I64-One c = bound_all _ _ (search rules) (search rules) (search rules)
 
-pub returns-in-Wasm-page : goal.returns-in-Wasm-page
-returns-in-Wasm-page c = bound_of _ I64 Wasm _ (search rules) (search rules)
+pub returns-in-I64-Wasm : goal.returns-in-I64-Wasm
+returns-in-I64-Wasm c = bound_of _ I64 Wasm _ (search rules) (search rules)

@@ -1,15 +1,12 @@
-use Rattle.types.proofs.Prelude.{known_test}
-use Rattle.memory.proofs.{Sounds.sound_used, Stages.stage}
-use Rattle.memory.specs.Host.{read_memory}
+use Rattle.types.proofs.Prelude.{refl, sym, ◌∙◌, pick_true, known_test}
+use Rattle.types.proofs.Dones.{done_as}
+use Rattle.memory.proofs.Copies.{part_cut}
+use Rattle.memory.specs.Host.{read_memory, read_used}
 use Rattle.memory.proofs.memory.Memory.read.Goals as goal
 
-pub read_used-requires : goal.read_used-requires
-read_used-requires c = sound_used _ _ (known_test c.is_sound.ensures c.if-is_sound.true)
-
-pub returns-then-is_sound : goal.returns-then-is_sound
-unfolding read_memory
-returns-then-is_sound c = search stage
-
 pub returns : goal.returns
-unfolding read_memory
-returns c = search stage
+unfolding read_memory read_used
+returns c =
+    let s = known_test c.is_sound.ensures c.if-not-is_sound.false in
+    let w = known_test c.within.ensures c.if-not-within.false in
+    done_as refl (part_cut _ _ _ _ c.copy_from_slice.ensures.after) ∙ sym (pick_true _ _ _ s ∙ pick_true _ _ _ w)

@@ -1,15 +1,14 @@
-use Rattle.types.proofs.Prelude.{known_test}
-use Rattle.memory.proofs.{Sounds.sound_used, Stages.stage}
-use Rattle.memory.specs.Host.{write_memory}
+use Rattle.types.proofs.Prelude.{refl, sym, ◌∙◌, ◌+◌, arith, pick_true, known_test}
+use Rattle.types.proofs.{Dones.done_as, Spans.within_is}
+use Rattle.memory.proofs.{Copies.put_list, Sounds.sound_used}
+use Rattle.memory.specs.Host.{write_memory, write_used}
 use Rattle.memory.proofs.memory.Memory.write.Goals as goal
 
-pub write_used-requires : goal.write_used-requires
-write_used-requires c = sound_used _ _ (known_test c.is_sound.ensures c.if-is_sound.true)
-
-pub returns-then-is_sound : goal.returns-then-is_sound
-unfolding write_memory
-returns-then-is_sound c = search stage
-
 pub returns : goal.returns
-unfolding write_memory
-returns c = search stage
+unfolding write_memory write_used
+returns c =
+    let a = c.args in
+    let s = known_test c.is_sound.ensures c.if-not-is_sound.false in
+    let w = known_test c.within.ensures c.if-not-within.false in
+    let e = put_list (a.self.start + a.offset) _ a.bytes.now a.from.now _ refl (omega (arith, sound_used _ _ s, within_is _ _ _ w)) c.copy_from_slice.ensures.after in
+    done_as refl e ∙ sym (pick_true _ _ _ s ∙ pick_true _ _ _ w)
