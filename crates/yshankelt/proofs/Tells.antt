@@ -1,5 +1,5 @@
 -- Laws of what C is told of a machine in a row of words. Assumes nothing.
-use Rattle.types.proofs.Prelude.{ℕ, ◌+◌, ◌≤◌, ◌<◌, ◌≡◌, refl, sym, ap, ◌∙◌, true, false, List, arith, length, replicate, le-leb}
+use Rattle.types.proofs.Prelude.{ℕ, ◌+◌, ◌≤◌, ◌<◌, ◌≡◌, refl, sym, ap, ◌∙◌, true, false, List, [], ◌∷◌, arith, length, get_or, replicate, le-leb}
 use Rattle.types.proofs.{Prelude.pick_true, Prelude.pick_false, Prelude.either, Spans.length_over}
 use Rattle.types.specs.{Pick.pick, Span.over, Answer.refuse, Raw.raw_bytes}
 use Rattle.machine.specs.{Machine.Buffers, Operation.well_formed, Outcome.settled, Outcome.changed, Step.decide, Step.step}
@@ -11,6 +11,21 @@ use Rattle.lines.specs.{Line.line_of, Line.line_text, stages.Back.filled, Sayabl
 use Rattle.lines.proofs.FieldText.{line_write}
 use Rattle.yshankelt.specs.Whole.{good_line, line_from, answered, told, operate_of}
 use Rattle.lines.specs.declared.code.Read.TheVariants as read
+
+-- at most 8 fields, place by place
+pub eight_fields : (l : List ℕ) → length l ≤ 8
+    → get_or l 0 0 ∷ get_or l 1 0 ∷ get_or l 2 0 ∷ get_or l 3 0 ∷ get_or l 4 0 ∷ get_or l 5 0 ∷ get_or l 6 0 ∷ get_or l 7 0 ∷ [] ≡ over (replicate 8 0) 0 l
+unfolding over
+eight_fields [] h = refl
+eight_fields (a ∷ []) h = refl
+eight_fields (a ∷ b ∷ []) h = refl
+eight_fields (a ∷ b ∷ d ∷ []) h = refl
+eight_fields (a ∷ b ∷ d ∷ e ∷ []) h = refl
+eight_fields (a ∷ b ∷ d ∷ e ∷ f ∷ []) h = refl
+eight_fields (a ∷ b ∷ d ∷ e ∷ f ∷ g ∷ []) h = refl
+eight_fields (a ∷ b ∷ d ∷ e ∷ f ∷ g ∷ i ∷ []) h = refl
+eight_fields (a ∷ b ∷ d ∷ e ∷ f ∷ g ∷ i ∷ j ∷ []) h = refl
+eight_fields (a ∷ b ∷ d ∷ e ∷ f ∷ g ∷ i ∷ j ∷ k ∷ l) h = absurd (omega (arith, h))
 
 -- the code and fields stand for the line of text that one would write
 pub line_said : (code : ℕ) (fields : List ℕ) → code < 256 → length fields ≤ 8 → Small fields → line_of (line_text code fields) ≡ line_from code fields

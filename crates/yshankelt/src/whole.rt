@@ -1,7 +1,7 @@
 // A whole machine in a row of words that the host owns: made, operated, and asked for its sizes.
-#![tactic(auto, using(types::proofs::Picks::cases), unfolding(crate::specs::Whole::line_from, crate::specs::Whole::answered, crate::specs::Whole::told, crate::specs::Whole::operate_of, lines::specs::AnswerLine::fuel_shown, types::specs::Span::over))]
+#![tactic(auto, using(types::proofs::Picks::cases), unfolding(crate::specs::Whole::line_from, crate::specs::Whole::answered, crate::specs::Whole::told, crate::specs::Whole::operate_of, lines::specs::AnswerLine::fuel_shown))]
 
-ghost use Rattle.std.specs.Prelude.{◌≡◌, ◌≤◌, length, replicate};
+ghost use Rattle.std.specs.Prelude.{◌≡◌, ◌≤◌, length, get_or, replicate};
 ghost use Rattle.types.specs.Answer.{refuse};
 ghost use Rattle.types.specs.Span.{over};
 ghost use Rattle.machine.specs.Machine.{Buffers, buffers};
@@ -38,14 +38,28 @@ pub extern "C" fn ysh_machine_new(words: &mut [u64], metering: bool, copied: u32
     row::fresh(words, metering, costs(copied))
 }
 
-// The fields, and zeros behind them.
+// A field, 0 past the last.
+fn field(fields: &[u64], i: usize) -> u64
+    ensures { result ≡ get_or fields.now i 0 }
+{
+    fields.get(i).copied().unwrap_or(0)
+}
+
+// The fields, and zeros behind them. Place by place: a copy by length is a call, 1.5 ns of an operation's 47.
 fn padded(fields: &[u64]) -> [u64; MOST_FIELDS]
     requires { length fields.now ≤ most_fields }
     ensures { result ≡ over (replicate most_fields 0) 0 fields.now }
 {
-    let mut list = [0; MOST_FIELDS];
-    list[..fields.len()].copy_from_slice(fields);
-    list
+    [
+        field(fields, 0),
+        field(fields, 1),
+        field(fields, 2),
+        field(fields, 3),
+        field(fields, 4),
+        field(fields, 5),
+        field(fields, 6),
+        field(fields, 7),
+    ]
 }
 
 fn line_from(code: u8, fields: &[u64]) -> Line
