@@ -1,7 +1,7 @@
 -- A growth at a place of a lent list is the machine's own step on all that is lent, where all else that is lent is sound. Assumes nothing.
 use Rattle.types.proofs.Prelude.{ℕ, zero, suc, ◌≤◌, ◌<◌, ◌≡◌, refl, sym, ap, ◌∙◌, Bool, true, false, List, [], ◌∷◌, arith, leb, ltb, length, take, leb-true}
 use Rattle.types.proofs.Prelude.{leb-false, le-leb, lt-ltb, pick_true, pick_false, both_true, both_1, both_2, both_left, both_right, both_then, both_last, either}
-use lib.ListN.{take-append-drop}
+use Rattle.std.proofs.lemmas.List.{take-append-drop, get_or-take}
 use Rattle.types.specs.{Numbers.word32, Pick.pick, Pick.both, Answer.refuse, Done.Done, Answer.Answer, declared.raw.TypedRawRef.TypedRawRef}
 use Rattle.memory.specs.{Memory.sound_memory, Grow.grow_memory, declared.memory.Memory.Memory, declared.grow.GrownMemory.GrownMemory}
 use Rattle.table.specs.{Table.sound_table, Grow.grow_table, declared.table.Table.Table, declared.grow.GrownTable.GrownTable}
@@ -15,7 +15,7 @@ use Rattle.lent.specs.Growth.{Lending, lending, Grew, grow_at}
 use Rattle.lent.specs.Memories.{sound_memory_list, record_of as memory_of, memory_grown, grow_memory_at}
 use Rattle.lent.specs.Tables.{sound_table_list, record_of as table_of, table_grown, grow_table_at}
 use Rattle.lent.specs.Records.{Lent, lent, machine_of, long_enough, placed, lent_back, LentStepped, lent_stepped, unfit, step_placed, lent_step}
-use Rattle.lent.proofs.{Lists.set_front, Lists.get_front, Lists.front_sound}
+use Rattle.lent.proofs.{Lists.set_front, Lists.front_sound}
 use Rattle.lent.specs.stages.Listed.{few}
 use Rattle.lent.proofs.GrowthAnswers.{memory_answers, table_answers}
 use Rattle.machine.specs.declared.operation.Operation.TheVariants as operation
@@ -82,7 +82,7 @@ module _ (r : ℕ) (x : Lent) (b : Buffers) where
     memory_tests true false h = kept_all (refuse 16 0)
     memory_tests true true h =
         memory_stored_lem (grown (memory_at m i)) (h refl refl)
-        ∙ ap (λ (y : Memory). with_memories (memory_grown i memories_of (grown y))) (get_front 8 i x.memories no_memory (h refl refl))
+        ∙ ap (λ (y : Memory). with_memories (memory_grown i memories_of (grown y))) (get_or-take 8 x.memories i no_memory (h refl refl))
 
     memories_over : 8 ≤ length x.memories → sound_over m b ≡ sound_memory_list x.standing.counts.memories memories_of
     unfolding sound_machine sound_memories sound_memory_list
@@ -140,7 +140,7 @@ module _ (r : ℕ) (x : Lent) (b : Buffers) where
     table_tests true false h = kept_all (refuse 16 0)
     table_tests true true h =
         table_stored_lem (table_grown_lem (table_at m i)) (h refl refl)
-        ∙ ap (λ (y : Table). with_tables (table_grown i tables_of (table_grown_lem y))) (get_front 8 i x.tables no_table (h refl refl))
+        ∙ ap (λ (y : Table). with_tables (table_grown i tables_of (table_grown_lem y))) (get_or-take 8 x.tables i no_table (h refl refl))
 
     tables_over : 8 ≤ length x.tables → sound_over m b ≡ sound_table_list x.standing.counts.tables tables_of
     unfolding sound_machine sound_references sound_tables sound_table_list

@@ -1,7 +1,8 @@
 -- Laws of an operation on lent lists: the lists with the record that changed are the machine's records in front. Assumes nothing.
-use Rattle.types.proofs.Prelude.{ℕ, ◌≤◌, ◌<◌, ◌≡◌, sym, ap, ◌∙◌, Bool, true, false, List, arith, ltb, length, ltb-true, leb-true}
-use Rattle.types.proofs.Prelude.{le-leb, pick_true, pick_false, both_true, both_1, both_2, either}
-use lib.ListN.{take-append-drop}
+use Rattle.types.proofs.Prelude.{ℕ, ◌≤◌, ◌<◌, ◌≡◌, sym, ap, ◌∙◌, Bool, true, false, List, ◌++◌, arith, ltb, length, take, drop, ltb-true, leb-true}
+use Rattle.types.proofs.Prelude.{take_all, append-nil, le-leb, pick_true, pick_false, both_true, both_1, both_2, either}
+use Rattle.std.proofs.lemmas.List.{take-append-drop}
+use Rattle.std.proofs.Math.ListN.{drop_of_length-le}
 use Rattle.types.proofs.Picks.{pick_ap}
 use Rattle.types.specs.{Pick.pick, declared.fuel.Fuel.Fuel}
 use Rattle.memory.specs.declared.memory.Memory.{Memory}
@@ -10,7 +11,7 @@ use Rattle.machine.specs.{Machine.Buffers, Outcome.changed, Outcome.settled, Ste
 use Rattle.machine.specs.{declared.records.Machine.Machine, declared.outcome.Change.Change, declared.operation.Operation.Operation}
 use Rattle.lent.specs.declared.operate.Standing.{Standing}
 use Rattle.lent.specs.Records.{Lent, lent, gathered, machine_of, in_front, long_enough, placed, lent_back, LentStepped, lent_stepped, unfit, step_placed, lent_step}
-use Rattle.lent.proofs.Lists.{set_front, take_all, nothing_after}
+use Rattle.lent.proofs.Lists.{set_front}
 use Rattle.machine.specs.declared.outcome.Change.TheVariants as change
 
 -- each list of what is lent has its places
@@ -89,6 +90,13 @@ module _ (r : ℕ) (ms : List Memory) (ts : List Table) (gs : List ElementSegmen
   unfolding long_enough
   all_placed = both_true _ _ (le-leb 8 (length ms) (omega (arith, em))) (both_true _ _ (le-leb 8 (length ts) (omega (arith, et))) (le-leb 8 (length gs) (omega (arith, eg))))
 
+  -- no place is past the eighth
+  nothing_after : {A : Type 0} (k l : List A) → length l ≡ 8 → k ++ drop 8 l ≡ k
+  nothing_after {A = A} k l e = ap (λ (z : List A). k ++ z) (drop_of_length-le l {i = 8} (omega (arith, e))) ∙ append-nil k
+
+  eight_all : {A : Type 0} (l : List A) → length l ≡ 8 → take 8 l ≡ l
+  eight_all l e = take_all 8 l (omega (arith, e))
+
   abbrev whole : LentStepped → Stepped
   whole q =
       record {
@@ -102,7 +110,7 @@ module _ (r : ℕ) (ms : List Memory) (ts : List Table) (gs : List ElementSegmen
       let n = p.machine in
       (λ i. record {
         answer = p.answer;
-        machine = gathered (nothing_after n.memories ms 8 em i) (nothing_after n.tables ts 8 et i) (nothing_after n.segments gs 8 eg i) (record { counts = n.counts; limiter = n.limiter }) n.fuel;
+        machine = gathered (nothing_after n.memories ms em i) (nothing_after n.tables ts et i) (nothing_after n.segments gs eg i) (record { counts = n.counts; limiter = n.limiter }) n.fuel;
         buffers = p.buffers;
       })
 
@@ -110,4 +118,4 @@ module _ (r : ℕ) (ms : List Memory) (ts : List Table) (gs : List ElementSegmen
   unfolding lent_step step_placed
   kept_step q e =
       ap whole (e ∙ pick_true _ _ _ all_placed) ∙ all_back (step r (machine_of (lent ms ts gs s f)) b op)
-      ∙ (λ i. step r (gathered (take_all 8 ms em i) (take_all 8 ts et i) (take_all 8 gs eg i) s f) b op)
+      ∙ (λ i. step r (gathered (eight_all ms em i) (eight_all ts et i) (eight_all gs eg i) s f) b op)
