@@ -1,7 +1,7 @@
 -- A growth at a place of a lent list is the machine's own step on all that is lent, where all else that is lent is sound. Assumes nothing.
 use Rattle.types.proofs.Prelude.{ℕ, zero, suc, ◌≤◌, ◌<◌, ◌≡◌, refl, sym, ap, ◌∙◌, Bool, true, false, List, [], ◌∷◌, arith, leb, ltb, length, take, leb-true}
-use Rattle.types.proofs.Prelude.{leb-false, le-leb, lt-ltb, pick_true, pick_false, both_true, both_1, both_2, both_left, both_right, both_then, either}
-use lib.ListN.{take-append-drop}
+use Rattle.types.proofs.Prelude.{leb-false, le-leb, lt-ltb, pick_true, pick_false, both_true, both_1, both_2, both_left, both_right, both_then, both_last, either}
+use Rattle.std.proofs.lemmas.List.{take-append-drop, get_or-take}
 use Rattle.types.specs.{Numbers.word32, Pick.pick, Pick.both, Answer.refuse, Done.Done, Answer.Answer, declared.raw.TypedRawRef.TypedRawRef}
 use Rattle.memory.specs.{Memory.sound_memory, Grow.grow_memory, declared.memory.Memory.Memory, declared.grow.GrownMemory.GrownMemory}
 use Rattle.table.specs.{Table.sound_table, Grow.grow_table, declared.table.Table.Table, declared.grow.GrownTable.GrownTable}
@@ -15,7 +15,8 @@ use Rattle.lent.specs.Growth.{Lending, lending, Grew, grow_at}
 use Rattle.lent.specs.Memories.{sound_memory_list, record_of as memory_of, memory_grown, grow_memory_at}
 use Rattle.lent.specs.Tables.{sound_table_list, record_of as table_of, table_grown, grow_table_at}
 use Rattle.lent.specs.Records.{Lent, lent, machine_of, long_enough, placed, lent_back, LentStepped, lent_stepped, unfit, step_placed, lent_step}
-use Rattle.lent.proofs.{Lists.eight_take, Lists.set_front, Lists.get_front, Lists.eight_sound, GrowthLaws.few, GrowthLaws.both_last}
+use Rattle.lent.proofs.{Lists.set_front, Lists.front_sound}
+use Rattle.lent.specs.stages.Listed.{few}
 use Rattle.lent.proofs.GrowthAnswers.{memory_answers, table_answers}
 use Rattle.machine.specs.declared.operation.Operation.TheVariants as operation
 use Rattle.machine.specs.declared.operation.MemoryOp.TheVariants as memory_op
@@ -37,9 +38,6 @@ module _ (r : ℕ) (x : Lent) (b : Buffers) where
   list_long : {A : Type 0} (sound : A → Bool) (start end : A → ℕ) (n : ℕ) (l : List A) → sound_list sound start end n (take 8 l) ≡ true → leb 8 (length l) ≡ true
   unfolding sound_list
   list_long sound start end n l e = le-leb _ _ (long_taken 8 l (leb-true _ _ (both_1 _ _ e)))
-
-  both_first : (s t : Bool) → t ≡ true → both s t ≡ s
-  both_first s t e = ap (both s) e ∙ both_last s
 
   -- a refusal leaves all
   kept_all : (a : Answer) → back_of x (on_none (keeps m a) b) ≡ lent_stepped a x b
@@ -84,14 +82,13 @@ module _ (r : ℕ) (x : Lent) (b : Buffers) where
     memory_tests true false h = kept_all (refuse 16 0)
     memory_tests true true h =
         memory_stored_lem (grown (memory_at m i)) (h refl refl)
-        ∙ ap (λ (y : Memory). with_memories (memory_grown i memories_of (grown y))) (get_front 8 i x.memories no_memory (h refl refl))
+        ∙ ap (λ (y : Memory). with_memories (memory_grown i memories_of (grown y))) (get_or-take 8 x.memories i no_memory (h refl refl))
 
     memories_over : 8 ≤ length x.memories → sound_over m b ≡ sound_memory_list x.standing.counts.memories memories_of
     unfolding sound_machine sound_memories sound_memory_list
     memories_over h =
-        both_then _ _ beside.references ∙ both_first _ _ (both_true _ _ beside.tables beside.segments)
-        ∙ ap (sound_list _ _ memory_end x.standing.counts.memories) (sym (eight_take no_memory x.memories h))
-        ∙ eight_sound (λ (y : Memory). sound_memory y (length b.bytes)) (λ (y : Memory). y.start) memory_end no_memory x.memories x.standing.counts.memories h
+        both_then _ _ beside.references ∙ both_last _ _ (both_true _ _ beside.tables beside.segments)
+        ∙ front_sound (λ (y : Memory). sound_memory y (length b.bytes)) (λ (y : Memory). y.start) memory_end x.memories x.standing.counts.memories h
 
     pub memory_grow_steps : lent_step r x b op ≡ with_memories (grow_memory_at x.standing.counts.memories i pages memories_of)
     unfolding lent_step step_placed step decide perform on_memory perform_memory well_formed memory_well_formed unfit grow_memory_at long_enough pick sound_memory_list sound_tables sound_segments
@@ -143,14 +140,13 @@ module _ (r : ℕ) (x : Lent) (b : Buffers) where
     table_tests true false h = kept_all (refuse 16 0)
     table_tests true true h =
         table_stored_lem (table_grown_lem (table_at m i)) (h refl refl)
-        ∙ ap (λ (y : Table). with_tables (table_grown i tables_of (table_grown_lem y))) (get_front 8 i x.tables no_table (h refl refl))
+        ∙ ap (λ (y : Table). with_tables (table_grown i tables_of (table_grown_lem y))) (get_or-take 8 x.tables i no_table (h refl refl))
 
     tables_over : 8 ≤ length x.tables → sound_over m b ≡ sound_table_list x.standing.counts.tables tables_of
     unfolding sound_machine sound_references sound_tables sound_table_list
     tables_over h =
-        (λ j. both (both_first (leb (length b.cells) word32) _ beside.items j) ((both_then _ _ beside.memories ∙ both_first (sound_tables m (length b.cells)) _ beside.segments) j))
-        ∙ ap (λ (ts : List Table). both (leb (length b.cells) word32) (sound_list (λ (y : Table). sound_table y (length b.cells)) (λ (y : Table). y.start) table_end x.standing.counts.tables ts)) (sym (eight_take no_table x.tables h))
-        ∙ ap (both (leb (length b.cells) word32)) (eight_sound (λ (y : Table). sound_table y (length b.cells)) (λ (y : Table). y.start) table_end no_table x.tables x.standing.counts.tables h)
+        (λ j. both (both_last (leb (length b.cells) word32) _ beside.items j) ((both_then _ _ beside.memories ∙ both_last (sound_tables m (length b.cells)) _ beside.segments) j))
+        ∙ ap (both (leb (length b.cells) word32)) (front_sound (λ (y : Table). sound_table y (length b.cells)) (λ (y : Table). y.start) table_end x.tables x.standing.counts.tables h)
 
     pub table_grow_steps : lent_step r x b table_op ≡ with_tables (grow_table_at r x.standing.counts.tables i delta v tables_of)
     unfolding lent_step step_placed step decide perform on_table perform_table well_formed unfit grow_table_at long_enough pick sound_table_list sound_memories sound_segments

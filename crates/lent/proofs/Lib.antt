@@ -1,5 +1,4 @@
 pub mod Lists
-pub mod FuelLaws
 pub mod GrowthLaws
 pub mod RecordLaws
 pub mod Unique

@@ -1,145 +1,87 @@
--- Laws of an operation on lent lists: one record goes back to each, and the lists with them are the machine's records in front. Assumes nothing.
-use Rattle.types.proofs.Prelude.{ℕ, ◌≤◌, ◌<◌, ◌≡◌, sym, ap, subst, ◌∙◌, Bool, true, false, false≢true, List, arith, ltb, length, set, ltb-true, leb-true}
-use Rattle.types.proofs.Prelude.{le-leb, pick_true, pick_false, both_true, both_1, both_2, either}
+-- Laws of an operation on lent lists: the lists with the record that changed are the machine's records in front. Assumes nothing.
+use Rattle.types.proofs.Prelude.{ℕ, ◌≤◌, ◌<◌, ◌≡◌, sym, ap, ◌∙◌, Bool, true, false, List, ◌++◌, arith, ltb, length, take, drop, ltb-true, leb-true}
+use Rattle.types.proofs.Prelude.{take_all, append-nil, le-leb, pick_true, pick_false, both_true, both_1, both_2, either}
+use Rattle.std.proofs.lemmas.List.{take-append-drop}
+use Rattle.std.proofs.Math.ListN.{drop_of_length-le}
+use Rattle.types.proofs.Picks.{pick_ap}
 use Rattle.types.specs.{Pick.pick, declared.fuel.Fuel.Fuel}
 use Rattle.memory.specs.declared.memory.Memory.{Memory}
 use Rattle.table.specs.{declared.table.Table.Table, declared.element.ElementSegment.ElementSegment}
-use Rattle.machine.specs.{Machine.Buffers, Machine.no_memory, Machine.no_table, Machine.no_segment, Outcome.changed, Outcome.standing, Outcome.settled}
-use Rattle.machine.specs.{Step.decide, Step.Stepped, Step.step, declared.records.Machine.Machine, declared.outcome.Outcome.Outcome}
-use Rattle.machine.specs.{declared.outcome.Change.Change, declared.operation.Operation.Operation}
-use Rattle.lent.specs.{declared.operate.Standing.Standing, declared.operate.Placed.Placed, declared.operate.Verdict.Verdict}
-use Rattle.lent.specs.Records.{Lent, lent, gathered, machine_of, long_enough, placed, lent_back, LentStepped, lent_stepped, unfit, step_placed, lent_step}
-use Rattle.lent.specs.stages.Places.{verdict, first_places, put_memory, put_table, put_segment, put, placed_of, Placing, place, eight}
-use Rattle.lent.proofs.Lists.{eight_take, set_front, set_kept, take_all, nothing_after}
+use Rattle.machine.specs.{Machine.Buffers, Outcome.changed, Outcome.settled, Step.Performed, Step.decide, Step.Stepped, Step.step}
+use Rattle.machine.specs.{declared.records.Machine.Machine, declared.outcome.Change.Change, declared.operation.Operation.Operation}
+use Rattle.lent.specs.declared.operate.Standing.{Standing}
+use Rattle.lent.specs.Records.{Lent, lent, gathered, machine_of, in_front, long_enough, placed, lent_back, LentStepped, lent_stepped, unfit, step_placed, lent_step}
+use Rattle.lent.proofs.Lists.{set_front}
 use Rattle.machine.specs.declared.outcome.Change.TheVariants as change
-
--- the places that records go back to are among the first 8
-abbrev Small : Placed → Type 0
-Small p = (p.memory_at < 8) × (p.table_at < 8) × (p.segment_at < 8)
-
-put_small : (i : ℕ) (p q : Placed) → Small p → (i < 8 → Small q) → Small (pick (ltb i 8) q p)
-put_small i p q s f =
-    either (ltb i 8)
-    (λ t. subst Small (sym (pick_true _ _ _ t)) (f (ltb-true i 8 t)))
-    (λ t. subst Small (sym (pick_false _ _ _ t)) s)
-
-placed_small : (m : Machine) (o : Outcome) (c : Change) → Small (put c (first_places m o))
-unfolding first_places put put_memory put_table put_segment
-placed_small m o change.Nothing = (omega arith, omega arith, omega arith)
-placed_small m o (change.Memory i r) = put_small i _ _ (omega arith, omega arith, omega arith) (λ h. (h, omega arith, omega arith))
-placed_small m o (change.Table i r) = put_small i _ _ (omega arith, omega arith, omega arith) (λ h. (omega arith, h, omega arith))
-placed_small m o (change.Segment i r) = put_small i _ _ (omega arith, omega arith, omega arith) (λ h. (omega arith, omega arith, h))
-
-pub place_within : (r : ℕ) (m : Machine) (b : Buffers) (op : Operation) → Small (place r m b op).out
-unfolding place placed_of
-place_within r m b op = placed_small m (decide r m b op).out (decide r m b op).out.change
-
--- and so are those of all that goes back
-pub goes_within : (r : ℕ) (m : Machine) (b : Buffers) (op : Operation) (q : Placing) → q ≡ place r m b op → Small q.out
-goes_within r m b op q e = subst (λ (z : Placing). Small z.out) (sym e) (place_within r m b op)
-
--- the answer, and the machine whose lists have these records stored to them
-abbrev stored_in : Machine → Buffers → Placed → Stepped
-stored_in m b p =
-    record {
-      answer = p.answer;
-      machine =
-          gathered (set m.memories p.memory_at p.memory) (set m.tables p.table_at p.table)
-          (set m.segments p.segment_at p.segment) p.standing p.fuel;
-      buffers = b;
-    }
-
-module _ (m : Machine) (b : Buffers) (o : Outcome) where
-  abbrev ended : Machine → Stepped
-  ended n = record { answer = o.answer; machine = standing n o.counts o.fuel o.limiter; buffers = b }
-
-  -- with these lists
-  abbrev having : List Memory → List Table → List ElementSegment → Stepped
-  having ms ts gs = ended (gathered ms ts gs (record { counts = m.counts; limiter = m.limiter }) m.fuel)
-
-  first_kept : stored_in m b (first_places m o) ≡ ended m
-  unfolding first_places
-  first_kept = (λ i. having (set_kept m.memories 0 no_memory i) (set_kept m.tables 0 no_table i) (set_kept m.segments 0 no_segment i))
-
-  -- one record instead, where its place is among the 8
-  put_stored : (t : Bool) (q : Placed) (n : Machine) → stored_in m b q ≡ ended n → stored_in m b (pick t q (first_places m o)) ≡ ended (pick t n m)
-  unfolding pick
-  put_stored true q n e = e
-  put_stored false q n e = first_kept
-
-  places_stored : (c : Change) → stored_in m b (put c (first_places m o)) ≡ ended (changed c m)
-  unfolding first_places put put_memory put_table put_segment changed
-  places_stored change.Nothing = first_kept
-  places_stored (change.Memory j r) =
-      put_stored (ltb j 8) _ _ (λ i. having (set m.memories j r) (set_kept m.tables 0 no_table i) (set_kept m.segments 0 no_segment i))
-  places_stored (change.Table j r) =
-      put_stored (ltb j 8) _ _ (λ i. having (set_kept m.memories 0 no_memory i) (set m.tables j r) (set_kept m.segments 0 no_segment i))
-  places_stored (change.Segment j r) =
-      put_stored (ltb j 8) _ _ (λ i. having (set_kept m.memories 0 no_memory i) (set_kept m.tables 0 no_table i) (set m.segments j r))
 
 -- each list of what is lent has its places
 pub long_lists : (l : Lent) → placed l ≡ true → (8 ≤ length l.memories) × (8 ≤ length l.tables) × (8 ≤ length l.segments)
 unfolding long_enough
 long_lists l fit = (leb-true _ _ (both_1 _ _ fit), leb-true _ _ (both_1 _ _ (both_2 _ _ fit)), leb-true _ _ (both_2 _ _ (both_2 _ _ fit)))
 
-module _ (r : ℕ) (l : Lent) (b : Buffers) (op : Operation) (fit : placed l ≡ true) where
-  abbrev read_machine : Machine
-  read_machine = gathered (eight no_memory l.memories) (eight no_table l.tables) (eight no_segment l.segments) l.standing l.fuel
+-- a machine of one list is a machine of the list that is picked
+pub picked : {A : Type 0} (build : List A → Machine) (t : Bool) {xs : List A} (ys zs : List A) → xs ≡ pick t ys zs → build xs ≡ pick t (build ys) (build zs)
+picked build t ys zs e = ap build e ∙ pick_ap build t ys zs
 
-  same_machine : read_machine ≡ machine_of l
-  same_machine =
-      let h = long_lists l fit in
-      (λ i. gathered (eight_take no_memory l.memories h.0 i) (eight_take no_table l.tables h.1 i) (eight_take no_segment l.segments h.2 i) l.standing l.fuel)
+-- the records that an operation changes, put in front of what is lent, are those that are lent with the change
+module _ (l : Lent) where
+  -- the lists, with a machine's records in front
+  abbrev fronted : Machine → Machine
+  fronted m = gathered (in_front m.memories l.memories) (in_front m.tables l.tables) (in_front m.segments l.segments) l.standing l.fuel
 
-  -- one record stored to each list
-  abbrev stored : Placing → LentStepped
-  stored q =
-      lent_stepped q.out.answer
-      (lent (set l.memories q.out.memory_at q.out.memory) (set l.tables q.out.table_at q.out.table)
-      (set l.segments q.out.segment_at q.out.segment) q.out.standing q.out.fuel)
-      q.buffers
+  -- the lists as they are
+  abbrev whole_lists : Machine
+  whole_lists = gathered l.memories l.tables l.segments l.standing l.fuel
 
-  stored_step : stored (place r (machine_of l) b op) ≡ step_placed r l b op
-  unfolding place placed_of step_placed step settled
+  same_lists : fronted (machine_of l) ≡ whole_lists
+  same_lists = (λ i. gathered (take-append-drop 8 l.memories i) (take-append-drop 8 l.tables i) (take-append-drop 8 l.segments i) l.standing l.fuel)
+
+  -- a record where its place is among the 8, else none
+  placed_change : (j : ℕ) (m n : Machine) → (j < 8 → fronted m ≡ n) → fronted (pick (ltb j 8) m (machine_of l)) ≡ pick (ltb j 8) n whole_lists
+  placed_change j m n f =
+      either (ltb j 8)
+      (λ t. ap fronted (pick_true _ _ _ t) ∙ f (ltb-true j 8 t) ∙ sym (pick_true _ _ _ t))
+      (λ t. ap fronted (pick_false _ _ _ t) ∙ same_lists ∙ sym (pick_false _ _ _ t))
+
+  changed_lists : (c : Change) → fronted (changed c (machine_of l)) ≡ changed c whole_lists
+  unfolding changed
+  changed_lists change.Nothing = same_lists
+  changed_lists (change.Memory j r) =
+      placed_change j _ _ (λ h. λ i. gathered (sym (set_front 8 j l.memories r h) i) (take-append-drop 8 l.tables i) (take-append-drop 8 l.segments i) l.standing l.fuel)
+  changed_lists (change.Table j r) =
+      placed_change j _ _ (λ h. λ i. gathered (take-append-drop 8 l.memories i) (sym (set_front 8 j l.tables r h) i) (take-append-drop 8 l.segments i) l.standing l.fuel)
+  changed_lists (change.Segment j r) =
+      placed_change j _ _ (λ h. λ i. gathered (take-append-drop 8 l.memories i) (take-append-drop 8 l.tables i) (sym (set_front 8 j l.segments r h) i) l.standing l.fuel)
+
+-- what is lent after an outcome, its lists from a machine of them
+abbrev ended : Machine → Performed → LentStepped
+ended m d =
+    lent_stepped d.out.answer
+    (lent m.memories m.tables m.segments (record { counts = d.out.counts; limiter = d.out.limiter }) d.out.fuel)
+    d.buffers
+
+module _ (r : ℕ) (l : Lent) (b : Buffers) (op : Operation) where
+  stored_step : let d = decide r (machine_of l) b op in ended (changed d.out.change (gathered l.memories l.tables l.segments l.standing l.fuel)) d ≡ step_placed r l b op
+  unfolding step_placed step settled
   stored_step =
-      let m = machine_of l in
-      let d = decide r m b op in
-      let p = placed_of m d.out in
-      let h = placed_small m d.out d.out.change in
-      (λ i. lent_stepped p.answer (lent (set_front 8 p.memory_at l.memories p.memory h.0 i) (set_front 8 p.table_at l.tables p.table h.1 i) (set_front 8 p.segment_at l.segments p.segment h.2 i) p.standing p.fuel) d.buffers)
-      ∙ ap (λ (z : Stepped). lent_stepped z.answer (lent_back z.machine l) z.buffers) (places_stored m d.buffers d.out d.out.change)
+      let d = decide r (machine_of l) b op in
+      ap (λ (m : Machine). ended m d) (sym (changed_lists l d.out.change))
 
-  -- what an operation on the records read leaves in the lists is the step
-  pub lent_steps : (q : Placing) (ms : List Memory) (ts : List Table) (gs : List ElementSegment) (s : Standing) (f : Fuel) → q ≡ place r read_machine b op
-      → ms ≡ set l.memories q.out.memory_at q.out.memory → ts ≡ set l.tables q.out.table_at q.out.table
-      → gs ≡ set l.segments q.out.segment_at q.out.segment → s ≡ q.out.standing → f ≡ q.out.fuel
-      → lent_stepped q.out.answer (lent ms ts gs s f) q.buffers ≡ lent_step r l b op
+  -- what an operation on the machine of what is lent leaves in the lists is the step
+  pub lent_steps : (d : Performed) (ms : List Memory) (ts : List Table) (gs : List ElementSegment) → placed l ≡ true → d ≡ decide r (machine_of l) b op
+      → gathered ms ts gs l.standing l.fuel ≡ changed d.out.change (gathered l.memories l.tables l.segments l.standing l.fuel)
+      → ended (gathered ms ts gs l.standing l.fuel) d ≡ lent_step r l b op
   unfolding lent_step
-  lent_steps q ms ts gs s f e e0 e1 e2 e3 e4 =
-      (λ i. lent_stepped q.out.answer (lent (e0 i) (e1 i) (e2 i) (e3 i) (e4 i)) q.buffers)
-      ∙ ap stored (e ∙ ap (λ (m : Machine). place r m b op) same_machine)
+  lent_steps d ms ts gs fit e c =
+      ap (λ (m : Machine). ended m d) c
+      ∙ ap (λ (q : Performed). ended (changed q.out.change (gathered l.memories l.tables l.segments l.standing l.fuel)) q) e
       ∙ stored_step
       ∙ sym (pick_true _ _ _ fit)
 
--- a list that is too short
-pub lent_short : (r : ℕ) (l : Lent) (b : Buffers) (op : Operation) → placed l ≡ false → lent_stepped (unfit op) l b ≡ lent_step r l b op
-unfolding lent_step
-lent_short r l b op e = sym (pick_false _ _ _ e)
-
--- what the verdict says
-module _ (i j k : ℕ) (op : Operation) (v : Verdict) (said : v ≡ verdict i j k op) where
-  pub found_short : v.short ≡ true → (long_enough i j k ≡ false) × (v.answer ≡ unfit op)
-  unfolding verdict
-  found_short e =
-      either (long_enough i j k)
-      (λ t. absurd (false≢true (sym (ap (λ (z : Verdict). z.short) (said ∙ pick_true _ _ _ t)) ∙ e)))
-      (λ t. (t, ap (λ (z : Verdict). z.answer) (said ∙ pick_false _ _ _ t)))
-
-  pub found_long : v.short ≡ false → long_enough i j k ≡ true
-  unfolding verdict
-  found_long e =
-      either (long_enough i j k) (λ t. t)
-      (λ t. absurd (false≢true (sym e ∙ ap (λ (z : Verdict). z.short) (said ∙ pick_false _ _ _ t))))
+  -- a list that is too short
+  pub lent_short : placed l ≡ false → lent_stepped (unfit op) l b ≡ lent_step r l b op
+  unfolding lent_step
+  lent_short e = sym (pick_false _ _ _ e)
 
 -- lists of 8 places are the machine's: the step on what is lent is the machine's
 module _ (r : ℕ) (ms : List Memory) (ts : List Table) (gs : List ElementSegment) (s : Standing) (f : Fuel) (b : Buffers) (op : Operation)
@@ -147,6 +89,13 @@ module _ (r : ℕ) (ms : List Memory) (ts : List Table) (gs : List ElementSegmen
   all_placed : placed (lent ms ts gs s f) ≡ true
   unfolding long_enough
   all_placed = both_true _ _ (le-leb 8 (length ms) (omega (arith, em))) (both_true _ _ (le-leb 8 (length ts) (omega (arith, et))) (le-leb 8 (length gs) (omega (arith, eg))))
+
+  -- no place is past the eighth
+  nothing_after : {A : Type 0} (k l : List A) → length l ≡ 8 → k ++ drop 8 l ≡ k
+  nothing_after {A = A} k l e = ap (λ (z : List A). k ++ z) (drop_of_length-le l {i = 8} (omega (arith, e))) ∙ append-nil k
+
+  eight_all : {A : Type 0} (l : List A) → length l ≡ 8 → take 8 l ≡ l
+  eight_all l e = take_all 8 l (omega (arith, e))
 
   abbrev whole : LentStepped → Stepped
   whole q =
@@ -161,7 +110,7 @@ module _ (r : ℕ) (ms : List Memory) (ts : List Table) (gs : List ElementSegmen
       let n = p.machine in
       (λ i. record {
         answer = p.answer;
-        machine = gathered (nothing_after n.memories ms 8 em i) (nothing_after n.tables ts 8 et i) (nothing_after n.segments gs 8 eg i) (record { counts = n.counts; limiter = n.limiter }) n.fuel;
+        machine = gathered (nothing_after n.memories ms em i) (nothing_after n.tables ts et i) (nothing_after n.segments gs eg i) (record { counts = n.counts; limiter = n.limiter }) n.fuel;
         buffers = p.buffers;
       })
 
@@ -169,4 +118,4 @@ module _ (r : ℕ) (ms : List Memory) (ts : List Table) (gs : List ElementSegmen
   unfolding lent_step step_placed
   kept_step q e =
       ap whole (e ∙ pick_true _ _ _ all_placed) ∙ all_back (step r (machine_of (lent ms ts gs s f)) b op)
-      ∙ (λ i. step r (gathered (take_all 8 ms em i) (take_all 8 ts et i) (take_all 8 gs eg i) s f) b op)
+      ∙ (λ i. step r (gathered (eight_all ms em i) (eight_all ts et i) (eight_all gs eg i) s f) b op)

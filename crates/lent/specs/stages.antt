@@ -1,3 +1,2 @@
-pub mod Fuel
 pub mod Growth
-pub mod Places
+pub mod Listed

@@ -2,7 +2,8 @@
 #![tactic(auto)]
 
 pub mod fuel;
+mod growth;
 pub mod memories;
 pub mod operate;
-pub mod regrown;
+mod places;
 pub mod tables;

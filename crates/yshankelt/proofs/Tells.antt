@@ -1,16 +1,15 @@
 -- Laws of what C is told of a machine in a row of words. Assumes nothing.
-use Rattle.types.proofs.Prelude.{ℕ, ◌+◌, ◌≤◌, ◌<◌, ◌≡◌, refl, sym, ap, ◌∙◌, true, false, List, [], ◌∷◌, arith, length, get_or, replicate, le-leb, eq-eqb, ne_eqb}
+use Rattle.types.proofs.Prelude.{ℕ, ◌+◌, ◌≤◌, ◌<◌, ◌≡◌, refl, sym, ap, ◌∙◌, true, false, List, [], ◌∷◌, arith, length, get_or, replicate, le-leb}
 use Rattle.types.proofs.{Prelude.pick_true, Prelude.pick_false, Prelude.either, Spans.length_over}
-use Rattle.types.specs.{Pick.pick, Span.over, Answer.refuse, Answer.number_of, Answer.shown_of, Raw.raw_bytes, Answer.Answer}
-use Rattle.types.specs.declared.fuel.Fuel.{Fuel}
+use Rattle.types.specs.{Pick.pick, Span.over, Answer.refuse, Raw.raw_bytes}
 use Rattle.machine.specs.{Machine.Buffers, Operation.well_formed, Outcome.settled, Outcome.changed, Step.decide, Step.step}
 use Rattle.machine.specs.{Words.row_length, Words.machine_from, Words.in_form, Words.words_of, Row.InRow, Row.operate_row, Row.fuel_of, stages.Rows.Shaped}
 use Rattle.machine.specs.declared.records.Machine.{Machine}
 use Rattle.machine.proofs.{Back.words_length, Back.row_back, Formed.form_holds}
-use Rattle.lines.specs.{Code.operation_of, Code.read_line, Session.Held, Session.Turn, Session.turn_by, Session.turn_of, AnswerLine.fuel_shown}
+use Rattle.lines.specs.{Code.operation_of, Code.read_line, Session.Held, Session.Turn, Session.turn_by, Session.turn_of}
 use Rattle.lines.specs.{Line.line_of, Line.line_text, stages.Back.filled, Sayable.Small, declared.line.Line.Line, declared.code.Read.Read}
 use Rattle.lines.proofs.FieldText.{line_write}
-use Rattle.yshankelt.specs.Whole.{Call, call, good_line, line_from, answered, told, operate_of}
+use Rattle.yshankelt.specs.Whole.{good_line, line_from, answered, told, operate_of}
 use Rattle.lines.specs.declared.code.Read.TheVariants as read
 
 -- at most 8 fields, place by place
@@ -27,24 +26,6 @@ eight_fields (a ∷ b ∷ d ∷ e ∷ f ∷ g ∷ []) h = refl
 eight_fields (a ∷ b ∷ d ∷ e ∷ f ∷ g ∷ i ∷ []) h = refl
 eight_fields (a ∷ b ∷ d ∷ e ∷ f ∷ g ∷ i ∷ j ∷ []) h = refl
 eight_fields (a ∷ b ∷ d ∷ e ∷ f ∷ g ∷ i ∷ j ∷ k ∷ l) h = absurd (omega (arith, h))
-
--- what is told of an answer, whatever the buffers: 19 alone, or each column from what it is known to be
-module _ (a : Answer) {n : ℕ} (l : List ℕ) (value fuel : ℕ) (e : n ≡ number_of a) where
-  pub told_nothing : n ≡ 19 → (b : Buffers) → call 19 value fuel l b ≡ told value fuel (record { answer = a; words = l; buffers = b })
-  unfolding told
-  told_nothing h b = sym (pick_true _ _ _ (eq-eqb _ _ (sym e ∙ h)))
-
-  pub told_columns : {v f : ℕ} {g : Fuel} → (n ≡ 19 → ⊥) → v ≡ shown_of a → f ≡ fuel_shown g → g ≡ fuel_of l
-      → (b : Buffers) → call n v f l b ≡ told value fuel (record { answer = a; words = l; buffers = b })
-  unfolding told
-  told_columns h p q r b = rw (e, p, q, r) (sym (pick_false _ _ _ (ne_eqb _ _ (λ z. h (e ∙ z)))))
-
--- an operation, from what each part is known to be
-pub told_from : {x : Call} {y : InRow} {r : Read} {w v : Line} (l : List ℕ) (b : Buffers) (value fuel : ℕ)
-    → x ≡ told value fuel y → y ≡ answered r l b → r ≡ operation_of w → w ≡ v → x ≡ operate_of l b v value fuel
-unfolding operate_of
-told_from l b value fuel e f g h =
-    e ∙ ap (told value fuel) (f ∙ ap (λ (z : Read). answered z l b) g ∙ ap (λ (z : Line). answered (operation_of z) l b) h)
 
 -- the code and fields stand for the line of text that one would write
 pub line_said : (code : ℕ) (fields : List ℕ) → code < 256 → length fields ≤ 8 → Small fields → line_of (line_text code fields) ≡ line_from code fields

@@ -1,5 +1,5 @@
 // What C calls: the typed loads and stores on a memory's bytes, and the price; `whole` has machines. The result is document 01's number.
-#![tactic(auto)]
+#![tactic(auto, unfolding(types::specs::Answer::number_of, crate::specs::Face::delivered))]
 
 pub mod whole;
 
@@ -8,6 +8,7 @@ ghost use Rattle.types.specs.Price.{price};
 ghost use Rattle.memory.specs.Access.{load, store};
 ghost use Rattle.memory.specs.declared.access.LoadKind.{LoadKind};
 ghost use Rattle.memory.specs.declared.access.StoreKind.{StoreKind};
+ghost use Rattle.lines.specs.Session.{costs_of};
 ghost use Rattle.yshankelt.specs.Face.{Given, Taken};
 
 use memory::access;
@@ -31,15 +32,13 @@ fn deliver(answer: Answer, out: &mut u64) -> u8
 fn load_to(bytes: &[u8], kind: LoadKind, ptr: u64, offset: u64, out: &mut u64) -> u8
     ensures { Given (load kind bytes.now ptr offset) out.old result out.new }
 {
-    let answer = access::load(bytes, kind, ptr, offset);
-    deliver(answer, out)
+    deliver(access::load(bytes, kind, ptr, offset), out)
 }
 
 fn store_from(bytes: &mut [u8], kind: StoreKind, ptr: u64, offset: u64, bits: u64) -> u8
     ensures { Taken (store kind bytes.old ptr offset bits) result bytes.new }
 {
-    let answer = access::store(bytes, kind, ptr, offset, bits);
-    types::answer::number(answer)
+    types::answer::number(access::store(bytes, kind, ptr, offset, bits))
 }
 
 #[unsafe(no_mangle)]
@@ -219,12 +218,12 @@ pub extern "C" fn ysh_price_values(len: u64, size: u64, per_unit: u32) -> u64
     costs(per_unit).fuel_for_copying_values(len, size)
 }
 
-fn costs(per_unit: u32) -> FuelCosts
-    ensures { result.copied ≡ per_unit }
+// Costs with this one given, and the others as they are by default.
+fn costs(copied: u32) -> FuelCosts
+    ensures { result ≡ costs_of copied }
 {
     FuelCosts {
-        copied: per_unit,
-        translated: 0,
-        validated: 0,
+        copied,
+        ..FuelCosts::default_costs()
     }
 }

@@ -1,4 +1,6 @@
 // A whole machine in a row of words that the host owns: made, operated, and asked for its sizes.
+#![tactic(auto, using(types::proofs::Picks::cases), unfolding(crate::specs::Whole::line_from, crate::specs::Whole::answered, crate::specs::Whole::told, crate::specs::Whole::operate_of, lines::specs::AnswerLine::fuel_shown))]
+
 ghost use Rattle.std.specs.Prelude.{◌≡◌, ◌≤◌, length, get_or, replicate};
 ghost use Rattle.types.specs.Answer.{refuse};
 ghost use Rattle.types.specs.Span.{over};
@@ -11,14 +13,14 @@ ghost use Rattle.lines.specs.AnswerLine.{fuel_shown};
 ghost use Rattle.yshankelt.specs.Face.{Given};
 ghost use Rattle.yshankelt.specs.Whole.{line_from, answered, call, told, operate_of};
 
-use super::deliver;
+use super::{costs, deliver};
 use lines::code::Read;
 use lines::line::{Line, MOST_FIELDS};
 use lines::{code, line};
 use machine::row;
 use machine::words::ROW;
 use types::answer::{Answer, Refusal};
-use types::fuel::{Fuel, FuelCosts};
+use types::fuel::Fuel;
 
 // How many words a machine takes.
 #[unsafe(no_mangle)]
@@ -28,37 +30,22 @@ pub extern "C" fn ysh_machine_words() -> usize
     ROW
 }
 
-// The costs of the machine that a session's first line makes.
-fn costs(copied: u32) -> FuelCosts
-    ensures { result ≡ costs_of copied }
-{
-    FuelCosts {
-        copied,
-        translated: 7,
-        validated: 2,
-    }
-}
-
 // A fresh machine: 0 and its words, or 19 where there are fewer than that.
 #[unsafe(no_mangle)]
 pub extern "C" fn ysh_machine_new(words: &mut [u64], metering: bool, copied: u32) -> u8
     ensures { rowed result words.new ≡ fresh_row words.old metering (costs_of copied) }
 {
-    let costs = costs(copied);
-    row::fresh(words, metering, costs)
+    row::fresh(words, metering, costs(copied))
 }
 
 // A field, 0 past the last.
 fn field(fields: &[u64], i: usize) -> u64
     ensures { result ≡ get_or fields.now i 0 }
 {
-    if i < fields.len() {
-        return fields[i];
-    }
-    0
+    fields.get(i).copied().unwrap_or(0)
 }
 
-// The fields, and zeros behind them.
+// The fields, and zeros behind them. Place by place: a copy by length is a call, 1.5 ns of an operation's 47.
 fn padded(fields: &[u64]) -> [u64; MOST_FIELDS]
     requires { length fields.now ≤ most_fields }
     ensures { result ≡ over (replicate most_fields 0) 0 fields.now }
@@ -122,10 +109,7 @@ fn answered(
 fn fuel_left(fuel: Fuel) -> u64
     ensures { result ≡ fuel_shown fuel }
 {
-    if fuel.enabled {
-        return fuel.remaining;
-    }
-    0
+    if fuel.enabled { fuel.remaining } else { 0 }
 }
 
 // The columns of the answer; 19 tells nothing else.
@@ -176,8 +160,7 @@ pub extern "C" fn ysh_memory_pages(
 ) -> u8
     ensures { Given (row_pages words.now bytes cells items memory) value.old result value.new }
 {
-    let answer = row::memory_pages(words, bytes, cells, items, memory);
-    deliver(answer, value)
+    deliver(row::memory_pages(words, bytes, cells, items, memory), value)
 }
 
 // A table's size in cells, likewise 22's.
@@ -192,6 +175,5 @@ pub extern "C" fn ysh_table_cells(
 ) -> u8
     ensures { Given (row_cells words.now bytes cells items table) value.old result value.new }
 {
-    let answer = row::table_cells(words, bytes, cells, items, table);
-    deliver(answer, value)
+    deliver(row::table_cells(words, bytes, cells, items, table), value)
 }

@@ -1,82 +1,45 @@
--- How a growth of one record of a lent list is carried out: the first 8 records by value, and what is written back.
-use Rattle.std.specs.Prelude.{ℕ, Bool, List, ltb, replicate}
-use Rattle.types.specs.Pick.{unless}
-use Rattle.types.specs.Done.{Done, done}
-use Rattle.types.specs.Answer.{refuse}
-use Rattle.types.specs.declared.fuel.Fuel.{Fuel}
-use Rattle.types.specs.declared.limiter.Limiter.{Limiter}
-use Rattle.types.specs.declared.raw.TypedRawRef.{TypedRawRef}
-use Rattle.memory.specs.Grow.{grow_memory}
-use Rattle.memory.specs.declared.memory.Memory.{Memory}
-use Rattle.memory.specs.declared.grow.GrownMemory.{GrownMemory}
-use Rattle.table.specs.Grow.{grow_table}
-use Rattle.table.specs.declared.table.Table.{Table}
-use Rattle.table.specs.declared.grow.GrownTable.{GrownTable}
-use Rattle.machine.specs.Machine.{capacity, no_memory, no_table, no_segment}
-use Rattle.machine.specs.declared.records.Machine.{Machine}
-use Rattle.lent.specs.Growth.{Lending}
-use Rattle.lent.specs.Memories as memories
-use Rattle.lent.specs.Tables as tables
-use Rattle.lent.specs.declared.regrown.Regrown.{Regrown}
+-- How a growth of one record of a lent list is carried out, over the kind of record and of cell.
+use Rattle.std.specs.Prelude.{ℕ, Bool, List, leb, set}
+use Rattle.types.specs.Names.{word32, both, raw_bytes, Answer, Fuel, Limiter, TypedRawRef}
+use Rattle.memory.specs.Names.{sound_memory, grow_memory, Memory}
+use Rattle.table.specs.Names.{sound_table, grow_table, Table}
+use Rattle.machine.specs.{Machine.memory_end, Machine.table_end, Sound.sound_list}
+use Rattle.lent.specs.Growth.{lending, GrewOf, grew}
 
--- the machine that has these memories alone
-unfoldable pub memories_alone : ℕ → List Memory → Fuel → Limiter → Machine
-memories_alone n ms f l =
-    record {
-      memories = ms;
-      tables = replicate capacity no_table;
-      segments = replicate capacity no_segment;
-      counts = record { memories = n; tables = 0; segments = 0 };
-      fuel = f;
-      limiter = l;
-    }
+-- an answer, and what a growth leaves of the record, its cells, the fuel record and the limiter
+pub record Regrown (A C : Type 0) : Type 0 where
+  pub answer : Answer
+  pub record_after : A
+  pub cells : List C
+  pub fuel : Fuel
+  pub limiter : Limiter
 
--- the machine that has these tables alone
-unfoldable pub tables_alone : ℕ → List Table → Fuel → Limiter → Machine
-tables_alone n ts f l =
-    record {
-      memories = replicate capacity no_memory;
-      tables = ts;
-      segments = replicate capacity no_segment;
-      counts = record { memories = 0; tables = n; segments = 0 };
-      fuel = f;
-      limiter = l;
-    }
+-- all five
+abbrev pub regrown : {A C : Type 0} → Answer → A → List C → Fuel → Limiter → Regrown A C
+regrown a r cs f l = record { answer = a; record_after = r; cells = cs; fuel = f; limiter = l }
 
--- a refusal writes back what stands there: the first record's size, the fuel left, the script's place
-abbrev pub unchanged : ℕ → ℕ → Fuel → Limiter → Regrown
-unchanged number size f l = record { answer = refuse number 0; place = 0; size = size; left = f.remaining; at = l.at }
+-- a growth, its record put back in its place
+abbrev pub put_back : {A C : Type 0} → List A → ℕ → Regrown A C → GrewOf A C
+put_back rs i g = grew g.answer (lending (set rs i g.record_after) g.cells g.fuel g.limiter)
 
--- the same with the cells as they are
-abbrev pub kept : ℕ → Fuel → Limiter → List ℕ → ℕ → Done Regrown
-kept size f l cs number = done (unchanged number size f l) cs
+-- of a memory
+abbrev pub memory_regrown : Memory → List ℕ → ℕ → Fuel → Limiter → Regrown Memory ℕ
+memory_regrown m bytes pages f l =
+    let g = grow_memory m bytes pages f l in
+    regrown g.out.answer g.out.memory g.cells g.out.fuel g.out.limiter
 
--- 19, then 16, then what a growth writes back
-unfoldable pub regrown : Bool → Bool → (ℕ → Done Regrown) → Done Regrown → Done Regrown
-regrown sound known refused g = unless sound (refused 19) (unless known (refused 16) g)
+-- of a table, by so many cells that hold a reference
+abbrev pub table_regrown : Table → List ℕ → ℕ × TypedRawRef → Fuel → Limiter → Regrown Table ℕ
+table_regrown t cells by f l =
+    let g = grow_table raw_bytes t cells by.0 by.1 f l in
+    regrown g.out.answer g.out.table g.cells g.out.fuel g.out.limiter
 
--- what the growth of the memory at a place writes back
-unfoldable pub memory_back : ℕ → Done GrownMemory → Done Regrown
-memory_back i g =
-    done
-    (record { answer = g.out.answer; place = i; size = g.out.memory.size; left = g.out.fuel.remaining; at = g.out.limiter.at })
-    g.cells
+-- 8 places at least, and the first n records are sound memories over so many bytes whose rooms follow each other
+unfoldable pub sound_memories_over : ℕ → List Memory → ℕ → Bool
+sound_memories_over n ms len =
+    sound_list (λ (r : Memory). sound_memory r len) (λ (r : Memory). r.start) memory_end n ms
 
--- what the growth of the table at a place writes back
-unfoldable pub table_back : ℕ → Done GrownTable → Done Regrown
-table_back i g =
-    done
-    (record { answer = g.out.answer; place = i; size = g.out.table.size; left = g.out.fuel.remaining; at = g.out.limiter.at })
-    g.cells
-
--- growth of memory i, of n in use: what is written back
-unfoldable pub memory_regrown : ℕ → ℕ → ℕ → Lending Memory → Done Regrown
-memory_regrown n i pages l =
-    regrown (memories.sound_memory_list n l) (ltb i n) (kept (memories.record_of l 0).size l.fuel l.limiter l.cells)
-    (memory_back i (grow_memory (memories.record_of l i) l.cells pages l.fuel l.limiter))
-
--- growth of table i, of n in use: what is written back
-unfoldable pub table_regrown : ℕ → ℕ → ℕ → ℕ → TypedRawRef → Lending Table → Done Regrown
-table_regrown r n i cells v l =
-    regrown (tables.sound_table_list n l) (ltb i n) (kept (tables.record_of l 0).size l.fuel l.limiter l.cells)
-    (table_back i (grow_table r (tables.record_of l i) l.cells cells v l.fuel l.limiter))
+-- at most 2^32 cells, and likewise sound tables
+unfoldable pub sound_tables_over : ℕ → List Table → ℕ → Bool
+sound_tables_over n ts len =
+    both (leb len word32) (sound_list (λ (r : Table). sound_table r len) (λ (r : Table). r.start) table_end n ts)

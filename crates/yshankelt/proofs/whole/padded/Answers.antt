@@ -2,6 +2,4 @@ use Rattle.yshankelt.proofs.Tells.{eight_fields}
 use Rattle.yshankelt.proofs.whole.padded.Goals as goal
 
 pub returns : goal.returns
-returns c =
-    let a = c.args in
-    cc (eight_fields (a.fields.now) c.requires)
+returns c = cc (eight_fields c.args.fields.now c.requires)
