@@ -1,4 +1,6 @@
 // Operation lines: one read and answered at once, and a whole session over lines in one buffer.
+#![tactic(auto, unfolding(crate::specs::Text::echo_of, crate::specs::Text::session_on))]
+
 ghost use Rattle.std.specs.Prelude.{◌≡◌, true, replicate};
 ghost use Rattle.types.specs.Fuel.{new_fuel, default_costs};
 ghost use Rattle.machine.specs.Machine.{buffers};
@@ -20,11 +22,7 @@ fn echo(parsed: Read) -> Answer
 {
     match parsed {
         Read::Operation(_) => Ok(Value::Number(0)),
-        Read::Making { .. } => Err(Refusal {
-            number: 18,
-            amount: 0,
-        }),
-        Read::Malformed => Err(Refusal {
+        _ => Err(Refusal {
             number: 18,
             amount: 0,
         }),
@@ -36,10 +34,8 @@ fn echo(parsed: Read) -> Answer
 pub extern "C" fn rounds_line(line: &[u8], out: &mut [u8]) -> bool
     ensures { done result out.new ≡ answered_of out.old (echo_of (read_line line.now)) (new_fuel true default_costs) }
 {
-    let parsed = read_line(line);
-    let answer = echo(parsed);
     let fuel = Fuel::new(true, FuelCosts::default_costs());
-    write_answer_line(out, answer, fuel)
+    write_answer_line(out, echo(read_line(line)), fuel)
 }
 
 fn blank() -> [u64; 186]
