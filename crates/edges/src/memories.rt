@@ -1,305 +1,182 @@
 // A memory's cases.
-ghost use Rattle.std.specs.Prelude.{◌≡◌, length};
-
-use super::text::Order;
-use super::{print, settings, text, words};
+use super::case::{DONE, Subject};
+use super::settings::{Means, bytes_of};
 use memory::access::{LoadKind, StoreKind};
-use memory::grow::GrownMemory;
 use memory::memory::Memory;
-use memory::new::CreatedMemory;
+use memory::new::new_memory;
 use std::io;
-use types::answer::{Answer, Refusal, Value};
-use types::fuel::{Fuel, FuelCosts};
+use types::answer::{Answer, Value};
 use types::index_ty::IndexType;
-use types::limiter::Limiter;
 use types::limits::Limits;
 use types::memory_ty::{MemoryType, PageSize, WantedMemory};
 
-// The bytes before.
-fn dirty() -> [u8; 40]
-    ensures { 40 ≡ length result }
-{
-    [0xa5u8; 40]
+const LOADS: [LoadKind; 14] = [
+    LoadKind::I32,
+    LoadKind::I64,
+    LoadKind::F32,
+    LoadKind::F64,
+    LoadKind::I32From8S,
+    LoadKind::I32From8U,
+    LoadKind::I32From16S,
+    LoadKind::I32From16U,
+    LoadKind::I64From8S,
+    LoadKind::I64From8U,
+    LoadKind::I64From16S,
+    LoadKind::I64From16U,
+    LoadKind::I64From32S,
+    LoadKind::I64From32U,
+];
+
+const STORES: [StoreKind; 9] = [
+    StoreKind::I32,
+    StoreKind::I64,
+    StoreKind::F32,
+    StoreKind::F64,
+    StoreKind::I32To8,
+    StoreKind::I32To16,
+    StoreKind::I64To8,
+    StoreKind::I64To16,
+    StoreKind::I64To32,
+];
+
+// A memory and its bytes, and the caller's four bytes where the last line read to them.
+#[derive(Clone, Copy)]
+pub(crate) struct MemoryCase {
+    memory: Memory,
+    bytes: [u8; 40],
+    caller: Option<[u8; 4]>,
 }
 
-// What an operation answered, with all else as it was.
-fn answered(m: GrownMemory, answer: Answer) -> GrownMemory {
-    let memory = m.memory;
-    let fuel = m.fuel;
-    let limiter = m.limiter;
-    GrownMemory {
-        answer,
-        memory,
-        fuel,
-        limiter,
-    }
-}
-
-// 18 is said of a line that is malformed.
-fn malformed(m: GrownMemory) -> GrownMemory {
-    answered(
-        m,
-        Err(Refusal {
-            number: 18,
-            amount: 0,
-        }),
-    )
-}
-
-// A creation that is refused leaves no bytes in use.
-fn created(m: GrownMemory, done: CreatedMemory) -> GrownMemory {
-    let fuel = m.fuel;
-    let limiter = done.limiter;
-    let made = done.made;
-    match made {
-        Ok(memory) => GrownMemory {
-            answer: Ok(Value::Number(0)),
-            memory,
-            fuel,
-            limiter,
-        },
-        Err(refusal) => {
-            let mut memory = m.memory;
-            memory.size = 0;
-            GrownMemory {
-                answer: Err(refusal),
-                memory,
-                fuel,
-                limiter,
-            }
-        }
-    }
-}
-
-// Index type, page exponent, minimum, whether there is a maximum, maximum, start, room.
-fn create(x: Order, m: GrownMemory, bytes: &mut [u8]) -> GrownMemory {
-    let limits = Limits {
-        minimum: x.c,
-        bounded: x.d != 0,
-        maximum: x.e,
-    };
-    let wanted = WantedMemory {
-        wide: x.a != 0,
-        limits,
-        exponent: text::byte(x.b),
-    };
-    let start = x.f as usize;
-    let done = memory::new::new_memory(wanted, start, x.g, bytes, m.limiter);
-    created(m, done)
-}
-
-// Kind, pointer, offset.
-fn load(x: Order, m: GrownMemory, bytes: &[u8]) -> GrownMemory {
-    let kinds = [
-        LoadKind::I32,
-        LoadKind::I64,
-        LoadKind::F32,
-        LoadKind::F64,
-        LoadKind::I32From8S,
-        LoadKind::I32From8U,
-        LoadKind::I32From16S,
-        LoadKind::I32From16U,
-        LoadKind::I64From8S,
-        LoadKind::I64From8U,
-        LoadKind::I64From16S,
-        LoadKind::I64From16U,
-        LoadKind::I64From32S,
-        LoadKind::I64From32U,
-    ];
-    let n = x.a as usize;
-    if 14 <= n {
-        return malformed(m);
-    }
-    let memory = m.memory;
-    answered(m, memory.load(bytes, kinds[n], x.b, x.c))
-}
-
-// Kind, pointer, offset, bits.
-fn store(x: Order, m: GrownMemory, bytes: &mut [u8]) -> GrownMemory {
-    let kinds = [
-        StoreKind::I32,
-        StoreKind::I64,
-        StoreKind::F32,
-        StoreKind::F64,
-        StoreKind::I32To8,
-        StoreKind::I32To16,
-        StoreKind::I64To8,
-        StoreKind::I64To16,
-        StoreKind::I64To32,
-    ];
-    let n = x.a as usize;
-    if 9 <= n {
-        return malformed(m);
-    }
-    let memory = m.memory;
-    answered(m, memory.store(bytes, kinds[n], x.b, x.c, x.d))
-}
-
-// Offset and how many bytes go to the first of the caller's.
-fn read_to(x: Order, m: GrownMemory, bytes: &[u8], to: &mut [u8]) -> GrownMemory {
-    let n = x.b as usize;
-    if to.len() < n {
-        return malformed(m);
-    }
-    let memory = m.memory;
-    answered(m, memory.read(bytes, x.a, &mut to[0..n]))
-}
-
-// The caller has four bytes a5, which are printed.
-fn read(
-    rt: &impl Print,
-    name: &[u8],
-    x: Order,
-    m: GrownMemory,
-    bytes: &[u8],
-) -> io::Result<GrownMemory> {
-    let mut to = [0xa5u8; 4];
-    let next = read_to(x, m, bytes, &mut to);
-    print::memory(rt, name, next, &to)?;
-    Ok(next)
-}
-
-// Offset and bytes, which stand in the row after it.
-fn write(x: Order, low: &[u8], m: GrownMemory, bytes: &mut [u8]) -> GrownMemory {
-    let n = (x.key % 256) as usize;
-    if n == 0 {
-        return malformed(m);
-    }
-    if low.len() < n {
-        return malformed(m);
-    }
-    let memory = m.memory;
-    answered(m, memory.write(bytes, x.a, &low[1..n]))
-}
-
-// Fuel and limiter for the lines that follow.
-fn with(x: Order, low: &[u8], m: GrownMemory) -> GrownMemory {
-    let means = settings::given(x, low);
-    let memory = m.memory;
-    let fuel = means.fuel;
-    let limiter = means.limiter;
-    GrownMemory {
-        answer: Ok(Value::Number(0)),
-        memory,
-        fuel,
-        limiter,
-    }
-}
-
-// A 32-bit memory's record, sound or not: whether its pages have 64 KiB, minimum, whether there is a maximum, maximum, start, room, size.
-fn record_of(x: Order) -> Memory {
-    let page = if x.a == 0 {
-        PageSize::One
-    } else {
-        PageSize::Wasm
-    };
+// A 32-bit memory's record, sound or not.
+fn record_of(page: PageSize, limits: Limits, start: u64, room: u64, size: u64) -> Memory {
     Memory {
         ty: MemoryType {
             index: IndexType::I32,
             page,
-            limits: Limits {
-                minimum: x.b,
-                bounded: x.c != 0,
-                maximum: x.d,
-            },
+            limits,
         },
-        start: x.e as usize,
-        room: x.f,
-        size: x.g,
+        start: start as usize,
+        room,
+        size,
     }
 }
 
-// The record for the lines that follow.
-fn record(x: Order, m: GrownMemory) -> GrownMemory {
-    let memory = record_of(x);
-    let mut next = m;
-    next.memory = memory;
-    answered(next, Ok(Value::Number(0)))
-}
-
-// By how many pages.
-fn grow(x: Order, m: GrownMemory, bytes: &mut [u8]) -> GrownMemory {
-    let memory = m.memory;
-    memory.grow(bytes, x.a, m.fuel, m.limiter)
-}
-
-// The size in pages.
-fn pages(m: GrownMemory) -> GrownMemory {
-    let memory = m.memory;
-    answered(m, Ok(Value::Number(memory.pages())))
-}
-
-// What changes no byte.
-fn look(x: Order, low: &[u8], m: GrownMemory, bytes: &[u8]) -> GrownMemory {
-    let key = x.key;
-    match key {
-        words::PAGES => pages(m),
-        words::LOAD => load(x, m, bytes),
-        words::WITH..=words::WITH_16 => with(x, low, m),
-        words::RECORD => record(x, m),
-        _ => malformed(m),
+fn limits_of(minimum: u64, bounded: u64, maximum: u64) -> Limits {
+    Limits {
+        minimum,
+        bounded: bounded != 0,
+        maximum,
     }
 }
 
-// What the line asks for.
-fn act(x: Order, low: &[u8], m: GrownMemory, bytes: &mut [u8]) -> GrownMemory {
-    let key = x.key;
-    match key {
-        words::NEW => create(x, m, bytes),
-        words::GROW => grow(x, m, bytes),
-        words::STORE => store(x, m, bytes),
-        words::WRITE..=words::WRITE_16 => write(x, low, m, bytes),
-        _ => look(x, low, m, bytes),
-    }
-}
-
-// One line.
-fn obey(rt: &impl Print, line: &[u8], m: GrownMemory, bytes: &mut [u8]) -> io::Result<GrownMemory> {
-    if text::passed_over(line) {
-        return Ok(m);
-    }
-    let mut low = [0u8; 20];
-    let end = text::find(line, 0, b' ');
-    let x = text::read_order(&line[end..line.len()], &mut low);
-    if x.key == words::READ {
-        return read(rt, &line[0..end], x, m, bytes);
-    }
-    let next = act(x, &low, m, bytes);
-    print::memory(rt, &line[0..end], next, bytes)?;
-    Ok(next)
-}
-
-// No bytes yet.
-fn fresh() -> GrownMemory {
-    let memory = record_of(text::no_order());
-    GrownMemory {
-        answer: Ok(Value::Number(0)),
-        memory,
-        fuel: Fuel::new(true, FuelCosts::default_costs()),
-        limiter: Limiter::none(),
-    }
-}
-
-// The lines from a place on, up to the next section; answers where that is.
-fn lines(rt: &impl Print, input: &[u8], from: usize, bytes: &mut [u8]) -> io::Result<usize> {
-    let mut m = fresh();
-    let mut at = from;
-    while at < input.len() {
-        let end = text::find(input, at, b'\n');
-        m = obey(rt, &input[at..end], m, bytes)?;
-        if input.len() <= end {
-            return Ok(end);
-        }
-        at = end + 1;
-        if text::section_at(input, at) {
-            return Ok(at);
+impl MemoryCase {
+    // Dirty bytes, of which none is in use.
+    pub(crate) fn new() -> MemoryCase {
+        MemoryCase {
+            memory: record_of(PageSize::One, limits_of(0, 0, 0), 0, 0, 0),
+            bytes: [0xa5; 40],
+            caller: None,
         }
     }
-    Ok(at)
+
+    // A creation that is refused leaves no bytes in use.
+    fn create(&mut self, means: &mut Means, wanted: WantedMemory, start: u64, room: u64) -> Answer {
+        let done = new_memory(wanted, start as usize, room, &mut self.bytes, means.limiter);
+        means.limiter = done.limiter;
+        match done.made {
+            Ok(memory) => {
+                self.memory = memory;
+                DONE
+            }
+            Err(refusal) => {
+                self.memory.size = 0;
+                Err(refusal)
+            }
+        }
+    }
+
+    fn grow(&mut self, means: &mut Means, pages: u64) -> Answer {
+        let grown = self
+            .memory
+            .grow(&mut self.bytes, pages, means.fuel, means.limiter);
+        self.memory = grown.memory;
+        means.fuel = grown.fuel;
+        means.limiter = grown.limiter;
+        grown.answer
+    }
+
+    // A host read of at most four bytes.
+    fn read(&mut self, offset: u64, len: u64) -> Option<Answer> {
+        let mut to = [0xa5u8; 4];
+        let part = to.get_mut(..len as usize)?;
+        let answer = self.memory.read(&self.bytes, offset, part);
+        self.caller = Some(to);
+        Some(answer)
+    }
 }
 
-// A section starts with dirty bytes.
-pub(crate) fn section(rt: &impl Print, input: &[u8], from: usize) -> io::Result<usize> {
-    let mut bytes = dirty();
-    lines(rt, input, from, &mut bytes)
+impl Subject for MemoryCase {
+    fn act(&mut self, means: &mut Means, word: &[u8], numbers: &[u64]) -> Option<Answer> {
+        self.caller = None;
+        match (word, numbers) {
+            (b"new", [wide, exponent, minimum, bounded, maximum, start, room]) => {
+                let wanted = WantedMemory {
+                    wide: *wide != 0,
+                    limits: limits_of(*minimum, *bounded, *maximum),
+                    exponent: u8::try_from(*exponent).unwrap_or(u8::MAX),
+                };
+                Some(self.create(means, wanted, *start, *room))
+            }
+            (b"record", [wasm, minimum, bounded, maximum, start, room, size]) => {
+                let page = if *wasm == 0 {
+                    PageSize::One
+                } else {
+                    PageSize::Wasm
+                };
+                let limits = limits_of(*minimum, *bounded, *maximum);
+                self.memory = record_of(page, limits, *start, *room, *size);
+                Some(DONE)
+            }
+            (b"grow", [pages]) => Some(self.grow(means, *pages)),
+            (b"pages", []) => Some(Ok(Value::Number(self.memory.pages()))),
+            (b"load", [kind, pointer, offset]) => {
+                let kind = *LOADS.get(*kind as usize)?;
+                Some(self.memory.load(&self.bytes, kind, *pointer, *offset))
+            }
+            (b"store", [kind, pointer, offset, bits]) => {
+                let kind = *STORES.get(*kind as usize)?;
+                Some(
+                    self.memory
+                        .store(&mut self.bytes, kind, *pointer, *offset, *bits),
+                )
+            }
+            (b"write", [offset, bytes @ ..]) => {
+                let row = bytes_of(bytes);
+                let part = row.get(..bytes.len())?;
+                Some(self.memory.write(&mut self.bytes, *offset, part))
+            }
+            (b"read", [offset, len]) => self.read(*offset, *len),
+            _ => None,
+        }
+    }
+
+    fn size(&self) -> u64 {
+        self.memory.size
+    }
+
+    // Two digits for each byte, of the caller's where the line read to them.
+    fn print_cells(&self, rt: &impl Print) -> io::Result<()> {
+        match &self.caller {
+            Some(bytes) => print_bytes(rt, bytes),
+            None => print_bytes(rt, &self.bytes),
+        }
+    }
+}
+
+fn print_bytes(rt: &impl Print, bytes: &[u8]) -> io::Result<()> {
+    print!(rt; " ")?;
+    for b in bytes {
+        print!(rt; "{b:02x}")?;
+    }
+    println!(rt)
 }

@@ -1,7 +1,6 @@
 // What operations are given besides their cells.
-use super::text::Order;
 use types::fuel::{Fuel, FuelCosts};
-use types::limiter::Limiter;
+use types::limiter::{LONGEST_SCRIPT, Limiter};
 
 #[derive(Clone, Copy)]
 pub(crate) struct Means {
@@ -9,42 +8,38 @@ pub(crate) struct Means {
     pub(crate) limiter: Limiter,
 }
 
-// A number of 32 bits, the largest from there on.
-fn word(n: u64) -> u32 {
-    if 4294967295 < n {
-        return 4294967295;
-    }
-    n as u32
+// Numbers as bytes, 255 from there on, and zeros behind them.
+pub(crate) fn bytes_of(numbers: &[u64]) -> [u8; LONGEST_SCRIPT] {
+    std::array::from_fn(|i| {
+        let n = numbers.get(i).copied().unwrap_or(0);
+        u8::try_from(n).unwrap_or(u8::MAX)
+    })
 }
 
-// The limiter of the answers that stand in the row from the fourth number on; bytes that are no script are no limiter.
-fn limiter(x: Order, low: &[u8]) -> Limiter {
-    let none = Limiter::none();
-    let n = (x.key % 256) as usize;
-    if n < 3 {
-        return none;
+impl Means {
+    // No fuel, metered, and no limiter.
+    pub(crate) fn new() -> Means {
+        Means {
+            fuel: Fuel::new(true, FuelCosts::default_costs()),
+            limiter: Limiter::none(),
+        }
     }
-    if low.len() < n {
-        return none;
-    }
-    let over = none.hand_over(&low[3..n]);
-    over.limiter
-}
 
-// Fuel, bytes a unit, metering, and the limiter's answers.
-pub(crate) fn given(x: Order, low: &[u8]) -> Means {
-    let copied = word(x.b);
-    let limiter = limiter(x, low);
-    Means {
-        fuel: Fuel {
-            remaining: x.a,
-            enabled: x.c != 0,
-            costs: FuelCosts {
-                copied,
-                translated: 7,
-                validated: 2,
+    // Fuel, bytes a unit, metering and the limiter's script, if it is not too long; bytes that are no script are no limiter.
+    pub(crate) fn given(fuel: u64, per_unit: u64, metering: u64, script: &[u64]) -> Option<Means> {
+        let row = bytes_of(script);
+        let over = Limiter::none().hand_over(row.get(..script.len())?);
+        Some(Means {
+            fuel: Fuel {
+                remaining: fuel,
+                enabled: metering != 0,
+                costs: FuelCosts {
+                    copied: u32::try_from(per_unit).unwrap_or(u32::MAX),
+                    translated: 7,
+                    validated: 2,
+                },
             },
-        },
-        limiter,
+            limiter: over.limiter,
+        })
     }
 }

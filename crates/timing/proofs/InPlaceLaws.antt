@@ -1,15 +1,11 @@
--- Laws of an operation that is done again and again in place. Assumes nothing.
-use Rattle.types.proofs.Prelude.{ℕ, zero, suc, ◌-◌, ◌<◌, ◌≤◌, ◌≡◌, refl, ap, Bool, arith}
+-- A law of an operation that is done again and again in place. Assumes nothing.
+use Rattle.types.proofs.Prelude.{ℕ, suc, refl, ◌+◌, ◌-◌, ◌<◌, ◌≡◌, ap, ◌∙◌, Bool, arith}
 use Rattle.machine.specs.declared.operation.Operation.{Operation}
 use Rattle.timing.specs.InPlace.{Rowing, again}
 
--- one round, then the rest
-pub round : (t : Bool) (n : ℕ) (h : Rowing) (op : Operation) → 0 < n → again t (n - 1) (again t 1 h op) op ≡ again t n h op
+-- one round of those that are left, then the rest
+pub round : (t : Bool) (n i : ℕ) (h k : Rowing) (op : Operation) → i < n → k ≡ again t 1 h op → again t (n - (i + 1)) k op ≡ again t (n - i) h op
 unfolding again
-round t zero h op k = absurd (omega arith)
-round t (suc n) h op k = let e : suc n - 1 ≡ n = omega arith in ap (λ (j : ℕ). again t j (again t 1 h op) op) e
-
-pub none : (t : Bool) (n : ℕ) (h : Rowing) (op : Operation) → n ≤ 0 → h ≡ again t n h op
-unfolding again
-none t zero h op k = refl
-none t (suc n) h op k = absurd (omega arith)
+round t n i h k op p q =
+    let e : n - i ≡ suc (n - (i + 1)) = omega arith in
+    ap (λ (x : Rowing). again t (n - (i + 1)) x op) q ∙ rw e refl

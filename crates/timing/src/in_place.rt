@@ -1,4 +1,6 @@
 // One operation line again and again on a machine in place, in a row that is lent.
+#![tactic(auto, using(types::proofs::Prelude::pick_true, types::proofs::Prelude::pick_false, crate::proofs::InPlaceLaws::round), unfolding(crate::specs::InPlace::again, crate::specs::InPlace::timed_in))]
+
 ghost use Rattle.std.specs.Prelude.{◌≡◌};
 ghost use Rattle.lines.specs.Code.{read_line};
 ghost use Rattle.timing.specs.InPlace.{rowing, again, timed_in, Rounded};
@@ -21,46 +23,28 @@ fn once(
 {
     if tested {
         let _ = row::operate(words, bytes, cells, items, op);
-        return;
+    } else {
+        let _ = row::proceed(words, bytes, cells, items, op);
     }
-    let _ = row::proceed(words, bytes, cells, items, op);
 }
 
+// So many rounds of what a line says; what is no operation does nothing.
 fn repeat(
     words: &mut [u64],
     bytes: &mut [u8],
     cells: &mut [u64],
     items: &mut [u64],
     tested: bool,
-    op: Operation,
+    said: Read,
     rounds: u64,
 )
     ensures { rowing words.new bytes.new cells.new items.new
-        ≡ again tested rounds (rowing words.old bytes.old cells.old items.old) op }
+        ≡ timed_in tested rounds (rowing words.old bytes.old cells.old items.old) said }
 {
-    let mut left = rounds;
-    while left > 0 {
-        once(words, bytes, cells, items, tested, op);
-        left -= 1;
-    }
-}
-
-fn timed_by(
-    words: &mut [u64],
-    bytes: &mut [u8],
-    cells: &mut [u64],
-    items: &mut [u64],
-    tested: bool,
-    parsed: Read,
-    rounds: u64,
-)
-    ensures { rowing words.new bytes.new cells.new items.new
-        ≡ timed_in tested rounds (rowing words.old bytes.old cells.old items.old) parsed }
-{
-    match parsed {
-        Read::Operation(op) => repeat(words, bytes, cells, items, tested, op, rounds),
-        Read::Making { .. } => {}
-        Read::Malformed => {}
+    if let Read::Operation(op) = said {
+        for _ in 0..rounds {
+            once(words, bytes, cells, items, tested, op);
+        }
     }
 }
 
@@ -78,7 +62,6 @@ pub extern "C" fn rounds_in_place(
     ensures { Rounded (timed_in tested rounds (rowing words.old bytes.old cells.old items.old) (read_line line.now))
         result words.new bytes.new cells.new items.new }
 {
-    timed_by(words, bytes, cells, items, tested, read_line(line), rounds);
-    let fuel = row::fuel_of(words);
-    fuel.remaining
+    repeat(words, bytes, cells, items, tested, read_line(line), rounds);
+    row::fuel_of(words).remaining
 }

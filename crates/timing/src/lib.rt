@@ -1,5 +1,5 @@
 // Exports for the benches only: each builds the records of one operation from numbers, and leaves what a host would keep.
-#![tactic(auto)]
+#![tactic(auto, unfolding(crate::specs::Timing::page_of, crate::specs::Timing::memory_of, crate::specs::Timing::fuel_of, crate::specs::Timing::table_of, crate::specs::Timing::ref_of, crate::specs::Timing::segment_of, crate::specs::Timing::step_number, crate::specs::Timing::step_left))]
 
 pub mod in_place;
 pub mod text;
@@ -14,13 +14,15 @@ ghost use Rattle.table.specs.Table.{get_table, set_table};
 ghost use Rattle.table.specs.Fill.{fill_table};
 ghost use Rattle.table.specs.Copy.{copy_table};
 ghost use Rattle.table.specs.Init.{init_table};
-ghost use Rattle.timing.specs.Timing.{page_of, memory_of, fuel_of, table_of, ref_of, segment_of, fill_span, copy_span, Grew, Took, Charged, Got, Wrote, Spans};
+ghost use Rattle.types.specs.Answer.{number_of};
+ghost use Rattle.timing.specs.Timing.{memory_of, fuel_of, table_of, ref_of, segment_of, fill_span, copy_span, Grew, Took, Charged, Got, Wrote, Spans};
 
 use memory::memory::Memory;
 use table::element::ElementSegment;
 use table::table::Table;
-use types::answer::Refusal;
+use types::answer::{number, shown};
 use types::fuel::{Fuel, FuelCosts};
+use types::grant::Spanned;
 use types::index_ty::IndexType;
 use types::limiter::Limiter;
 use types::limits::Limits;
@@ -29,33 +31,23 @@ use types::raw::{RawRef, RefType, TypedRawRef};
 use types::span::{CopySpan, FillSpan};
 use types::table_ty::TableType;
 
-fn page_of(wasm: bool) -> PageSize
-    ensures { result ≡ page_of wasm }
-{
-    if wasm {
-        return PageSize::Wasm;
-    }
-    PageSize::One
-}
+const NO_LIMITS: Limits = Limits {
+    minimum: 0,
+    bounded: false,
+    maximum: 0,
+};
 
 // A memory at the start of its buffer, with no maximum.
 fn memory_of(wide: bool, wasm: bool, room: u64, size: u64) -> Memory
     ensures { result ≡ memory_of wide wasm room size }
 {
-    let index = IndexType::of(wide);
-    let page = page_of(wasm);
-    let limits = Limits {
-        minimum: 0,
-        bounded: false,
-        maximum: 0,
-    };
-    let ty = MemoryType {
-        index,
-        page,
-        limits,
-    };
+    let page = if wasm { PageSize::Wasm } else { PageSize::One };
     Memory {
-        ty,
+        ty: MemoryType {
+            index: IndexType::of(wide),
+            page,
+            limits: NO_LIMITS,
+        },
         start: 0,
         room,
         size,
@@ -65,15 +57,51 @@ fn memory_of(wide: bool, wasm: bool, room: u64, size: u64) -> Memory
 fn fuel_of(metered: bool, remaining: u64, per_unit: u32) -> Fuel
     ensures { result ≡ fuel_of metered remaining per_unit }
 {
-    let costs = FuelCosts {
-        copied: per_unit,
-        translated: 7,
-        validated: 2,
-    };
     Fuel {
         remaining,
         enabled: metered,
-        costs,
+        costs: FuelCosts {
+            copied: per_unit,
+            translated: 7,
+            validated: 2,
+        },
+    }
+}
+
+// A table of function references whose room is its size, with no maximum.
+fn table_of(wide: bool, start: usize, size: u64) -> Table
+    ensures { result ≡ table_of wide start size }
+{
+    Table {
+        ty: TableType {
+            element: RefType::Func,
+            index: IndexType::of(wide),
+            limits: NO_LIMITS,
+        },
+        start,
+        room: size,
+        size,
+    }
+}
+
+fn ref_of(bits: u64) -> TypedRawRef
+    ensures { result ≡ ref_of bits }
+{
+    TypedRawRef {
+        raw: RawRef { bits },
+        ty: RefType::Func,
+    }
+}
+
+// A segment of the first items.
+fn segment_of(size: u64) -> ElementSegment
+    ensures { result ≡ segment_of size }
+{
+    ElementSegment {
+        ty: RefType::Func,
+        start: 0,
+        places: size,
+        size,
     }
 }
 
@@ -93,28 +121,10 @@ pub extern "C" fn timing_grow(
 {
     let memory = memory_of(wide, wasm, bytes.len() as u64, *size);
     let fuel = fuel_of(metered, *left, per_unit);
-    let limiter = Limiter::none();
-    grow_from(memory, bytes, additional, fuel, limiter, size, left)
-}
-
-fn grow_from(
-    memory: Memory,
-    bytes: &mut [u8],
-    additional: u64,
-    fuel: Fuel,
-    limiter: Limiter,
-    size: &mut u64,
-    left: &mut u64,
-) -> u8
-    ensures { Grew (grow_memory memory bytes.old additional fuel limiter) result bytes.new size.new left.new }
-{
-    let grown = memory.grow(bytes, additional, fuel, limiter);
-    let after = grown.memory;
-    let paid = grown.fuel;
-    let answer = grown.answer;
-    *size = after.size;
-    *left = paid.remaining;
-    types::answer::number(answer)
+    let grown = memory.grow(bytes, additional, fuel, Limiter::none());
+    *size = grown.memory.size;
+    *left = grown.fuel.remaining;
+    number(grown.answer)
 }
 
 // A host read of as many bytes as the caller's buffer has.
@@ -130,14 +140,7 @@ pub extern "C" fn timing_read(
     ensures { Took (read_memory (memory_of wide wasm (length bytes.now) size) bytes.now offset to.old) result to.new }
 {
     let memory = memory_of(wide, wasm, bytes.len() as u64, size);
-    read_from(memory, bytes, offset, to)
-}
-
-fn read_from(memory: Memory, bytes: &[u8], offset: u64, to: &mut [u8]) -> u8
-    ensures { Took (read_memory memory bytes.now offset to.old) result to.new }
-{
-    let answer = memory.read(bytes, offset, to);
-    types::answer::number(answer)
+    number(memory.read(bytes, offset, to))
 }
 
 // A host write of the caller's buffer.
@@ -153,27 +156,7 @@ pub extern "C" fn timing_write(
     ensures { Took (write_memory (memory_of wide wasm (length bytes.old) size) bytes.old offset from.now) result bytes.new }
 {
     let memory = memory_of(wide, wasm, bytes.len() as u64, size);
-    write_to(memory, bytes, offset, from)
-}
-
-fn write_to(memory: Memory, bytes: &mut [u8], offset: u64, from: &[u8]) -> u8
-    ensures { Took (write_memory memory bytes.old offset from.now) result bytes.new }
-{
-    let answer = memory.write(bytes, offset, from);
-    types::answer::number(answer)
-}
-
-// What the step leaves, and its number.
-fn settle(step: Result<Fuel, Refusal>, left: &mut u64) -> u8
-    ensures { Charged step left.old result left.new }
-{
-    match step {
-        Ok(fuel) => {
-            *left = fuel.remaining;
-            0
-        }
-        Err(refusal) => refusal.number,
-    }
+    number(memory.write(bytes, offset, from))
 }
 
 // A charge. The fuel left stands where the host keeps it.
@@ -181,62 +164,13 @@ fn settle(step: Result<Fuel, Refusal>, left: &mut u64) -> u8
 pub extern "C" fn timing_charge(metered: bool, left: &mut u64, price: u64) -> u8
     ensures { Charged (consume (fuel_of metered left.old 64) price) left.old result left.new }
 {
-    let fuel = fuel_of(metered, *left, 64);
-    let step = fuel.consume_fuel(price);
-    settle(step, left)
-}
-
-// A table of function references whose room is its size, with no maximum.
-fn table_of(wide: bool, start: usize, size: u64) -> Table
-    ensures { result ≡ table_of wide start size }
-{
-    let index = IndexType::of(wide);
-    let limits = Limits {
-        minimum: 0,
-        bounded: false,
-        maximum: 0,
-    };
-    let ty = TableType {
-        element: RefType::Func,
-        index,
-        limits,
-    };
-    Table {
-        ty,
-        start,
-        room: size,
-        size,
+    match fuel_of(metered, *left, 64).consume_fuel(price) {
+        Ok(fuel) => {
+            *left = fuel.remaining;
+            0
+        }
+        Err(refusal) => refusal.number,
     }
-}
-
-fn ref_of(bits: u64) -> TypedRawRef
-    ensures { result ≡ ref_of bits }
-{
-    let raw = RawRef { bits };
-    TypedRawRef {
-        raw,
-        ty: RefType::Func,
-    }
-}
-
-// A segment of the first items.
-fn segment_of(size: u64) -> ElementSegment
-    ensures { result ≡ segment_of size }
-{
-    ElementSegment {
-        ty: RefType::Func,
-        start: 0,
-        places: size,
-        size,
-    }
-}
-
-fn get_from(table: Table, cells: &[u64], index: u64, value: &mut u64) -> u8
-    ensures { Got (get_table table cells.now index) result value.new }
-{
-    let answer = table.get(cells, index);
-    *value = types::answer::shown(answer);
-    types::answer::number(answer)
 }
 
 // One cell of a table, through an out parameter.
@@ -250,15 +184,9 @@ pub extern "C" fn timing_get(
 ) -> u8
     ensures { Got (get_table (table_of wide 0 size) cells.now index) result value.new }
 {
-    let table = table_of(wide, 0, size);
-    get_from(table, cells, index, value)
-}
-
-fn set_from(table: Table, cells: &mut [u64], index: u64, value: TypedRawRef) -> u8
-    ensures { Wrote (set_table table cells.old index value) result cells.new }
-{
-    let answer = table.set(cells, index, value);
-    types::answer::number(answer)
+    let answer = table_of(wide, 0, size).get(cells, index);
+    *value = shown(answer);
+    number(answer)
 }
 
 // One cell of a table is set.
@@ -266,26 +194,15 @@ fn set_from(table: Table, cells: &mut [u64], index: u64, value: TypedRawRef) -> 
 pub extern "C" fn timing_set(cells: &mut [u64], wide: bool, size: u64, index: u64, bits: u64) -> u8
     ensures { Wrote (set_table (table_of wide 0 size) cells.old index (ref_of bits)) result cells.new }
 {
-    let table = table_of(wide, 0, size);
-    let value = ref_of(bits);
-    set_from(table, cells, index, value)
+    number(table_of(wide, 0, size).set(cells, index, ref_of(bits)))
 }
 
-fn fill_from(
-    table: Table,
-    cells: &mut [u64],
-    span: FillSpan,
-    value: TypedRawRef,
-    fuel: Fuel,
-    left: &mut u64,
-) -> u8
-    ensures { Spans (fill_table raw_bytes table cells.old span value fuel) result cells.new left.new }
+// The fuel that a span leaves goes where the host keeps it, and its number is answered.
+fn settle(done: Spanned, left: &mut u64) -> u8
+    ensures { (result ≡ number_of done.answer) × (left.new ≡ done.fuel.remaining) }
 {
-    let filled = table.fill(cells, span, value, fuel);
-    let paid = filled.fuel;
-    let answer = filled.answer;
-    *left = paid.remaining;
-    types::answer::number(answer)
+    *left = done.fuel.remaining;
+    number(done.answer)
 }
 
 // A fill of the table that has all the buffer's first cells.
@@ -303,31 +220,13 @@ pub extern "C" fn timing_fill(
 ) -> u8
     ensures { Spans (fill_table raw_bytes (table_of wide 0 size) cells.old (fill_span to count) (ref_of bits) (fuel_of metered left.old per_unit)) result cells.new left.new }
 {
-    let table = table_of(wide, 0, size);
-    let value = ref_of(bits);
     let fuel = fuel_of(metered, *left, per_unit);
     let span = FillSpan {
         start: to,
         len: count,
     };
-    fill_from(table, cells, span, value, fuel, left)
-}
-
-fn copy_from(
-    table: Table,
-    source: Table,
-    cells: &mut [u64],
-    span: CopySpan,
-    fuel: Fuel,
-    left: &mut u64,
-) -> u8
-    ensures { Spans (copy_table raw_bytes table source cells.old span fuel) result cells.new left.new }
-{
-    let copied = table.copy(source, cells, span, fuel);
-    let paid = copied.fuel;
-    let answer = copied.answer;
-    *left = paid.remaining;
-    types::answer::number(answer)
+    let done = table_of(wide, 0, size).fill(cells, span, ref_of(bits), fuel);
+    settle(done, left)
 }
 
 // A copy to the table of the first `size` cells from that of as many from `start` on, which may be the same.
@@ -346,7 +245,6 @@ pub extern "C" fn timing_copy(
 ) -> u8
     ensures { Spans (copy_table raw_bytes (table_of wide 0 size) (table_of wide start size) cells.old (copy_span to from count) (fuel_of metered left.old per_unit)) result cells.new left.new }
 {
-    let table = table_of(wide, 0, size);
     let source = table_of(wide, start, size);
     let fuel = fuel_of(metered, *left, per_unit);
     let span = CopySpan {
@@ -354,40 +252,8 @@ pub extern "C" fn timing_copy(
         from,
         len: count,
     };
-    copy_from(table, source, cells, span, fuel, left)
-}
-
-fn init_from(
-    table: Table,
-    segment: ElementSegment,
-    cells: &mut [u64],
-    items: &[u64],
-    span: CopySpan,
-    fuel: Fuel,
-    left: &mut u64,
-) -> u8
-    ensures { Spans (init_table raw_bytes table segment cells.old items.now span fuel) result cells.new left.new }
-{
-    let written = table.init(segment, cells, items, span, fuel);
-    let paid = written.fuel;
-    let answer = written.answer;
-    *left = paid.remaining;
-    types::answer::number(answer)
-}
-
-fn init_first(
-    table: Table,
-    cells: &mut [u64],
-    items: &[u64],
-    places: u64,
-    span: CopySpan,
-    fuel: Fuel,
-    left: &mut u64,
-) -> u8
-    ensures { Spans (init_table raw_bytes table (segment_of places) cells.old items.now span fuel) result cells.new left.new }
-{
-    let segment = segment_of(places);
-    init_from(table, segment, cells, items, span, fuel, left)
+    let done = table_of(wide, 0, size).copy(source, cells, span, fuel);
+    settle(done, left)
 }
 
 // An init from a segment of the first `places` items.
@@ -407,12 +273,13 @@ pub extern "C" fn timing_init(
 ) -> u8
     ensures { Spans (init_table raw_bytes (table_of wide 0 size) (segment_of places) cells.old items.now (copy_span to from count) (fuel_of metered left.old per_unit)) result cells.new left.new }
 {
-    let table = table_of(wide, 0, size);
+    let segment = segment_of(places);
     let fuel = fuel_of(metered, *left, per_unit);
     let span = CopySpan {
         to,
         from,
         len: count,
     };
-    init_first(table, cells, items, places, span, fuel, left)
+    let done = table_of(wide, 0, size).init(segment, cells, items, span, fuel);
+    settle(done, left)
 }

@@ -1,5 +1,7 @@
 // Operation lines: one read and answered at once, and a whole session over lines in one buffer.
-ghost use Rattle.std.specs.Prelude.{◌≡◌, true, replicate};
+#![tactic(auto, unfolding(crate::specs::Text::echo_of, crate::specs::Text::session_on))]
+
+ghost use Rattle.std.specs.Prelude.{◌≡◌, true};
 ghost use Rattle.types.specs.Fuel.{new_fuel, default_costs};
 ghost use Rattle.machine.specs.Machine.{buffers};
 ghost use Rattle.lines.specs.Code.{read_line};
@@ -20,11 +22,7 @@ fn echo(parsed: Read) -> Answer
 {
     match parsed {
         Read::Operation(_) => Ok(Value::Number(0)),
-        Read::Making { .. } => Err(Refusal {
-            number: 18,
-            amount: 0,
-        }),
-        Read::Malformed => Err(Refusal {
+        _ => Err(Refusal {
             number: 18,
             amount: 0,
         }),
@@ -36,16 +34,8 @@ fn echo(parsed: Read) -> Answer
 pub extern "C" fn rounds_line(line: &[u8], out: &mut [u8]) -> bool
     ensures { done result out.new ≡ answered_of out.old (echo_of (read_line line.now)) (new_fuel true default_costs) }
 {
-    let parsed = read_line(line);
-    let answer = echo(parsed);
     let fuel = Fuel::new(true, FuelCosts::default_costs());
-    write_answer_line(out, answer, fuel)
-}
-
-fn blank() -> [u64; 186]
-    ensures { result ≡ replicate 186 0 }
-{
-    [0u64; 186]
+    write_answer_line(out, echo(read_line(line)), fuel)
 }
 
 // A session on a fresh machine over one piece: how many bytes of answers it wrote.
@@ -60,8 +50,7 @@ pub extern "C" fn rounds_session(
     ensures { Sent (session_on (buffers bytes.old cells.old items.old) input.now out.old)
         result bytes.new cells.new items.new out.new }
 {
-    let mut words = blank();
+    let mut words = [0; 186];
     row::fresh(&mut words, true, FuelCosts::default_costs());
-    let p = piece(Session::new(), &mut words, bytes, cells, items, input, out);
-    p.wrote
+    piece(Session::new(), &mut words, bytes, cells, items, input, out).wrote
 }
