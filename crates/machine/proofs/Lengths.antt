@@ -1,22 +1,9 @@
 -- How many words each record takes. Assumes nothing.
+pub use Rattle.machine.specs.stages.Laws.{length_memory, length_table, length_segment}
 use Rattle.types.proofs.Prelude.{◌≡◌, refl, length}
-use Rattle.memory.specs.declared.memory.Memory.{Memory}
-use Rattle.table.specs.{declared.table.Table.Table, declared.element.ElementSegment.ElementSegment}
 use Rattle.types.specs.{declared.fuel.Fuel.Fuel, declared.limiter.Limiter.Limiter}
 use Rattle.machine.specs.declared.records.Counts.{Counts}
-use Rattle.machine.specs.Words.{memory_words, table_words, segment_words, count_words, fuel_words, place_words, standing_words}
-
-pub length_memory : (r : Memory) → length (memory_words r) ≡ 8
-unfolding memory_words
-length_memory r = refl
-
-pub length_table : (r : Table) → length (table_words r) ≡ 8
-unfolding table_words
-length_table r = refl
-
-pub length_segment : (r : ElementSegment) → length (segment_words r) ≡ 4
-unfolding segment_words
-length_segment r = refl
+use Rattle.machine.specs.Words.{count_words, fuel_words, place_words, standing_words}
 
 pub length_count : (k : Counts) → length (count_words k) ≡ 3
 unfolding count_words

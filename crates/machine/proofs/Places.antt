@@ -1,7 +1,9 @@
 -- Laws of records in a row: each stands at its place, its words are a cut of the row, and a record written to its place is one of the list. Assumes nothing.
-use Rattle.types.proofs.Prelude.{ℕ, zero, suc, ◌+◌, ◌*◌, ◌≤◌, ◌<◌, ◌≡◌, refl, sym, ap, ◌∙◌, Bool, true, false, List, [], ◌∷◌, ◌++◌, append_assoc, arith, length}
+use Rattle.types.proofs.Prelude.{ℕ, zero, suc, ◌+◌, ◌*◌, ◌-◌, ◌≤◌, ◌<◌, ◌≡◌, refl, sym, ap, ◌∙◌, Bool, true, false, List, [], ◌∷◌, ◌++◌, append_assoc, arith, length}
 use Rattle.types.proofs.Prelude.{take, drop, set, get_or, length-take, drop-drop, drop-cons, both_1, both_2}
 use Rattle.types.proofs.Spans.{length_over}
+use mathlib.Core.Bool.{◌&&◌}
+use Rattle.std.proofs.lemmas.Nat.{mul-le}
 use lib.{ListN.take-append-drop, Seq.take-add, Seq.drop-append-add}
 use Rattle.types.specs.{Pick.both, Span.over, Span.cut}
 use Rattle.machine.specs.Words.{rows_of, records_from, all_at}
@@ -24,6 +26,13 @@ module _ {A : Type 0} (f : List ℕ → ℕ → A) (w : ℕ) (l : List ℕ) wher
   records_length a zero = refl
   records_length a (suc n) = ap suc (records_length (a + w) n)
 
+-- a record with a number below n ends among the places of n records
+pub place_inside : (a w n i e : ℕ) → i < n → a + n * w ≤ e → a + w * i + w ≤ e
+place_inside a w n i e h k =
+    let m : (i + 1) * w ≤ n * w = mul-le (i + 1) w n w (omega arith) (omega arith) in
+    let e : (i + 1) * w ≡ w * i + w = grind arith in
+    omega (arith, m, k, e)
+
 -- a test at each of some places: at the first, at the others
 both_join : (a b c : Bool) → both (both a b) c ≡ both a (both b c)
 unfolding both
@@ -35,19 +44,44 @@ unfolding both
 both_all true = refl
 both_all false = refl
 
-module _ (t : List ℕ → ℕ → Bool) (w : ℕ) (l : List ℕ) where
-  -- one more test, joined to what was found before it
-  pub all_next : (a n k b : ℕ) (fine here : Bool) → 0 < n → n ≡ k + 1 → b ≡ a + w → here ≡ t l a → both fine (all_at t w l a n) ≡ both (both fine here) (all_at t w l b k)
-  unfolding all_at
-  all_next a zero k b fine here h q r e = absurd (omega (arith, h))
-  all_next a (suc n) k b fine here h q r e =
-      let m : n ≡ k = omega (arith, q) in
-      sym (both_join fine (t l a) _) ∙ ap (λ (x : Bool). both (both fine x) (all_at t w l (a + w) n)) (sym e)
-      ∙ ap (λ (j : ℕ). both (both fine here) (all_at t w l (a + w) j)) m ∙ ap (λ (c : ℕ). both (both fine here) (all_at t w l c k)) (sym r)
+joins : (a b : Bool) → (a && b) ≡ both a b
+unfolding both
+joins true b = refl
+joins false b = refl
 
-  pub all_none : (a n : ℕ) (fine : Bool) → n ≡ 0 → fine ≡ both fine (all_at t w l a n)
+-- a loop that makes all n tests from a on: before it, a turn, after it
+module _ (t : List ℕ → ℕ → Bool) (w : ℕ) (l : List ℕ) (a n : ℕ) where
+  abbrev pub Tested : ℕ → Bool → Type 0
+  Tested i fine = all_at t w l a n ≡ both fine (all_at t w l (a + w * i) (n - i))
+
+  pub all_none : Tested 0 true
+  unfolding both
+  all_none =
+      let e : a + w * 0 ≡ a = omega arith in
+      let k : n - 0 ≡ n = omega arith in
+      ap (λ (p : ℕ). all_at t w l p n) (sym e) ∙ ap (all_at t w l (a + w * 0)) (sym k)
+
+  all_split : (p k : ℕ) → 0 < k → all_at t w l p k ≡ both (t l p) (all_at t w l (p + w) (k - 1))
   unfolding all_at
-  all_none a n fine e = sym (ap (λ (k : ℕ). both fine (all_at t w l a k)) e ∙ both_all fine)
+  all_split p zero h = absurd (omega arith)
+  all_split p (suc k) h =
+      let e : suc k - 1 ≡ k = omega arith in
+      ap (λ (j : ℕ). both (t l p) (all_at t w l (p + w) j)) (sym e)
+
+  pub all_next : (i : ℕ) (fine here : Bool) → i < n → here ≡ t l (a + w * i) → Tested i fine → Tested (i + 1) (fine && here)
+  all_next i fine here h e f =
+      let p : a + w * i + w ≡ a + w * (i + 1) = omega arith in
+      let k : n - i - 1 ≡ n - (i + 1) = omega arith in
+      f ∙ ap (both fine) (all_split (a + w * i) (n - i) (omega arith))
+      ∙ sym (both_join fine (t l (a + w * i)) _) ∙ ap (λ (x : Bool). both (both fine x) (all_at t w l (a + w * i + w) (n - i - 1))) (sym e)
+      ∙ ap (λ (x : Bool). both x (all_at t w l (a + w * i + w) (n - i - 1))) (sym (joins fine here))
+      ∙ ap (λ (j : ℕ). both (fine && here) (all_at t w l j (n - i - 1))) p ∙ ap (λ (j : ℕ). both (fine && here) (all_at t w l (a + w * (i + 1)) j)) k
+
+  pub all_done : (i : ℕ) (fine : Bool) → n ≤ i → Tested i fine → fine ≡ all_at t w l a n
+  unfolding all_at
+  all_done i fine h f =
+      let k : n - i ≡ 0 = omega arith in
+      sym (f ∙ ap (λ (j : ℕ). both fine (all_at t w l (a + w * i) j)) k ∙ both_all fine)
 
 -- cuts
 pub cut_add : (l : List ℕ) (a i k : ℕ) → cut l a i ++ cut l (a + i) k ≡ cut l a (i + k)

@@ -5,6 +5,8 @@ use Rattle.types.proofs.Prelude.{either}
 use Rattle.types.specs.{Pick.pick, Span.over, Raw.raw_bytes, Fuel.left, declared.fuel.Fuel.Fuel, declared.limiter.Limiter.Limiter, Answer.refuse}
 use Rattle.memory.specs.declared.memory.Memory.{Memory}
 use Rattle.table.specs.{declared.table.Table.Table, declared.element.ElementSegment.ElementSegment}
+use Rattle.types.specs.Pick.{both}
+use Rattle.types.proofs.Prelude.{both_then}
 use Rattle.machine.specs.{Machine.Buffers, Machine.no_memory, Machine.no_table, Machine.no_segment, Sound.sound_over, Operation.well_formed}
 use Rattle.machine.specs.Outcome.{keeps, with_memories, with_tables, with_segments, changed, settled}
 use Rattle.machine.specs.Step.{Stepped, on_none, after, perform, decide, step}
@@ -347,6 +349,9 @@ module _ (l : List ℕ) (b : Buffers) (op : Operation) {x : InRow} where
     unfolding operate_row
     operates_unsound f e q =
         q ∙ kept_row l b 19 (form_holds l f) ∙ ap (row_after l) (sym (unsound_stops raw_bytes (machine_from l) b op w e)) ∙ sym (pick_true _ _ _ w ∙ pick_true _ _ _ f)
+
+    pub operates_unready : both (in_form l) (sound_over (machine_from l) b) ≡ false → x ≡ row_keeps l b 19 → x ≡ operate_row raw_bytes l b op
+    operates_unready t q = either (in_form l) (λ f. operates_unsound f (sym (both_then _ _ f) ∙ t) q) (λ f. operates_out_of_form f q)
 
     pub operates_goes : in_form l ≡ true → sound_over (machine_from l) b ≡ true → Goes l b op x → x ≡ operate_row raw_bytes l b op
     unfolding operate_row

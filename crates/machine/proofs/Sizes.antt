@@ -1,7 +1,10 @@
 -- On a row in form the two sizes are what the operations 12 and 22 answer, refusals too. Assumes nothing.
-use Rattle.types.proofs.Prelude.{ℕ, zero, suc, ◌+◌, ◌*◌, ◌<◌, ◌≡◌, refl, sym, ap, ◌∙◌, Bool, true, List, arith, ltb, length, ltb-true, le-leb}
+use Rattle.types.proofs.Prelude.{ℕ, zero, suc, ◌+◌, ◌*◌, ◌<◌, ◌≡◌, refl, sym, ap, ◌∙◌, Bool, true, List, arith, ltb, length, get_or, ltb-true, le-leb}
 use Rattle.types.proofs.Prelude.{pick_true, pick_false, both_1, both_2, either}
-use Rattle.types.specs.{Done.Done, Answer.Answer}
+use Rattle.types.proofs.Picks.{pick_ap}
+use Rattle.types.specs.{Done.Done, Answer.Answer, Answer.accept, Answer.refuse, Pick.unless}
+use Rattle.machine.specs.stages.Records.{known, size_by}
+use Rattle.machine.specs.declared.records.Counts.{Counts}
 use Rattle.machine.specs.{Machine.Buffers, Sound.sound_machine, Sound.sound_over}
 use Rattle.machine.specs.{Operation.well_formed, Operation.memory_well_formed, Memories.perform_memory, Memories.on_memory}
 use Rattle.machine.specs.{Tables.perform_table, Tables.on_table, Step.Stepped, Step.perform, Step.step}
@@ -12,6 +15,15 @@ use Rattle.machine.proofs.{Formed.form_long, Rooms.memories_few, Rooms.tables_fe
 use Rattle.machine.specs.declared.operation.Operation.TheVariants as op
 use Rattle.machine.specs.declared.operation.MemoryOp.TheVariants as memory
 use Rattle.machine.specs.declared.operation.TableOp.TheVariants as table
+
+-- the size of a record in use, of any kind
+pub size_known : {A : Type 0} (size : A → ℕ) (used : Counts → ℕ) (form : List ℕ → ℕ → Bool) (place width : ℕ) (listed : Machine → List A) (none : A) (l : List ℕ) (bytes cells items i : ℕ)
+    → size_by size (known used form place width listed none l bytes cells items i)
+    ≡ if_sound l bytes cells items
+    (unless (ltb i (used (machine_from l).counts)) (refuse 16 0)
+    (unless (form l (place + width * i)) (refuse 19 0) (accept (size (get_or (listed (machine_from l)) i none)))))
+unfolding known size_by if_sound
+size_known size used form place width listed none l bytes cells items i = simp (pick_ap (size_by size)) refl
 
 -- a test that holds at some places holds at each of them
 all_each : (t : List ℕ → ℕ → Bool) (w : ℕ) (l : List ℕ) (a n i p : ℕ) → i < n → p ≡ a + w * i → all_at t w l a n ≡ true → t l p ≡ true

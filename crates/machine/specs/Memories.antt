@@ -3,8 +3,8 @@ use Rattle.std.specs.Prelude.{ℕ, ◌-◌, List, leb, ltb, length, Ok, Err, Res
 use Rattle.types.specs.Names.{pick, unless, both, Done, done, accept, build_memory, match_memory}
 use Rattle.types.specs.Names.{Answer, Fuel, Limiter, MemoryType, WantedMemory}
 use Rattle.memory.specs.Names.{pages_of, load_memory, store_memory, new_memory, grow_memory, Memory, GrownMemory, CreatedMemory}
-use Rattle.machine.specs.{Machine.capacity, Machine.memory_at, Machine.next_byte, Outcome.leaves, Outcome.creates, Outcome.refused, Outcome.one_memory_more}
-use Rattle.machine.specs.declared.{records.Machine.Machine, outcome.Outcome.Outcome, outcome.Change.Change, operation.MemoryOp.MemoryOp}
+use Rattle.machine.specs.{Machine.capacity, Machine.memory_at, Machine.next_byte, Outcome.made, Outcome.refused, Outcome.one_memory_more}
+use Rattle.machine.specs.declared.{records.Machine.Machine, records.Counts.Counts, outcome.Outcome.Outcome, outcome.Change.Change, operation.MemoryOp.MemoryOp}
 use Rattle.types.specs.declared.answer.Refusal.{Refusal}
 
 -- an answer that leaves a memory's record, fuel and limiter
@@ -48,9 +48,7 @@ on_memory m bs i o =
 
 -- 10: a creation answers the new number; a refused one takes neither number nor room
 unfoldable pub made_memory : Machine → Result Memory Refusal → Limiter → Outcome
-made_memory m (Err r) l = leaves m (Err r) m.fuel l
-made_memory m (Ok r) l =
-    creates m m.counts.memories (Change.Memory m.counts.memories r) (one_memory_more m.counts) l
+made_memory = made (λ (k : Counts). k.memories) one_memory_more Change.Memory
 
 -- the same, with the bytes after it
 abbrev pub memory_made : Machine → Done CreatedMemory → Done Outcome

@@ -1,10 +1,11 @@
 -- Document 01, "The machine": an operation changes one record at most; what it gives back, and the machine after it.
-use Rattle.std.specs.Prelude.{ℕ, ◌+◌, List, ltb, set}
+use Rattle.std.specs.Prelude.{ℕ, ◌+◌, List, ltb, set, Ok, Err, Result}
 use Rattle.types.specs.Names.{pick, Done, done, refuse, accept, Answer, Fuel, Limiter}
 use Rattle.memory.specs.Names.{Memory}
 use Rattle.table.specs.Names.{Table, ElementSegment}
 use Rattle.machine.specs.Machine.{capacity}
 use Rattle.machine.specs.declared.{records.Machine.Machine, records.Counts.Counts, outcome.Outcome.Outcome, outcome.Change.Change}
+use Rattle.types.specs.declared.answer.Refusal.{Refusal}
 
 -- an answer that changes no record, with the fuel and the limiter after it
 abbrev pub leaves : Machine → Answer → Fuel → Limiter → Outcome
@@ -17,6 +18,11 @@ keeps m a = leaves m a m.fuel m.limiter
 -- a creation: it answers the new number, and there is one instance more
 abbrev pub creates : Machine → ℕ → Change → Counts → Limiter → Outcome
 creates m number c k l = record { answer = accept number; change = c; counts = k; fuel = m.fuel; limiter = l }
+
+-- the same of any kind: a refused creation takes neither number nor room
+abbrev pub made : {A : Type 0} → (Counts → ℕ) → (Counts → Counts) → (ℕ → A → Change) → Machine → Result A Refusal → Limiter → Outcome
+made used more change m (Err r) l = leaves m (Err r) m.fuel l
+made used more change m (Ok r) l = creates m (used m.counts) (change (used m.counts) r) (more m.counts) l
 
 -- a refusal that leaves all as it is, its buffer too
 abbrev pub refused : Machine → ℕ → List ℕ → Done Outcome

@@ -1,10 +1,10 @@
 -- Document 01, operations 27 to 29: segments. R, the bytes that a reference counts, is the first argument of an init.
-use Rattle.std.specs.Prelude.{ℕ, ◌-◌, List, leb, ltb, length, Ok, Err, Result}
+use Rattle.std.specs.Prelude.{ℕ, ◌-◌, List, leb, ltb, length, Result}
 use Rattle.types.specs.Names.{unless, both, Done, done, refuse, accept, RefType, CopySpan}
 use Rattle.table.specs.Names.{init_table, dropped, new_segment}
 use Rattle.machine.specs.Machine.{capacity, table_at, segment_at, next_item}
-use Rattle.machine.specs.{Outcome.keeps, Outcome.creates, Outcome.refused, Outcome.one_segment_more, Tables.spanned_done}
-use Rattle.machine.specs.declared.{records.Machine.Machine, outcome.Outcome.Outcome, outcome.Change.Change}
+use Rattle.machine.specs.{Outcome.keeps, Outcome.made, Outcome.refused, Outcome.one_segment_more, Tables.spanned_done}
+use Rattle.machine.specs.declared.{records.Machine.Machine, records.Counts.Counts, outcome.Outcome.Outcome, outcome.Change.Change}
 use Rattle.table.specs.declared.element.ElementSegment.{ElementSegment}
 use Rattle.types.specs.declared.answer.Refusal.{Refusal}
 
@@ -22,9 +22,7 @@ drop_on m i =
 
 -- 29: a creation answers the new number
 unfoldable pub made_segment : Machine → Result ElementSegment Refusal → Outcome
-made_segment m (Err r) = keeps m (Err r)
-made_segment m (Ok r) =
-    creates m m.counts.segments (Change.Segment m.counts.segments r) (one_segment_more m.counts) m.limiter
+made_segment m s = made (λ (k : Counts). k.segments) one_segment_more Change.Segment m s m.limiter
 
 -- the same, with the items after it
 abbrev pub segment_made : Machine → Done (Result ElementSegment Refusal) → Done Outcome

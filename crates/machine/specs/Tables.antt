@@ -1,10 +1,10 @@
 -- Document 01, operations 20 to 26: tables. 16 is tested once, then an operation is one on the table's own record.
 -- R, the bytes that a reference counts, is the first argument throughout.
-use Rattle.std.specs.Prelude.{ℕ, ◌-◌, List, leb, ltb, length, Ok, Err, Result}
+use Rattle.std.specs.Prelude.{ℕ, ◌-◌, List, leb, ltb, length, Result}
 use Rattle.types.specs.Names.{unless, both, Done, done, accept, Answer, Fuel, Limiter, Spanned, TypedRawRef, CopySpan, WantedTable}
 use Rattle.table.specs.Names.{get_table, set_table, new_table, grow_table, fill_table, copy_table, Table, GrownTable, CreatedTable}
-use Rattle.machine.specs.{Machine.capacity, Machine.table_at, Machine.next_cell, Outcome.leaves, Outcome.creates, Outcome.refused, Outcome.one_table_more}
-use Rattle.machine.specs.declared.{records.Machine.Machine, outcome.Outcome.Outcome, outcome.Change.Change, operation.TableOp.TableOp}
+use Rattle.machine.specs.{Machine.capacity, Machine.table_at, Machine.next_cell, Outcome.leaves, Outcome.made, Outcome.refused, Outcome.one_table_more}
+use Rattle.machine.specs.declared.{records.Machine.Machine, records.Counts.Counts, outcome.Outcome.Outcome, outcome.Change.Change, operation.TableOp.TableOp}
 use Rattle.types.specs.declared.answer.Refusal.{Refusal}
 
 -- an answer that leaves a table's record, with fuel and limiter after it
@@ -57,9 +57,7 @@ copy_on r m cs into source span =
 
 -- 20: a creation answers the new number; a refused one takes neither number nor room
 unfoldable pub made_table : Machine → Result Table Refusal → Limiter → Outcome
-made_table m (Err r) l = leaves m (Err r) m.fuel l
-made_table m (Ok r) l =
-    creates m m.counts.tables (Change.Table m.counts.tables r) (one_table_more m.counts) l
+made_table = made (λ (k : Counts). k.tables) one_table_more Change.Table
 
 -- the same, with the cells after it
 abbrev pub table_made : Machine → Done CreatedTable → Done Outcome

@@ -8,6 +8,7 @@ pub mod memories;
 pub mod operate;
 pub mod operation;
 pub mod outcome;
+pub(crate) mod record;
 pub mod records;
 pub mod row;
 pub mod segments;

@@ -1,4 +1,6 @@
 // The operations: of fuel and limiter, of one memory, of one table, of two tables or a table and a segment, of segments, and the three creations.
+#![tactic(auto, unfolding(crate::specs::Operation::fuel_well_formed, crate::specs::Operation::memory_well_formed, crate::specs::Operation::well_formed, crate::specs::stages::Rows::fuel_writes, crate::specs::stages::Rows::memory_writes, crate::specs::stages::Rows::table_writes, crate::specs::stages::Rows::writes_of))]
+
 ghost use Rattle.std.specs.Prelude.{◌≡◌};
 ghost use Rattle.machine.specs.Operation.{fuel_well_formed, memory_well_formed, well_formed};
 ghost use Rattle.machine.specs.stages.Rows.{fuel_writes, memory_writes, table_writes, writes_of};
@@ -146,9 +148,7 @@ fn fuel_well_formed(op: FuelOp) -> bool
     ensures { result ≡ fuel_well_formed op }
 {
     match op {
-        FuelOp::SetFuel { .. } => true,
-        FuelOp::GetFuel => true,
-        FuelOp::Charge { .. } => true,
+        FuelOp::SetFuel { .. } | FuelOp::GetFuel | FuelOp::Charge { .. } => true,
         FuelOp::SetLimiter { script } => fields::script_fields(script),
     }
 }
@@ -157,11 +157,11 @@ fn memory_well_formed(op: MemoryOp) -> bool
     ensures { result ≡ memory_well_formed op }
 {
     match op {
-        MemoryOp::Grow { .. } => true,
-        MemoryOp::Size => true,
-        MemoryOp::Load { .. } => true,
         MemoryOp::Store { kind, bits, .. } => fields::store_fields(kind, bits),
-        MemoryOp::LinkCheck { .. } => true,
+        MemoryOp::Grow { .. }
+        | MemoryOp::Size
+        | MemoryOp::Load { .. }
+        | MemoryOp::LinkCheck { .. } => true,
     }
 }
 
@@ -177,9 +177,7 @@ fn fuel_writes(op: FuelOp) -> Writes
     ensures { result ≡ fuel_writes op }
 {
     match op {
-        FuelOp::SetFuel { .. } => Writes::Nothing,
-        FuelOp::GetFuel => Writes::Nothing,
-        FuelOp::Charge { .. } => Writes::Nothing,
+        FuelOp::SetFuel { .. } | FuelOp::GetFuel | FuelOp::Charge { .. } => Writes::Nothing,
         FuelOp::SetLimiter { .. } => Writes::Script,
     }
 }
@@ -189,10 +187,10 @@ fn memory_writes(op: MemoryOp) -> Writes
 {
     match op {
         MemoryOp::Grow { .. } => Writes::Record,
-        MemoryOp::Size => Writes::Nothing,
-        MemoryOp::Load { .. } => Writes::Nothing,
-        MemoryOp::Store { .. } => Writes::Nothing,
-        MemoryOp::LinkCheck { .. } => Writes::Nothing,
+        MemoryOp::Size
+        | MemoryOp::Load { .. }
+        | MemoryOp::Store { .. }
+        | MemoryOp::LinkCheck { .. } => Writes::Nothing,
     }
 }
 
@@ -201,10 +199,8 @@ fn table_writes(op: TableOp) -> Writes
 {
     match op {
         TableOp::Grow { .. } => Writes::Record,
-        TableOp::Size => Writes::Nothing,
-        TableOp::Get { .. } => Writes::Nothing,
-        TableOp::Set { .. } => Writes::Nothing,
-        TableOp::Fill { .. } => Writes::Nothing,
+        TableOp::Size | TableOp::Get { .. } | TableOp::Set { .. } | TableOp::Fill { .. } =>
+            Writes::Nothing,
     }
 }
 
@@ -215,14 +211,13 @@ impl Operation {
     {
         match self {
             Operation::Fuel { op } => fuel_writes(op),
-            Operation::NewMemory { .. } => Writes::Record,
             Operation::Memory { number: _, op } => memory_writes(op),
-            Operation::NewTable { .. } => Writes::Record,
             Operation::Table { number: _, op } => table_writes(op),
-            Operation::TableCopy { .. } => Writes::Nothing,
-            Operation::TableInit { .. } => Writes::Nothing,
-            Operation::DropSegment { .. } => Writes::Record,
-            Operation::NewSegment { .. } => Writes::Record,
+            Operation::TableCopy { .. } | Operation::TableInit { .. } => Writes::Nothing,
+            Operation::NewMemory { .. }
+            | Operation::NewTable { .. }
+            | Operation::DropSegment { .. }
+            | Operation::NewSegment { .. } => Writes::Record,
         }
     }
 
@@ -232,14 +227,14 @@ impl Operation {
     {
         match self {
             Operation::Fuel { op } => fuel_well_formed(op),
-            Operation::NewMemory { .. } => true,
             Operation::Memory { number: _, op } => memory_well_formed(op),
-            Operation::NewTable { .. } => true,
-            Operation::Table { .. } => true,
-            Operation::TableCopy { .. } => true,
             Operation::TableInit { span, .. } => fields::init_fields(span),
-            Operation::DropSegment { .. } => true,
             Operation::NewSegment { element: _, items } => fields::item_fields(items),
+            Operation::NewMemory { .. }
+            | Operation::NewTable { .. }
+            | Operation::Table { .. }
+            | Operation::TableCopy { .. }
+            | Operation::DropSegment { .. } => true,
         }
     }
 }

@@ -1,15 +1,17 @@
 // What an operation gives back: one record changes at most.
-ghost use Rattle.std.specs.Prelude.{◌≡◌, ◌≤◌, length};
+ghost use Rattle.std.specs.Prelude.{◌≡◌, ◌≤◌, ◌<◌, length};
 ghost use Rattle.types.specs.Answer.{refuse};
+ghost use Rattle.machine.specs.Machine.{capacity};
 ghost use Rattle.machine.specs.Words.{row_length, machine_from};
-ghost use Rattle.machine.specs.Outcome.{leaves, keeps};
+ghost use Rattle.machine.specs.Outcome.{leaves, keeps, made};
 
+use super::record::Record;
 use super::records::Counts;
 use super::words;
 use memory::memory::Memory;
 use table::element::ElementSegment;
 use table::table::Table;
-use types::answer::{Answer, Refusal};
+use types::answer::{Answer, Refusal, Value};
 use types::fuel::Fuel;
 use types::limiter::Limiter;
 
@@ -36,11 +38,10 @@ pub(crate) fn leaves(words: &[u64], answer: Answer, fuel: Fuel, limiter: Limiter
     requires { row_length ≤ length words.now }
     ensures { result ≡ leaves (machine_from words.now) answer fuel limiter }
 {
-    let counts = words::counts_from(words);
     Outcome {
         answer,
         change: Change::Nothing,
-        counts,
+        counts: words::counts_from(words),
         fuel,
         limiter,
     }
@@ -51,9 +52,12 @@ pub(crate) fn keeps(words: &[u64], answer: Answer) -> Outcome
     requires { row_length ≤ length words.now }
     ensures { result ≡ keeps (machine_from words.now) answer }
 {
-    let fuel = words::fuel_from(words);
-    let limiter = words::limiter_from(words);
-    leaves(words, answer, fuel, limiter)
+    leaves(
+        words,
+        answer,
+        words::fuel_from(words),
+        words::limiter_from(words),
+    )
 }
 
 pub(crate) fn refuses(words: &[u64], number: u8) -> Outcome
@@ -61,4 +65,30 @@ pub(crate) fn refuses(words: &[u64], number: u8) -> Outcome
     ensures { result ≡ keeps (machine_from words.now) (refuse number 0) }
 {
     keeps(words, Err(Refusal { number, amount: 0 }))
+}
+
+// A creation's outcome: the new number, or a refusal that takes neither number nor room.
+pub(crate) fn made<R: Record>(
+    words: &[u64],
+    created: Result<R, Refusal>,
+    limiter: Limiter,
+) -> Outcome
+    requires { (row_length ≤ length words.now) × (R.used (machine_from words.now).counts < capacity) }
+    ensures { result ≡ made R.used R.more R.change (machine_from words.now) created limiter }
+{
+    let fuel = words::fuel_from(words);
+    match created {
+        Err(refusal) => leaves(words, Err(refusal), fuel, limiter),
+        Ok(record) => {
+            let counts = words::counts_from(words);
+            let number = R::used(counts);
+            Outcome {
+                answer: Ok(Value::Number(number as u64)),
+                change: record.change(number),
+                counts: R::one_more(counts),
+                fuel,
+                limiter,
+            }
+        }
+    }
 }

@@ -1,18 +1,17 @@
 // The machine's records by number, and where the next room starts.
-ghost use Rattle.std.specs.Prelude.{◌≡◌, leb, ltb};
-ghost use Rattle.types.specs.Pick.{both};
-ghost use Rattle.machine.specs.Machine.{capacity, no_limits, no_memory, no_table, no_segment, memory_at, table_at, segment_at, fresh_machine};
+#![tactic(auto, using(types::proofs::Picks::cases), unfolding(crate::specs::Machine::fresh_machine))]
 
+ghost use Rattle.std.specs.Prelude.{◌≡◌, leb, ltb, get_or};
+ghost use Rattle.types.specs.Pick.{both};
+ghost use Rattle.machine.specs.Machine.{capacity, no_limits, memory_at, table_at, segment_at, fresh_machine};
+
+use super::record::Record;
 use memory::memory::Memory;
 use table::element::ElementSegment;
 use table::table::Table;
 use types::fuel::{Fuel, FuelCosts};
-use types::index_ty::IndexType;
 use types::limiter::Limiter;
 use types::limits::Limits;
-use types::memory_ty::{MemoryType, PageSize};
-use types::raw::RefType;
-use types::table_ty::TableType;
 
 // The places for memories, for tables and for segments.
 pub const CAPACITY: usize = 8;
@@ -35,7 +34,7 @@ pub struct Machine {
     pub limiter: Limiter,
 }
 
-fn no_limits() -> Limits
+pub(crate) fn no_limits() -> Limits
     ensures { result ≡ no_limits }
 {
     Limits {
@@ -45,57 +44,22 @@ fn no_limits() -> Limits
     }
 }
 
-fn no_memory() -> Memory
-    ensures { result ≡ no_memory }
-{
-    let limits = no_limits();
-    Memory {
-        ty: MemoryType {
-            index: IndexType::I32,
-            page: PageSize::One,
-            limits,
-        },
-        start: 0,
-        room: 0,
-        size: 0,
-    }
-}
-
-fn no_table() -> Table
-    ensures { result ≡ no_table }
-{
-    let limits = no_limits();
-    Table {
-        ty: TableType {
-            element: RefType::Func,
-            index: IndexType::I32,
-            limits,
-        },
-        start: 0,
-        room: 0,
-        size: 0,
-    }
-}
-
-fn no_segment() -> ElementSegment
-    ensures { result ≡ no_segment }
-{
-    ElementSegment {
-        ty: RefType::Func,
-        start: 0,
-        places: 0,
-        size: 0,
-    }
-}
-
 // Whether one more instance finds a number and its room; else 17.
 pub(crate) fn finds_room(count: usize, room: u64, left: usize) -> bool
     ensures { result ≡ both (ltb count capacity) (leb room left) }
 {
-    if count < CAPACITY {
-        return room <= (left as u64);
+    count < CAPACITY && room <= left as u64
+}
+
+// The record at a place.
+fn record_at<R: Record>(records: &[R], i: usize) -> R
+    ensures { result ≡ get_or records.now i R.none }
+{
+    if i < records.len() {
+        records[i]
+    } else {
+        R::none()
     }
-    false
 }
 
 impl Machine {
@@ -103,22 +67,17 @@ impl Machine {
     pub fn new(metering: bool, costs: FuelCosts) -> Machine
         ensures { result ≡ fresh_machine metering costs }
     {
-        let fuel = Fuel::new(metering, costs);
-        let limiter = Limiter::none();
-        let memory = no_memory();
-        let table = no_table();
-        let segment = no_segment();
         Machine {
-            memories: [memory; CAPACITY],
-            tables: [table; CAPACITY],
-            segments: [segment; CAPACITY],
+            memories: [Memory::none(); CAPACITY],
+            tables: [Table::none(); CAPACITY],
+            segments: [ElementSegment::none(); CAPACITY],
             counts: Counts {
                 memories: 0,
                 tables: 0,
                 segments: 0,
             },
-            fuel,
-            limiter,
+            fuel: Fuel::new(metering, costs),
+            limiter: Limiter::none(),
         }
     }
 
@@ -126,29 +85,20 @@ impl Machine {
     pub fn memory_at(self, i: usize) -> Memory
         ensures { result ≡ memory_at self i }
     {
-        if i < CAPACITY {
-            return self.memories[i];
-        }
-        no_memory()
+        record_at(&self.memories, i)
     }
 
     // The record of a table.
     pub fn table_at(self, i: usize) -> Table
         ensures { result ≡ table_at self i }
     {
-        if i < CAPACITY {
-            return self.tables[i];
-        }
-        no_table()
+        record_at(&self.tables, i)
     }
 
     // The record of a segment.
     pub fn segment_at(self, i: usize) -> ElementSegment
         ensures { result ≡ segment_at self i }
     {
-        if i < CAPACITY {
-            return self.segments[i];
-        }
-        no_segment()
+        record_at(&self.segments, i)
     }
 }

@@ -1,19 +1,23 @@
 // The records of a row by number, where the next room starts, and one operation on a machine in place.
-ghost use Rattle.std.specs.Prelude.{◌≡◌, ◌+◌, ◌≤◌, ◌<◌, ◌^◌, leb, length};
+#![tactic(auto, using(types::proofs::Picks::cases), unfolding(crate::specs::Machine::next_byte, crate::specs::Machine::next_cell, crate::specs::Machine::next_item, crate::specs::Row::fresh_row, crate::specs::Row::fuel_of, crate::specs::Row::row_pages, crate::specs::Row::row_cells, crate::specs::stages::Rows::ends_inside, crate::specs::stages::Rows::changed_row))]
+
+ghost use Rattle.std.specs.Prelude.{◌≡◌, ◌+◌, ◌*◌, ◌≤◌, ◌<◌, ◌^◌, leb, ltb, length, get_or};
 ghost use Rattle.types.specs.Answer.{refuse};
-ghost use Rattle.types.specs.Pick.{both};
+ghost use Rattle.types.specs.Pick.{pick, both};
 ghost use Rattle.types.specs.Raw.{raw_bytes};
-ghost use Rattle.machine.specs.Machine.{capacity, buffers, memory_at, table_at, segment_at, next_byte, next_cell, next_item};
+ghost use Rattle.types.specs.Span.{over};
+ghost use Rattle.machine.specs.Machine.{capacity, buffers};
 ghost use Rattle.machine.specs.Words.{row_length, machine_from, in_form};
 ghost use Rattle.machine.specs.Row.{rowed, fresh_row, in_row, operate_row, fuel_of, row_pages, row_cells};
 ghost use Rattle.machine.specs.Sound.{sound_machine};
-ghost use Rattle.machine.specs.declared.outcome.Change.TheVariants as change;
 ghost use Rattle.machine.specs.stages.Rows.{Inside, ends_inside, changed_row, Settles, Goes, Proceeds};
+ghost use Rattle.machine.specs.stages.Records.{end_of, next_room, known};
 
 use super::operation::{Operation, Writes};
 use super::outcome::{Change, Outcome};
+use super::record::Record;
 use super::records::{CAPACITY, Machine};
-use super::words::{RECORD, ROW, SEGMENT, SEGMENTS, TABLES};
+use super::words::ROW;
 use super::{form, operate, sound, words};
 use memory::memory::Memory;
 use table::element::ElementSegment;
@@ -21,70 +25,27 @@ use table::table::Table;
 use types::answer::{Answer, Refusal, Value};
 use types::fuel::{Fuel, FuelCosts};
 
-// The record of a memory.
-pub(crate) fn memory_at(words: &[u64], i: usize) -> Memory
+// The record with a number.
+pub(crate) fn record_at<R: Record>(words: &[u64], i: usize) -> R
     requires { (row_length ≤ length words.now) × (i < capacity) }
-    ensures { result ≡ memory_at (machine_from words.now) i }
+    ensures { result ≡ get_or (R.listed (machine_from words.now)) i R.none }
 {
-    words::memory_from(words, RECORD * i)
+    R::read(words, R::PLACE + R::WIDTH * i)
 }
 
-// The record of a table.
-pub(crate) fn table_at(words: &[u64], i: usize) -> Table
-    requires { (row_length ≤ length words.now) × (i < capacity) }
-    ensures { result ≡ table_at (machine_from words.now) i }
+// Where the next room of a kind starts.
+pub(crate) fn next_room<R: Record>(words: &[u64]) -> usize
+    requires { (row_length ≤ length words.now) × (R.used (machine_from words.now).counts ≤ capacity)
+        × (next_room (end_of R.start R.room) R.none (R.used (machine_from words.now).counts) (R.listed (machine_from words.now)) < 2 ^ 64) }
+    ensures { result
+        ≡ next_room (end_of R.start R.room) R.none (R.used (machine_from words.now).counts) (R.listed (machine_from words.now)) }
 {
-    words::table_from(words, TABLES + RECORD * i)
-}
-
-// The record of a segment.
-pub(crate) fn segment_at(words: &[u64], i: usize) -> ElementSegment
-    requires { (row_length ≤ length words.now) × (i < capacity) }
-    ensures { result ≡ segment_at (machine_from words.now) i }
-{
-    words::segment_from(words, SEGMENTS + SEGMENT * i)
-}
-
-// Where the next memory's room starts.
-pub(crate) fn next_byte(words: &[u64]) -> usize
-    requires { (row_length ≤ length words.now) × ((machine_from words.now).counts.memories ≤ capacity) × (next_byte (machine_from words.now) < 2 ^ 64) }
-    ensures { result ≡ next_byte (machine_from words.now) }
-{
-    let counts = words::counts_from(words);
-    let count = counts.memories;
-    if count == 0 {
+    let used = R::used(words::counts_from(words));
+    if used == 0 {
         return 0;
     }
-    let last = memory_at(words, count - 1);
-    last.start + (last.room as usize)
-}
-
-// Where the next table's room starts.
-pub(crate) fn next_cell(words: &[u64]) -> usize
-    requires { (row_length ≤ length words.now) × ((machine_from words.now).counts.tables ≤ capacity) × (next_cell (machine_from words.now) < 2 ^ 64) }
-    ensures { result ≡ next_cell (machine_from words.now) }
-{
-    let counts = words::counts_from(words);
-    let count = counts.tables;
-    if count == 0 {
-        return 0;
-    }
-    let last = table_at(words, count - 1);
-    last.start + (last.room as usize)
-}
-
-// Where the next segment's places start.
-pub(crate) fn next_item(words: &[u64]) -> usize
-    requires { (row_length ≤ length words.now) × ((machine_from words.now).counts.segments ≤ capacity) × (next_item (machine_from words.now) < 2 ^ 64) }
-    ensures { result ≡ next_item (machine_from words.now) }
-{
-    let counts = words::counts_from(words);
-    let count = counts.segments;
-    if count == 0 {
-        return 0;
-    }
-    let last = segment_at(words, count - 1);
-    last.start + (last.places as usize)
+    let last: R = record_at(words, used - 1);
+    last.start() + (last.room() as usize)
 }
 
 // Whether no count passes the places, and the next rooms start inside buffers of these lengths.
@@ -92,100 +53,43 @@ fn ends_inside(words: &[u64], bytes: usize, cells: usize, items: usize) -> bool
     requires { row_length ≤ length words.now }
     ensures { result ≡ ends_inside (machine_from words.now) bytes cells items }
 {
-    if !byte_inside(words, bytes) {
-        return false;
-    }
-    if !cell_inside(words, cells) {
-        return false;
-    }
-    item_inside(words, items)
+    kind_inside::<Memory>(words, bytes)
+        && kind_inside::<Table>(words, cells)
+        && kind_inside::<ElementSegment>(words, items)
 }
 
 // Whether a room ends within so many cells; the sum may pass 2^64.
 fn room_inside(start: usize, room: u64, len: usize) -> bool
     ensures { result ≡ leb (start + room) len }
 {
-    if len < start {
-        return false;
-    }
-    room <= ((len - start) as u64)
+    start <= len && room <= (len - start) as u64
 }
 
-fn byte_inside(words: &[u64], bytes: usize) -> bool
+// The same of one kind.
+fn kind_inside<R: Record>(words: &[u64], len: usize) -> bool
     requires { row_length ≤ length words.now }
-    ensures { result ≡ both (leb (machine_from words.now).counts.memories capacity) (leb (next_byte (machine_from words.now)) bytes) }
+    ensures { result
+        ≡ both (leb (R.used (machine_from words.now).counts) capacity)
+        (leb (next_room (end_of R.start R.room) R.none (R.used (machine_from words.now).counts) (R.listed (machine_from words.now))) len) }
 {
-    let counts = words::counts_from(words);
-    let count = counts.memories;
-    if CAPACITY < count {
+    let used = R::used(words::counts_from(words));
+    if CAPACITY < used {
         return false;
     }
-    if count == 0 {
+    if used == 0 {
         return true;
     }
-    let last = memory_at(words, count - 1);
-    room_inside(last.start, last.room, bytes)
+    let last: R = record_at(words, used - 1);
+    room_inside(last.start(), last.room(), len)
 }
 
-fn cell_inside(words: &[u64], cells: usize) -> bool
-    requires { row_length ≤ length words.now }
-    ensures { result ≡ both (leb (machine_from words.now).counts.tables capacity) (leb (next_cell (machine_from words.now)) cells) }
-{
-    let counts = words::counts_from(words);
-    let count = counts.tables;
-    if CAPACITY < count {
-        return false;
-    }
-    if count == 0 {
-        return true;
-    }
-    let last = table_at(words, count - 1);
-    room_inside(last.start, last.room, cells)
-}
-
-fn item_inside(words: &[u64], items: usize) -> bool
-    requires { row_length ≤ length words.now }
-    ensures { result ≡ both (leb (machine_from words.now).counts.segments capacity) (leb (next_item (machine_from words.now)) items) }
-{
-    let counts = words::counts_from(words);
-    let count = counts.segments;
-    if CAPACITY < count {
-        return false;
-    }
-    if count == 0 {
-        return true;
-    }
-    let last = segment_at(words, count - 1);
-    room_inside(last.start, last.places, items)
-}
-
-fn put_memory(words: &mut [u64], i: usize, memory: Memory)
+fn put_record<R: Record>(words: &mut [u64], i: usize, instance: R)
     requires { row_length ≤ length words.old }
-    ensures { words.new ≡ changed_row words.old (change.Memory i memory) }
+    ensures { words.new
+        ≡ pick (ltb i capacity) (over words.old (R.PLACE + R.WIDTH * i) (R.written instance)) words.old }
 {
     if i < CAPACITY {
-        let row = words::memory_words(memory);
-        words::put(words, RECORD * i, &row);
-    }
-}
-
-fn put_table(words: &mut [u64], i: usize, table: Table)
-    requires { row_length ≤ length words.old }
-    ensures { words.new ≡ changed_row words.old (change.Table i table) }
-{
-    if i < CAPACITY {
-        let row = words::table_words(table);
-        words::put(words, TABLES + RECORD * i, &row);
-    }
-}
-
-fn put_segment(words: &mut [u64], i: usize, segment: ElementSegment)
-    requires { row_length ≤ length words.old }
-    ensures { words.new ≡ changed_row words.old (change.Segment i segment) }
-{
-    if i < CAPACITY {
-        let row = words::segment_words(segment);
-        words::put(words, SEGMENTS + SEGMENT * i, &row);
+        instance.write(words, R::PLACE + R::WIDTH * i);
     }
 }
 
@@ -196,9 +100,9 @@ fn put_change(words: &mut [u64], change: Change)
 {
     match change {
         Change::Nothing => {}
-        Change::Memory(i, memory) => put_memory(words, i, memory),
-        Change::Table(i, table) => put_table(words, i, table),
-        Change::Segment(i, segment) => put_segment(words, i, segment),
+        Change::Memory(i, memory) => put_record(words, i, memory),
+        Change::Table(i, table) => put_record(words, i, table),
+        Change::Segment(i, segment) => put_record(words, i, segment),
     }
 }
 
@@ -207,10 +111,13 @@ fn settle(words: &mut [u64], outcome: Outcome, writes: Writes)
     requires { row_length ≤ length words.old }
     ensures { Settles words.old writes outcome words.new }
 {
-    let change = outcome.change;
-    let counts = outcome.counts;
-    let fuel = outcome.fuel;
-    let limiter = outcome.limiter;
+    let Outcome {
+        change,
+        counts,
+        fuel,
+        limiter,
+        ..
+    } = outcome;
     match writes {
         Writes::Nothing => words::put_left(words, fuel.remaining),
         Writes::Record => {
@@ -234,9 +141,8 @@ fn go(
         (in_row result words.new bytes.new cells.new items.new) }
 {
     let outcome = operate::perform(words, bytes, cells, items, op);
-    let answer = outcome.answer;
     settle(words, outcome, op.writes());
-    answer
+    outcome.answer
 }
 
 fn refused(number: u8) -> Answer
@@ -259,10 +165,7 @@ pub fn proceed(
     if !op.is_well_formed() {
         return refused(18);
     }
-    if words.len() < ROW {
-        return refused(19);
-    }
-    if !ends_inside(words, bytes.len(), cells.len(), items.len()) {
+    if words.len() < ROW || !ends_inside(words, bytes.len(), cells.len(), items.len()) {
         return refused(19);
     }
     go(words, bytes, cells, items, op)
@@ -282,10 +185,7 @@ pub fn operate(
     if !op.is_well_formed() {
         return refused(18);
     }
-    if !form::in_form(words) {
-        return refused(19);
-    }
-    if !sound::is_sound(words, bytes.len(), cells.len(), items.len()) {
+    if !is_ready(words, bytes.len(), cells.len(), items.len()) {
         return refused(19);
     }
     go(words, bytes, cells, items, op)
@@ -295,10 +195,7 @@ pub fn operate(
 pub fn is_ready(words: &[u64], bytes: usize, cells: usize, items: usize) -> bool
     ensures { result ≡ both (in_form words.now) (sound_machine (machine_from words.now) bytes cells items) }
 {
-    if !form::in_form(words) {
-        return false;
-    }
-    sound::is_sound(words, bytes, cells, items)
+    form::in_form(words) && sound::is_sound(words, bytes, cells, items)
 }
 
 // A fresh machine in place: 0, or 19 where the row is too short.
@@ -329,25 +226,45 @@ pub fn fuel_of(words: &[u64]) -> Fuel
     words::fuel_from(words)
 }
 
+// The record of a number in use, over buffers of these lengths: of the row's form that record's flags alone are tested.
+fn known<R: Record>(
+    words: &[u64],
+    bytes: usize,
+    cells: usize,
+    items: usize,
+    number: u64,
+) -> Result<R, Refusal>
+    ensures { result
+        ≡ known R.used R.in_form R.PLACE R.WIDTH R.listed R.none words.now bytes cells items number }
+{
+    if words.len() < ROW || !sound::is_sound(words, bytes, cells, items) {
+        return Err(Refusal {
+            number: 19,
+            amount: 0,
+        });
+    }
+    let used = R::used(words::counts_from(words));
+    if (used as u64) <= number {
+        return Err(Refusal {
+            number: 16,
+            amount: 0,
+        });
+    }
+    let i = number as usize;
+    if !R::in_form(words, R::PLACE + R::WIDTH * i) {
+        return Err(Refusal {
+            number: 19,
+            amount: 0,
+        });
+    }
+    Ok(record_at(words, i))
+}
+
 // A memory's size in pages, over buffers of these lengths: 12's answer on a row in form, of which that record's flags alone are tested here.
 pub fn memory_pages(words: &[u64], bytes: usize, cells: usize, items: usize, number: u64) -> Answer
     ensures { result ≡ row_pages words.now bytes cells items number }
 {
-    if words.len() < ROW {
-        return refused(19);
-    }
-    if !sound::is_sound(words, bytes, cells, items) {
-        return refused(19);
-    }
-    let counts = words::counts_from(words);
-    if (counts.memories as u64) <= number {
-        return refused(16);
-    }
-    let i = number as usize;
-    if !form::record_in_form(words, RECORD * i) {
-        return refused(19);
-    }
-    let memory = memory_at(words, i);
+    let memory: Memory = known(words, bytes, cells, items, number)?;
     Ok(Value::Number(memory.pages()))
 }
 
@@ -355,20 +272,6 @@ pub fn memory_pages(words: &[u64], bytes: usize, cells: usize, items: usize, num
 pub fn table_cells(words: &[u64], bytes: usize, cells: usize, items: usize, number: u64) -> Answer
     ensures { result ≡ row_cells words.now bytes cells items number }
 {
-    if words.len() < ROW {
-        return refused(19);
-    }
-    if !sound::is_sound(words, bytes, cells, items) {
-        return refused(19);
-    }
-    let counts = words::counts_from(words);
-    if (counts.tables as u64) <= number {
-        return refused(16);
-    }
-    let i = number as usize;
-    if !form::record_in_form(words, TABLES + RECORD * i) {
-        return refused(19);
-    }
-    let table = table_at(words, i);
+    let table: Table = known(words, bytes, cells, items, number)?;
     Ok(Value::Number(table.size))
 }

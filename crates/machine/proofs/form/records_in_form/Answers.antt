@@ -1,21 +1,17 @@
-use Rattle.types.proofs.Prelude.{refl, sym, ◌∙◌, arith}
-use Rattle.machine.specs.Words.{record_length, record_in_form}
-use Rattle.types.specs.Pick.{both}
-use Rattle.machine.proofs.Places.{all_next, all_none}
+use Rattle.types.proofs.Prelude.{arith}
+use Rattle.machine.proofs.Places.{all_none, all_next, all_done}
 use Rattle.machine.proofs.form.records_in_form.Goals as goal
 
-pub loop-left-init : goal.loop-left-init
-unfolding both
-loop-left-init c = (omega arith, refl)
+pub loop-i-init : goal.loop-i-init
+loop-i-init g c = all_none _ _ _ _ _
 
-pub loop-left-preserved : goal.loop-left-preserved
-unfolding both
-loop-left-preserved c =
-    let l = c.loop-left in
-    let more = c.loop-left-test.true in
-    (omega (arith, l.invariant.0, more), l.invariant.1 ∙ all_next record_in_form record_length _ l.at l.left _ _ l.fine _ more (omega (arith, more)) refl c.record_in_form-here.ensures)
+pub loop-i-preserved : goal.loop-i-preserved
+loop-i-preserved g c =
+    let R = g.R.Record in
+    let l = c.loop-i in
+    all_next R.in_form R.WIDTH (c.args.words.now) R.PLACE 8 l.i l.fine _ (omega arith) (rw (c.PLACE.ensures, c.WIDTH.ensures) at c.in_form-fine.ensures) l.invariant
 
 pub returns : goal.returns
-returns c =
-    let l = c.loop-left in
-    all_none record_in_form record_length _ l.at l.left l.fine (omega (arith, c.loop-left-test.false)) ∙ sym l.invariant.1
+returns g c =
+    let R = g.R.Record in
+    all_done R.in_form R.WIDTH (c.args.words.now) R.PLACE 8 c.loop-i.i c.loop-i.fine (omega arith) c.loop-i.invariant

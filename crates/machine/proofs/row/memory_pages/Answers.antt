@@ -1,70 +1,26 @@
-use Rattle.types.proofs.Prelude.{◌<◌, sym, ap, ◌∙◌, arith, le-leb, lt-leb, lt-ltb, le-ltb, pick_true, pick_false, rules}
-use Rattle.types.specs.Answer.{accept}
+use Rattle.types.proofs.Prelude.{◌+◌, ◌*◌, ◌≡◌, ◌∙◌, sym, ap, arith, rules, List, ℕ}
+use Rattle.std.specs.Prelude.{Err}
 use Rattle.memory.specs.Memory.{pages_of}
-use Rattle.machine.specs.{Words.machine_from, Row.if_sound, Row.row_pages, declared.records.Counts.Counts}
-use Rattle.machine.proofs.Sizes.{memory_place}
+use Rattle.types.specs.Answer.{accept}
+use Rattle.machine.specs.{Machine.no_memory, Words.record_length, Words.record_in_form, Row.row_pages, stages.Records.known, stages.Records.size_by, declared.records.Counts.Counts, declared.records.Machine.Machine}
+use Rattle.machine.proofs.Sizes.{size_known}
 use Rattle.machine.proofs.row.memory_pages.Goals as goal
 
-pub returns-then-words-lt-ROW : goal.returns-then-words-lt-ROW
-unfolding row_pages if_sound
-returns-then-words-lt-ROW c = c.refused.ensures ∙ sym (pick_false _ _ _ (lt-leb _ _ c.if-words-lt-ROW.true))
+pages_known : (l : List ℕ) (bytes cells items i : ℕ) → size_by pages_of (known (λ (k : Counts). k.memories) record_in_form 0 record_length (λ (m : Machine). m.memories) no_memory l bytes cells items i) ≡ row_pages l bytes cells items i
+unfolding row_pages
+pages_known l bytes cells items i =
+    let e : 0 + record_length * i ≡ record_length * i = omega arith in
+    rw e at (size_known pages_of (λ (k : Counts). k.memories) record_in_form 0 record_length (λ (m : Machine). m.memories) no_memory l bytes cells items i)
 
-pub returns-then-not-is_sound : goal.returns-then-not-is_sound
-unfolding row_pages if_sound
-returns-then-not-is_sound c =
-    c.refused-then-not-is_sound.ensures
-    ∙ sym (pick_true _ _ _ (le-leb _ _ c.if-words-lt-ROW.false) ∙ pick_false _ _ _ (sym c.is_sound.ensures ∙ c.if-not-is_sound.true))
-
-pub returns-then-counts-number : goal.returns-then-counts-number
-unfolding row_pages if_sound
-returns-then-counts-number c =
+pub returns-in_err-memory : goal.returns-in_err-memory
+unfolding size_by
+returns-in_err-memory c =
     let a = c.args in
-    let sound = sym c.is_sound.ensures ∙ c.if-not-is_sound.false in
-    let count = ap (λ (k : Counts). k.memories) c.counts_from-counts.ensures in
-    c.refused-then-counts-number.ensures
-    ∙ sym (pick_true _ _ _ (le-leb _ _ c.if-words-lt-ROW.false) ∙ pick_true _ _ _ sound
-    ∙ pick_false _ _ _ (le-ltb a.number (machine_from (a.words.now)).counts.memories (omega (arith, count, c.if-counts-number.true))))
-
-pub overflow_mul-i : goal.overflow_mul-i
-overflow_mul-i c =
-    let a = c.args in
-    let sound = sym c.is_sound.ensures ∙ c.if-not-is_sound.false in
-    let count = ap (λ (k : Counts). k.memories) c.counts_from-counts.ensures in
-    let small : a.number < 8 = memory_place (machine_from (a.words.now)) _ _ _ a.number sound (omega (arith, count, c.if-counts-number.false)) in
-    search rules
-
-pub record_in_form-requires : goal.record_in_form-requires
-record_in_form-requires c =
-    let a = c.args in
-    let sound = sym c.is_sound.ensures ∙ c.if-not-is_sound.false in
-    let count = ap (λ (k : Counts). k.memories) c.counts_from-counts.ensures in
-    let small : a.number < 8 = memory_place (machine_from (a.words.now)) _ _ _ a.number sound (omega (arith, count, c.if-counts-number.false)) in
-    search rules
-
-pub returns-then-not-record_in_form : goal.returns-then-not-record_in_form
-unfolding row_pages if_sound
-returns-then-not-record_in_form c =
-    let a = c.args in
-    let sound = sym c.is_sound.ensures ∙ c.if-not-is_sound.false in
-    let count = ap (λ (k : Counts). k.memories) c.counts_from-counts.ensures in
-    c.refused-then-not-record_in_form.ensures
-    ∙ sym (pick_true _ _ _ (le-leb _ _ c.if-words-lt-ROW.false) ∙ pick_true _ _ _ sound
-    ∙ pick_true _ _ _ (lt-ltb a.number (machine_from (a.words.now)).counts.memories (omega (arith, count, c.if-counts-number.false))) ∙ pick_false _ _ _ (sym c.record_in_form.ensures ∙ c.if-not-record_in_form.true))
-
-pub memory_at-memory-requires : goal.memory_at-memory-requires
-memory_at-memory-requires c =
-    let a = c.args in
-    let sound = sym c.is_sound.ensures ∙ c.if-not-is_sound.false in
-    let count = ap (λ (k : Counts). k.memories) c.counts_from-counts.ensures in
-    let small : a.number < 8 = memory_place (machine_from (a.words.now)) _ _ _ a.number sound (omega (arith, count, c.if-counts-number.false)) in
-    search rules
+    let r : c.from_residual.result ≡ Err c.in_err-memory.field-0.0 = search rules in
+    r ∙ ap (size_by pages_of) (sym c.in_err-memory.was ∙ c.known.ensures) ∙ pages_known (a.words.now) a.bytes a.cells a.items a.number
 
 pub returns : goal.returns
-unfolding row_pages if_sound
+unfolding size_by
 returns c =
     let a = c.args in
-    let sound = sym c.is_sound.ensures ∙ c.if-not-is_sound.false in
-    let count = ap (λ (k : Counts). k.memories) c.counts_from-counts.ensures in
-    ap accept (c.pages.ensures ∙ ap pages_of c.memory_at-memory.ensures)
-    ∙ sym (pick_true _ _ _ (le-leb _ _ c.if-words-lt-ROW.false) ∙ pick_true _ _ _ sound
-    ∙ pick_true _ _ _ (lt-ltb a.number (machine_from (a.words.now)).counts.memories (omega (arith, count, c.if-counts-number.false))) ∙ pick_true _ _ _ (sym c.record_in_form.ensures ∙ c.if-not-record_in_form.false))
+    ap accept c.pages.ensures ∙ ap (size_by pages_of) (sym c.in_ok-memory.was ∙ c.known.ensures) ∙ pages_known (a.words.now) a.bytes a.cells a.items a.number

@@ -1,8 +1,8 @@
-use Rattle.types.proofs.Prelude.{sym, ap, ◌∙◌}
+use Rattle.types.proofs.Prelude.{sym, ap, ◌∙◌, both_1, both_2}
 use Rattle.types.specs.Answer.{Answer}
 use Rattle.machine.specs.{Machine.buffers, Row.in_row, Words.machine_from}
 use Rattle.machine.proofs.Formed.{form_long}
-use Rattle.machine.proofs.Settling.{sound_inside, operates_malformed, operates_out_of_form, operates_unsound, operates_goes}
+use Rattle.machine.proofs.Settling.{sound_inside, operates_malformed, operates_unready, operates_goes}
 use Rattle.machine.proofs.row.operate.Goals as goal
 
 pub returns-then-not-is_well_formed : goal.returns-then-not-is_well_formed
@@ -11,29 +11,22 @@ returns-then-not-is_well_formed c =
     let b = buffers (a.bytes.now) (a.cells.now) (a.items.now) in
     operates_malformed (a.words.now) b a.op (sym c.is_well_formed.ensures ∙ c.if-not-is_well_formed.true) (ap (λ (z : Answer). in_row z (a.words.now) (a.bytes.now) (a.cells.now) (a.items.now)) c.refused.ensures)
 
-pub returns-then-not-in_form : goal.returns-then-not-in_form
-returns-then-not-in_form c =
+pub returns-then-not-is_ready : goal.returns-then-not-is_ready
+returns-then-not-is_ready c =
     let a = c.args in
     let b = buffers (a.bytes.now) (a.cells.now) (a.items.now) in
-    operates_out_of_form (a.words.now) b a.op (sym c.is_well_formed.ensures ∙ c.if-not-is_well_formed.false) (sym c.in_form.ensures ∙ c.if-not-in_form.true) (ap (λ (z : Answer). in_row z (a.words.now) (a.bytes.now) (a.cells.now) (a.items.now)) c.refused-then-not-in_form.ensures)
-
-pub is_sound-requires : goal.is_sound-requires
-is_sound-requires c = form_long _ (sym c.in_form.ensures ∙ c.if-not-in_form.false)
-
-pub returns-then-not-is_sound : goal.returns-then-not-is_sound
-returns-then-not-is_sound c =
-    let a = c.args in
-    let b = buffers (a.bytes.now) (a.cells.now) (a.items.now) in
-    operates_unsound (a.words.now) b a.op (sym c.is_well_formed.ensures ∙ c.if-not-is_well_formed.false) (sym c.in_form.ensures ∙ c.if-not-in_form.false) (sym c.is_sound.ensures ∙ c.if-not-is_sound.true) (ap (λ (z : Answer). in_row z (a.words.now) (a.bytes.now) (a.cells.now) (a.items.now)) c.refused-then-not-is_sound.ensures)
+    operates_unready (a.words.now) b a.op (sym c.is_well_formed.ensures ∙ c.if-not-is_well_formed.false) (sym c.is_ready.ensures ∙ c.if-not-is_ready.true) (ap (λ (z : Answer). in_row z (a.words.now) (a.bytes.now) (a.cells.now) (a.items.now)) c.refused-then-not-is_ready.ensures)
 
 pub go-requires : goal.go-requires
 go-requires c =
     let a = c.args in
     let b = buffers (a.bytes.now) (a.cells.now) (a.items.now) in
-    (form_long (a.words.now) (sym c.in_form.ensures ∙ c.if-not-in_form.false), sound_inside (machine_from (a.words.now)) b (sym c.is_sound.ensures ∙ c.if-not-is_sound.false))
+    let ready = sym c.is_ready.ensures ∙ c.if-not-is_ready.false in
+    (form_long (a.words.now) (both_1 _ _ ready), sound_inside (machine_from (a.words.now)) b (both_2 _ _ ready))
 
 pub returns : goal.returns
 returns c =
     let a = c.args in
     let b = buffers (a.bytes.now) (a.cells.now) (a.items.now) in
-    operates_goes (a.words.now) b a.op (sym c.is_well_formed.ensures ∙ c.if-not-is_well_formed.false) (sym c.in_form.ensures ∙ c.if-not-in_form.false) (sym c.is_sound.ensures ∙ c.if-not-is_sound.false) c.go.ensures
+    let ready = sym c.is_ready.ensures ∙ c.if-not-is_ready.false in
+    operates_goes (a.words.now) b a.op (sym c.is_well_formed.ensures ∙ c.if-not-is_well_formed.false) (both_1 _ _ ready) (both_2 _ _ ready) c.go.ensures

@@ -1,12 +1,11 @@
-use Rattle.types.proofs.Prelude.{length-set, refl, arith}
-use Rattle.machine.proofs.Rows.{put_none, put_turn}
+use Rattle.types.proofs.Prelude.{◌∙◌, ◌+◌, ◌-◌, ap, length, arith}
+use Rattle.types.proofs.Moves.{put_part}
+use borrow.Rule.Slice.PartMut.{put_mid}
 use Rattle.machine.proofs.words.put.Goals as goal
 
-pub loop-i-init : goal.loop-i-init
-loop-i-init c = (put_none _ c.args.row.now c.args.at, omega arith, refl)
-
-pub loop-i-preserved : goal.loop-i-preserved
-loop-i-preserved c =
-    let l = c.loop-i in
+pub returns : goal.returns
+returns c =
     let a = c.args in
-    (put_turn _ l.words a.row.now a.at l.i c.requires (omega arith) l.invariant.0, omega arith, simp length-set l.invariant.2)
+    let row = a.row.now in
+    ap (put_mid a.at (a.at + length row - a.at) (a.words.now)) c.copy_from_slice.ensures.after
+    ∙ put_part a.at (a.at + length row) (a.words.now) row (omega arith) c.requires (omega arith)

@@ -3,11 +3,10 @@ use Rattle.machine.proofs.Rows.{put_none, put_turn}
 use Rattle.machine.proofs.words.put_bytes.Goals as goal
 
 pub loop-i-init : goal.loop-i-init
-loop-i-init c = (put_none _ c.args.row.now c.args.at, omega arith, refl)
+loop-i-init c = (put_none _ c.args.row.now c.args.at, refl)
 
 pub loop-i-preserved : goal.loop-i-preserved
 loop-i-preserved c =
     let l = c.loop-i in
     let a = c.args in
-    let pre = c.requires in
-    (rw c.byte_word.ensures (put_turn _ l.words a.row.now a.at l.i pre (omega arith) l.invariant.0), omega arith, simp length-set l.invariant.2)
+    (rw c.from.ensures (put_turn _ l.words a.row.now a.at l.i c.requires (omega arith) l.invariant.0), simp length-set l.invariant.1)

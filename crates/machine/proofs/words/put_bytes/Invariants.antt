@@ -1,9 +1,6 @@
-use Rattle.types.proofs.Prelude.{◌-◌, ◌≤◌, length, take, ◌≡◌}
+use Rattle.types.proofs.Prelude.{length, take, ◌≡◌}
 use Rattle.types.specs.Span.{over}
 use Rattle.machine.proofs.words.put_bytes.Given as goal
 
 abbrev pub invariant-loop-i : goal.invariant-loop-i
-invariant-loop-i l = (l.words ≡ over l.initial.words l.at (take l.i l.row)) × (l.i ≤ length l.row) × (length l.words ≡ length l.initial.words)
-
-abbrev pub decreases-loop-i : goal.decreases-loop-i
-decreases-loop-i l = length l.row - l.i
+invariant-loop-i l = (l.words ≡ over l.initial.words l.at (take l.i l.row)) × (length l.words ≡ length l.initial.words)

@@ -1,4 +1,4 @@
-use Rattle.types.proofs.Prelude.{ℕ, ap, ◌∙◌, length, length-replicate}
+use Rattle.types.proofs.Prelude.{ℕ, ap, ◌∙◌, length-replicate}
 use mir.Syntax.{w8}
 use borrow.Author.Rules.{elem_Fits}
 use Rattle.machine.specs.Words.{words_of, machine_from}
@@ -12,7 +12,7 @@ returns c =
     let costs = good.1.1.1.1.0.1.1.1.1.0.1.1 in
     let script = good.1.1.1.1.1.0.1.1.0.1 in
     let put = c.put_machine.ensures in
-    let row = put.0 ∙ over_all _ (words_of k) 186 (ap length c.blank-row.ensures ∙ length-replicate {A = ℕ} 186 0) put.1 in (
+    let row = put.0 ∙ over_all _ (words_of k) 186 (length-replicate {A = ℕ} 186 0) put.1 in (
       row,
       ap machine_from row
           ∙ words_alone k

@@ -1,4 +1,4 @@
-use Rattle.types.proofs.Prelude.{ℕ, ◌+◌, ◌*◌, ◌<◌, drop, get_or, length, replicate, set, take, take_all, List, ◌++◌, append-nil, ◌≡◌, sym}
+use Rattle.types.proofs.Prelude.{ℕ, ◌+◌, ◌*◌, ◌<◌, drop, get_or, length, replicate, set, take, take_all, List, ◌++◌, append-nil, ◌≡◌, refl, sym}
 use Rattle.types.proofs.{Prelude.ap, Prelude.◌∙◌, Prelude.arith, Scripts.row_more}
 use Rattle.machine.specs.Words.{script_at, answer_from, records_from, limiter_from}
 use Rattle.machine.proofs.Places.{records_at, records_length}
@@ -25,9 +25,9 @@ all l row i h e =
 pub loop-i-preserved : goal.loop-i-preserved
 loop-i-preserved c =
     let l = c.loop-i in
-    (omega arith, more _ l.script l.i _ c.loop-i-test.true c.answer_from.ensures l.invariant.1)
+    more _ l.script l.i _ c.loop-i-test.true refl l.invariant
 
 pub returns : goal.returns
 returns c =
     let l = c.loop-i in
-    all _ l.script l.i (omega (arith, l.invariant.0, c.loop-i-test.false)) l.invariant.1
+    all _ l.script l.i (omega arith) l.invariant
