@@ -13,6 +13,7 @@ fn hex(text: &[u8]) -> Option<u64> {
 
 // The numbers after a word go to a row; nothing where one is malformed, or where they are too many.
 fn numbers<'a>(text: Option<&[u8]>, row: &'a mut [u64; MOST]) -> Option<&'a [u64]> {
+    // The count is what is answered; `enumerate` would lose the last one.
     let mut count = 0;
     if let Some(text) = text {
         for number in text.split(|b| *b == b' ') {

@@ -21,6 +21,7 @@ fn once(
     ensures { rowing words.new bytes.new cells.new items.new
         ≡ again tested 1 (rowing words.old bytes.old cells.old items.old) op }
 {
+    // C says which by a flag; a closure's contract over four lent slices would be longer than the two calls.
     if tested {
         let _ = row::operate(words, bytes, cells, items, op);
     } else {
