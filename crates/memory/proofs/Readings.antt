@@ -1,15 +1,15 @@
 -- The stages of the code are the chains of checks that the definitions say. Assumes nothing.
-use Rattle.std.specs.Prelude.{Ok, Err, Some, None}
-use Rattle.types.proofs.Prelude.{◌≡◌, ap, sym, ◌∙◌, Bool, true, false, List, ℕ, ◌+◌, ◌-◌, ◌^◌, eqb, leb, ltb, length, replicate, pick_true, pick_false}
+use Rattle.std.specs.Prelude.{Ok, Err, Some, None, Option, Result, ⊤}
+use Rattle.types.proofs.Prelude.{◌≡◌, ap, sym, ◌∙◌, Bool, true, false, List, ℕ, ◌+◌, ◌-◌, ◌^◌, eqb, leb, ltb, length, replicate, pick_true, pick_false, arith}
 use Rattle.types.proofs.{Picks.pick_ap, Chains.growth_chain, Chains.creation_chain}
 use Rattle.types.specs.{Pick.pick, Pick.both, Pick.unless, Done.Done, Done.done, Span.over, Answer.refusal, Answer.refuse, Answer.accept, Fuel.short, Fuel.paid}
 use Rattle.types.specs.{Limiter.says_of, Limiter.moved, Limiter.heard_of, Limiter.noticed, declared.fuel.Fuel.Fuel, declared.limiter.Limiter.Limiter}
 use Rattle.types.specs.MemoryType.{valid_exponent, valid_memory, build_memory, byte_size, minimum_bytes}
-use Rattle.types.specs.declared.memory_ty.WantedMemory.{WantedMemory}
+use Rattle.types.specs.{declared.memory_ty.WantedMemory.WantedMemory, declared.memory_ty.MemoryType.MemoryType, declared.answer.Refusal.Refusal, declared.limiter.Asked.Asked, stages.Grant.grant_creation}
 use Rattle.memory.specs.Memory.{pages_of, resized, sound_memory}
 use Rattle.memory.specs.Grow.{answered, may_have, grown_size, growth_price, grow_memory}
 use Rattle.memory.specs.stages.Grow.{reach_pages, reach_of, enlarged_by, grant_of, grow_to, by_reach, grow_sound}
-use Rattle.memory.specs.{stages.New.made_by, stages.New.made_of, stages.New.by_size, stages.New.by_type, declared.memory.Memory.Memory}
+use Rattle.memory.specs.{stages.New.made_by, stages.New.made_of, stages.New.by_size, stages.New.by_type, stages.New.sized, stages.New.planned, declared.memory.Memory.Memory}
 use Rattle.memory.specs.{declared.new.CreatedMemory.CreatedMemory, declared.grow.GrownMemory.GrownMemory}
 use Rattle.memory.specs.New as new
 
@@ -47,6 +47,58 @@ module _ (m : Memory) (bs : List ℕ) (n : ℕ) (f : Fuel) (l : Limiter) where
 
   pub grow_stops : {g : Done GrownMemory} → sound_memory m (length bs) ≡ false → g ≡ done (answered (refuse 19 0) m f l) bs → g ≡ grow_memory m bs n f l
   grow_stops e q = q ∙ sym (grow_staged ∙ pick_false _ _ _ e)
+
+-- by what the limiter and the room say
+pub made_as : (l : Limiter) (m : Memory) (bs : List ℕ) {a : Asked} {p : Result ⊤ Refusal} → a ≡ grant_creation l (leb m.size m.room) → a.permit ≡ p
+    → made_by p a.limiter m bs ≡ made_of l m bs
+unfolding made_of
+made_as l m bs {a} e q =
+    ap (λ (x : Result ⊤ Refusal). made_by x a.limiter m bs) (sym q) ∙ ap (λ (x : Asked). made_by x.permit x.limiter m bs) e
+
+-- by what the plan is: a creation of a type
+pub plan_missed : (b : Result MemoryType Refusal) (start room : ℕ) {r : Refusal} → b ≡ Err r → Err r ≡ planned b start room
+unfolding planned
+plan_missed b start room e = sym (ap (λ (x : Result MemoryType Refusal). planned x start room) e)
+
+pub plan_sized : (b : Result MemoryType Refusal) (start room : ℕ) {t : MemoryType} {m o : Option ℕ} → b ≡ Ok t → m ≡ minimum_bytes t → m ≡ o
+    → sized o t start room ≡ planned b start room
+unfolding planned
+plan_sized b start room {t} e p q =
+    ap (λ (x : Option ℕ). sized x t start room) (sym q ∙ p) ∙ sym (ap (λ (x : Result MemoryType Refusal). planned x start room) e)
+
+plan_stops : (b : Result MemoryType Refusal) (start room : ℕ) (bs : List ℕ) (l : Limiter) {r : Refusal} → planned b start room ≡ Err r
+    → done (new.refused l r) bs ≡ by_type b l start room bs
+unfolding planned by_type sized by_size
+plan_stops (Err s) start room bs l e = ap (λ (x : Result Memory Refusal). done {A = CreatedMemory} (record { made = x; limiter = l }) bs) (sym e)
+plan_stops (Ok t) start room bs l {r} e = go (minimum_bytes t) e
+  where
+    go : (o : Option ℕ) → sized o t start room ≡ Err r → done (new.refused l r) bs ≡ by_size o l t start room bs
+    go None q = ap (λ (x : Result Memory Refusal). done {A = CreatedMemory} (record { made = x; limiter = l }) bs) (sym q)
+    go (Some size) q = let z : ◌≡◌ {A = ℕ} 0 1 = cc in absurd (omega arith)
+
+plan_goes : (b : Result MemoryType Refusal) (start room : ℕ) (bs : List ℕ) (l : Limiter) {m : Memory} → planned b start room ≡ Ok m
+    → made_of l m bs ≡ by_type b l start room bs
+unfolding planned by_type sized by_size
+plan_goes (Err s) start room bs l e = let z : ◌≡◌ {A = ℕ} 0 1 = cc in absurd (omega arith)
+plan_goes (Ok t) start room bs l {m} e = go (minimum_bytes t) e
+  where
+    go : (o : Option ℕ) → sized o t start room ≡ Ok m → made_of l m bs ≡ by_size o l t start room bs
+    go None q = let z : ◌≡◌ {A = ℕ} 0 1 = cc in absurd (omega arith)
+    go (Some size) q =
+        let h : new.memory_of t start room size ≡ m = cc in
+        ap (λ (x : Memory). made_of l x bs) (sym h)
+
+-- a memory that is planned stands where it is wanted
+pub plan_place : (b : Result MemoryType Refusal) (start room : ℕ) {m : Memory} → planned b start room ≡ Ok m → (m.start ≡ start) × (m.room ≡ room)
+unfolding planned sized
+plan_place (Err s) start room e = let z : ◌≡◌ {A = ℕ} 0 1 = cc in absurd (omega arith)
+plan_place (Ok t) start room {m} e = go (minimum_bytes t) e
+  where
+    go : (o : Option ℕ) → sized o t start room ≡ Ok m → (m.start ≡ start) × (m.room ≡ room)
+    go None q = let z : ◌≡◌ {A = ℕ} 0 1 = cc in absurd (omega arith)
+    go (Some size) q =
+        let h : m ≡ new.memory_of t start room size = cc in
+        (ap (λ (x : Memory). x.start) h, ap (λ (x : Memory). x.room) h)
 
 module _ (w : WantedMemory) (start room : ℕ) (bs : List ℕ) (l : Limiter) where
   abbrev least : ℕ
@@ -96,3 +148,12 @@ module _ (w : WantedMemory) (start room : ℕ) (bs : List ℕ) (l : Limiter) whe
   pub new_stops : {c : Done CreatedMemory} → leb (start + room) (length bs) ≡ false → c ≡ done (new.refused l (refusal 19 0)) bs
       → c ≡ new.new_memory w start room bs l
   new_stops e q = q ∙ sym (new_staged ∙ pick_false _ _ _ e)
+
+  -- a plan that is refused, and one that is not
+  pub new_refused : {r : Refusal} → leb (start + room) (length bs) ≡ true → planned (build_memory w.wide w.limits w.exponent) start room ≡ Err r
+      → done (new.refused l r) bs ≡ new.new_memory w start room bs l
+  new_refused e q = new_goes e (plan_stops (build_memory w.wide w.limits w.exponent) start room bs l q)
+
+  pub new_made : {m : Memory} {c : Done CreatedMemory} → leb (start + room) (length bs) ≡ true
+      → planned (build_memory w.wide w.limits w.exponent) start room ≡ Ok m → c ≡ made_of l m bs → c ≡ new.new_memory w start room bs l
+  new_made e q d = new_goes e (d ∙ plan_goes (build_memory w.wide w.limits w.exponent) start room bs l q)

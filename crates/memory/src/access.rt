@@ -108,7 +108,10 @@ pub fn locate(size: u64, ptr: u64, offset: u64, n: u64) -> Option<u64>
     ensures { result ≡ address_of size ptr offset n }
 {
     let at = ptr.checked_add(offset)?;
-    types::span::within(at, n, size).then_some(at)
+    if types::span::within(at, n, size) {
+        return Some(at);
+    }
+    None
 }
 
 // The number of `n` bytes.

@@ -31,3 +31,12 @@ by_size (Some size) l t start room bs = made_of l (memory_of t start room size) 
 unfoldable pub by_type : Result MemoryType Refusal → Limiter → ℕ → ℕ → List ℕ → Done CreatedMemory
 by_type (Err r) l start room bs = done (refused l r) bs
 by_type (Ok t) l start room bs = by_size (minimum_bytes t) l t start room bs
+
+-- the memory that is made of a type: 1 where there is none, 2 where its minimum in bytes is 2^64
+unfoldable pub sized : Option ℕ → MemoryType → ℕ → ℕ → Result Memory Refusal
+sized None t start room = Err (refusal 2 0)
+sized (Some size) t start room = Ok (memory_of t start room size)
+
+unfoldable pub planned : Result MemoryType Refusal → ℕ → ℕ → Result Memory Refusal
+planned (Err r) start room = Err r
+planned (Ok t) start room = sized (minimum_bytes t) t start room

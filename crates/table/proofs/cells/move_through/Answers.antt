@@ -4,4 +4,4 @@ use Rattle.table.proofs.cells.move_through.Goals as goal
 pub returns : goal.returns
 returns c =
     let a = c.args in
-    through a.to a.from (length a.row.now) _ _ c.requires (c.copy_from_slice-2.ensures.after ∙ c.copy_from_slice.ensures.after)
+    through a.to a.from (length a.row.now) _ _ c.requires (c.put-2.ensures ∙ c.put.ensures)
