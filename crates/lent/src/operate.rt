@@ -84,6 +84,7 @@ fn put_change(
 }
 
 // One operation on what is lent; a list with too few places is refused.
+// Nine parameters: the contract and the theorem `operate_lent_one` name each thing that is lent by itself.
 pub fn operate_lent(
     memories: &mut [Memory],
     tables: &mut [Table],

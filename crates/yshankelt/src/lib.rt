@@ -41,6 +41,7 @@ fn store_from(bytes: &mut [u8], kind: StoreKind, ptr: u64, offset: u64, bits: u6
     types::answer::number(access::store(bytes, kind, ptr, offset, bits))
 }
 
+// An export for each kind and width, as the C interface has them (include/yshankelt.h); what they do is `load_to` and `store_from`.
 #[unsafe(no_mangle)]
 pub extern "C" fn ysh_load_i32(bytes: &[u8], ptr: u64, offset: u64, out: &mut u64) -> u8
     ensures { Given (load LoadKind.I32 bytes.now ptr offset) out.old result out.new }
