@@ -2,7 +2,7 @@
 use Rattle.std.specs.Prelude.{MatchBool}
 use Rattle.std.specs.List.{AllWithin, HoldsAt}
 use Rattle.types.proofs.Prelude.{◌≡◌, refl, sym, Bool, true, false, List, [], ◌∷◌, ℕ, zero, suc, ◌<◌, ◌≤◌, arith, length}
-use Rattle.types.proofs.Prelude.{take, get_or, length-take, le-leb, lt-leb, leb-true, both_left, both_right}
+use Rattle.types.proofs.Prelude.{ap, ◌∙◌, ◌++◌, ◌+◌, add-one, drop, set, replicate, take, get_or, length-take, le-leb, lt-leb, leb-true, both_left, both_right}
 use Rattle.types.proofs.Prelude.{both_1, both_true}
 use native.Mathlib.Nat.{not-suc-le-zero, le_of_suc-le-suc}
 use lib.{ListN.get_or-eq_default, Seq.get_or-take}
@@ -24,6 +24,21 @@ says_row l e h =
 pub says_at : (l : Limiter) → l.at < l.count → get_or l.script l.at 0 ≡ says_of l
 unfolding says_of
 says_at l h = sym (get_or-take l.count l.script l.at 0 h)
+
+-- a turn of the loop that puts a script into a row
+row_suc : (s z : List ℕ) (i : ℕ) → i < length s → length s ≤ length z
+    → set (take i s ++ drop i z) i (get_or s i 0) ≡ take (suc i) s ++ drop (suc i) z
+row_suc [] z i h k = absurd (not-suc-le-zero h)
+row_suc (x ∷ s) [] i h k = absurd (not-suc-le-zero k)
+row_suc (x ∷ s) (y ∷ z) zero h k = refl
+row_suc (x ∷ s) (y ∷ z) (suc i) h k =
+    ap (λ (t : List ℕ). x ∷ t) (row_suc s z i (le_of_suc-le-suc h) (le_of_suc-le-suc k))
+
+pub row_more : (s row : List ℕ) (i : ℕ) → i < length s → length s ≤ 16 → row ≡ take i s ++ drop i (replicate 16 0)
+    → set row i (get_or s i 0) ≡ take (i + 1) s ++ drop (i + 1) (replicate 16 0)
+row_more s row i h k e =
+    ap (λ (r : List ℕ). set r i (get_or s i 0)) e ∙ row_suc s (replicate 16 0) i h k
+    ∙ ap (λ (n : ℕ). take n s ++ drop n (replicate 16 0)) (sym (add-one i))
 
 -- every byte looked at is an answer, or one is none
 answers_yes : (s : List ℕ) → AllWithin (λ b. b ≤ 2) s 0 (length s) → all_answers s ≡ true
