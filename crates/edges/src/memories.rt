@@ -100,8 +100,10 @@ impl MemoryCase {
             .memory
             .grow(&mut self.bytes, pages, means.fuel, means.limiter);
         self.memory = grown.memory;
-        means.fuel = grown.fuel;
-        means.limiter = grown.limiter;
+        *means = Means {
+            fuel: grown.fuel,
+            limiter: grown.limiter,
+        };
         grown.answer
     }
 

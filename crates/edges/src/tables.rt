@@ -120,8 +120,10 @@ impl TableCase {
             .table
             .grow(&mut self.cells, count, value, means.fuel, means.limiter);
         self.table = grown.table;
-        means.fuel = grown.fuel;
-        means.limiter = grown.limiter;
+        *means = Means {
+            fuel: grown.fuel,
+            limiter: grown.limiter,
+        };
         grown.answer
     }
 

@@ -1,11 +1,11 @@
 // The cases that run on a machine.
 use super::lines::answer_line;
+use super::numbers::costs;
 use machine::operation::{FuelOp, Items, MemoryOp, Operation};
 use machine::row;
 use memory::access::{LoadKind, StoreKind};
 use std::io;
 use types::answer::Answer;
-use types::fuel::FuelCosts;
 use types::limits::Limits;
 use types::memory_ty::WantedMemory;
 use types::raw::{RawRef, RefType, TypedRawRef};
@@ -25,11 +25,7 @@ impl Host {
     // Metering is on.
     fn new(copied: u32) -> Host {
         let mut words = [0; 186];
-        let costs = FuelCosts {
-            copied,
-            ..FuelCosts::default_costs()
-        };
-        row::fresh(&mut words, true, costs);
+        row::fresh(&mut words, true, costs(copied));
         Host {
             words,
             bytes: [0; 8],

@@ -6,7 +6,7 @@ use types::index_ty::IndexType;
 use types::limits::Limits;
 use types::memory_ty::MemoryType;
 
-fn costs(copied: u32) -> FuelCosts {
+pub(crate) fn costs(copied: u32) -> FuelCosts {
     FuelCosts {
         copied,
         ..FuelCosts::default_costs()
