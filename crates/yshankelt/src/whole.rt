@@ -118,11 +118,10 @@ fn tell(words: &[u64], answer: Answer, value: &mut u64, fuel: &mut u64) -> u8
         ≡ told value.old fuel.old (record { answer = answer; words = words.now; buffers = b }) }
 {
     let number = types::answer::number(answer);
-    if number == 19 {
-        return 19;
+    if number != 19 {
+        *value = types::answer::shown(answer);
+        *fuel = fuel_left(row::fuel_of(words));
     }
-    *value = types::answer::shown(answer);
-    *fuel = fuel_left(row::fuel_of(words));
     number
 }
 
