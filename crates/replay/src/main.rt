@@ -96,9 +96,9 @@ fn one_line(
 ) -> Operated {
     let said = read_line(line);
     match said {
-        Read::Operation(op) => operate_kept(machine, bytes, cells, items, op),
-        Read::Making { metering, copied } => made(machine, first, metering, copied),
-        Read::Malformed => malformed(machine),
+        Some(Read::Operation(op)) => operate_kept(machine, bytes, cells, items, op),
+        Some(Read::Making { metering, copied }) => made(machine, first, metering, copied),
+        None => malformed(machine),
     }
 }
 

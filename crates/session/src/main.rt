@@ -81,22 +81,18 @@ fn handle(
 ) -> Handled
     ensures { result.used ≤ length input.now }
 {
-    let p = piece(session, words, bytes, cells, items, input, out);
-    let used = p.used;
-    let next = p.session;
-    let fine = send(rt, out, p.wrote);
-    if p.number != 0 {
+    let Ok(p) = piece(session, words, bytes, cells, items, input, out) else {
         let _ = eprintln!(rt; "session: the machine's words are damaged");
         return Handled {
-            session: next,
-            used,
+            session,
+            used: 0,
             fine: false,
         };
-    }
+    };
     Handled {
-        session: next,
-        used,
-        fine,
+        session: p.session,
+        used: p.used,
+        fine: send(rt, out, p.wrote),
     }
 }
 

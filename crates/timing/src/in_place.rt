@@ -45,22 +45,23 @@ fn repeat(
     }
 }
 
+#[tactic(auto, unfolding(crate::specs::InPlace::timed_in))]
 fn timed_by(
     words: &mut [u64],
     bytes: &mut [u8],
     cells: &mut [u64],
     items: &mut [u64],
     tested: bool,
-    parsed: Read,
+    parsed: Option<Read>,
     rounds: u64,
 )
     ensures { rowing words.new bytes.new cells.new items.new
         ≡ timed_in tested rounds (rowing words.old bytes.old cells.old items.old) parsed }
 {
     match parsed {
-        Read::Operation(op) => repeat(words, bytes, cells, items, tested, op, rounds),
-        Read::Making { .. } => {}
-        Read::Malformed => {}
+        Some(Read::Operation(op)) => repeat(words, bytes, cells, items, tested, op, rounds),
+        Some(Read::Making { .. }) => {}
+        None => {}
     }
 }
 

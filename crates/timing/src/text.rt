@@ -15,16 +15,17 @@ use types::answer::{Answer, Refusal, Value};
 use types::fuel::{Fuel, FuelCosts};
 
 // Whether a line is an operation's.
-fn echo(parsed: Read) -> Answer
+#[tactic(auto, unfolding(crate::specs::Text::echo_of))]
+fn echo(parsed: Option<Read>) -> Answer
     ensures { result ≡ echo_of parsed }
 {
     match parsed {
-        Read::Operation(_) => Ok(Value::Number(0)),
-        Read::Making { .. } => Err(Refusal {
+        Some(Read::Operation(_)) => Ok(Value::Number(0)),
+        Some(Read::Making { .. }) => Err(Refusal {
             number: 18,
             amount: 0,
         }),
-        Read::Malformed => Err(Refusal {
+        None => Err(Refusal {
             number: 18,
             amount: 0,
         }),
@@ -62,6 +63,8 @@ pub extern "C" fn rounds_session(
 {
     let mut words = blank();
     row::fresh(&mut words, true, FuelCosts::default_costs());
-    let p = piece(Session::new(), &mut words, bytes, cells, items, input, out);
-    p.wrote
+    match piece(Session::new(), &mut words, bytes, cells, items, input, out) {
+        Ok(p) => p.wrote,
+        Err(_) => 0,
+    }
 }

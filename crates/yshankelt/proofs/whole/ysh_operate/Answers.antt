@@ -6,4 +6,4 @@ pub returns : goal.returns
 returns c =
     let a = c.args in
     let after = c.answered-answer.new in
-    told_from (a.words.now) (buffers (a.bytes.now) (a.cells.now) (a.items.now)) (a.value.now) (a.fuel.now) (c.tell.ensures (buffers after.bytes after.cells after.items)) c.answered-answer.ensures c.operation_of-said.ensures c.line_from-line.ensures
+    told_from _ (a.words.now) (buffers (a.bytes.now) (a.cells.now) (a.items.now)) (a.value.now) (a.fuel.now) (c.tell.ensures (buffers after.bytes after.cells after.items)) c.answered-answer.ensures c.said_of.ensures
