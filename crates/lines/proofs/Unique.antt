@@ -56,4 +56,4 @@ pub keep_one : OneWith 1 keep_kinds.ps keep_kinds.r keep_reads.Pre keep_reads.Po
 keep_one κs a x x' s s' z p q = (ap (λ (o : Done ℕ). o.out) (p ∙ sym q), ap (λ (o : Done ℕ). o.cells) (p ∙ sym q))
 
 pub end_line_one : OneWith 1 end_line_kinds.ps end_line_kinds.r end_line_reads.Pre end_line_reads.Post (List ℕ) (λ κs s. s.1.0.now)
-end_line_one κs a x x' s s' z p q = (ap (λ (o : Done ℕ). o.out) (p ∙ sym q), ap (λ (o : Done ℕ). o.cells) (p ∙ sym q))
+end_line_one κs a x x' s s' z p q = (ap (λ (o : Done (Option ℕ)). o.out) (p ∙ sym q), ap (λ (o : Done (Option ℕ)). o.cells) (p ∙ sym q))

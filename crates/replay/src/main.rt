@@ -166,16 +166,10 @@ fn answer_all(
 
 // A last line that lacks its LF gets it; answers how many bytes there are then.
 fn ended(input: &mut [u8], n: usize) -> usize {
-    if n == 0 {
-        return 0;
-    }
-    if input.len() <= n {
+    if n == 0 || input.len() <= n || input[n - 1] == b'\n' {
         return n;
     }
-    if input[n - 1] == 10 {
-        return n;
-    }
-    end_line(Session::new(), input, n)
+    end_line(Session::new(), input, n).unwrap_or(n)
 }
 
 // The answers to the first bytes of the input, then the cells.

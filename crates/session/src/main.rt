@@ -234,9 +234,9 @@ fn finish(
     input: &mut [u8],
     out: &mut [u8],
 ) {
-    let session = host.session;
-    let end = end_line(session, input, host.kept);
-    use_up(rt, host, words, bytes, cells, items, input, out, end);
+    if let Some(end) = end_line(host.session, input, host.kept) {
+        use_up(rt, host, words, bytes, cells, items, input, out, end);
+    }
 }
 
 // A proved loop has to end, and nothing says that the input does: the turns are counted up to a number that no run reaches.
