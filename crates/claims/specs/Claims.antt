@@ -1,5 +1,5 @@
 -- What the project promises, over any machine, any buffers and any operations, down to the bytes of a session. `claims` in proofs/Claims.antt is its one value.
-use Rattle.std.specs.Prelude.{ℕ, suc, ◌+◌, ◌≤◌, ◌<◌, ◌≡◌, Bool, true, false, List, [], length}
+use Rattle.std.specs.Prelude.{ℕ, suc, ◌+◌, ◌≤◌, ◌<◌, ◌≡◌, Bool, true, false, List, [], length, Some}
 use contract.Lifetimes.{Lfts}
 use borrow.Fn.Kinds.{Dens, res_t, ended_of}
 use denote.Triple.Clauses.{AtExit}
@@ -117,7 +117,7 @@ pub record Claims : Type 0 where
   pub finished_whole : (r k : ℕ) (h : Held) (xs : List Feed) → lf_at (fed_all r (started h) xs).tail ≡ length (fed_all r (started h) xs).tail
       → (finished r (suc k) (fed_all r (started h) xs)).sent ≡ session r h (whole xs)
   -- An operation line is read as it is written, and in no other way.
-  pub read_write : (op : Operation) → Sayable op → read_line (write_line op) ≡ Read.Operation op
-  pub read_unique : (l : List ℕ) (op : Operation) → read_line l ≡ Read.Operation op → l ≡ write_line op
+  pub read_write : (op : Operation) → Sayable op → read_line (write_line op) ≡ Some (Read.Operation op)
+  pub read_unique : (l : List ℕ) (op : Operation) → read_line l ≡ Some (Read.Operation op) → l ≡ write_line op
   -- The worked cases P1 to P11 of document 01, computed.
   pub worked_cases : all_hold cases ≡ true

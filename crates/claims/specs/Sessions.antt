@@ -1,5 +1,5 @@
 -- Document 01, "Operation lines": the bytes of a session, said by the operations that its lines say and by what a run of them answers.
-use Rattle.std.specs.Prelude.{ℕ, List, [], ◌∷◌, ◌++◌}
+use Rattle.std.specs.Prelude.{ℕ, List, [], ◌∷◌, ◌++◌, Option, Some, None}
 use Rattle.types.specs.Names.{refuse, accept, Answer, Fuel}
 use Rattle.machine.specs.Names.{Buffers, fresh_machine, step, Machine, Operation}
 use Rattle.lines.specs.{AnswerLine.answer_line, Code.read_line, Session.costs_of, declared.code.Read.Read}
@@ -22,24 +22,24 @@ answers_in [] = []
 answers_in (x ∷ xs) = x.answer ∷ answers_in xs
 
 -- what each line says
-unfoldable pub read_all : List (List ℕ) → List Read
+unfoldable pub read_all : List (List ℕ) → List (Option Read)
 read_all [] = []
 read_all (l ∷ ls) = read_line l ∷ read_all ls
 
 -- the operations among what lines say
-unfoldable pub operations_in : List Read → List Operation
+unfoldable pub operations_in : List (Option Read) → List Operation
 operations_in [] = []
-operations_in (Read.Operation op ∷ xs) = op ∷ operations_in xs
-operations_in (Read.Making metering copied ∷ xs) = operations_in xs
-operations_in (Read.Malformed ∷ xs) = operations_in xs
+operations_in (Some (Read.Operation op) ∷ xs) = op ∷ operations_in xs
+operations_in (Some (Read.Making metering copied) ∷ xs) = operations_in xs
+operations_in (None ∷ xs) = operations_in xs
 
 -- a reply a line: the operation's own, else 18 with the fuel as it was
-unfoldable pub lined : Fuel → List Read → List Reply → List Reply
+unfoldable pub lined : Fuel → List (Option Read) → List Reply → List Reply
 lined f [] rs = []
-lined f (Read.Operation op ∷ xs) [] = []
-lined f (Read.Operation op ∷ xs) (x ∷ rs) = x ∷ lined x.fuel xs rs
-lined f (Read.Making metering copied ∷ xs) rs = record { answer = refuse 18 0; fuel = f } ∷ lined f xs rs
-lined f (Read.Malformed ∷ xs) rs = record { answer = refuse 18 0; fuel = f } ∷ lined f xs rs
+lined f (Some (Read.Operation op) ∷ xs) [] = []
+lined f (Some (Read.Operation op) ∷ xs) (x ∷ rs) = x ∷ lined x.fuel xs rs
+lined f (Some (Read.Making metering copied) ∷ xs) rs = record { answer = refuse 18 0; fuel = f } ∷ lined f xs rs
+lined f (None ∷ xs) rs = record { answer = refuse 18 0; fuel = f } ∷ lined f xs rs
 
 -- the answer lines of replies
 unfoldable pub reply_text : List Reply → List ℕ
@@ -47,13 +47,13 @@ reply_text [] = []
 reply_text (x ∷ xs) = answer_line x.answer x.fuel ++ reply_text xs
 
 -- the answer lines of a run, 18 where a line says no operation
-unfoldable pub run_text : ℕ → Machine → Buffers → List Read → List ℕ
+unfoldable pub run_text : ℕ → Machine → Buffers → List (Option Read) → List ℕ
 run_text r m b xs = reply_text (lined m.fuel xs (replies r m b (operations_in xs)))
 
 -- a session's: the first line alone can make the machine anew
-unfoldable pub session_text : ℕ → Machine → Buffers → List Read → List ℕ
+unfoldable pub session_text : ℕ → Machine → Buffers → List (Option Read) → List ℕ
 session_text r m b [] = []
-session_text r m b (Read.Operation op ∷ xs) = run_text r m b (Read.Operation op ∷ xs)
-session_text r m b (Read.Making metering copied ∷ xs) =
+session_text r m b (Some (Read.Operation op) ∷ xs) = run_text r m b (Some (Read.Operation op) ∷ xs)
+session_text r m b (Some (Read.Making metering copied) ∷ xs) =
     answer_line (accept 0) (fresh_machine metering (costs_of copied)).fuel ++ run_text r (fresh_machine metering (costs_of copied)) b xs
-session_text r m b (Read.Malformed ∷ xs) = run_text r m b (Read.Malformed ∷ xs)
+session_text r m b (None ∷ xs) = run_text r m b (None ∷ xs)

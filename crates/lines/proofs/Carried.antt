@@ -7,7 +7,7 @@ use Rattle.machine.specs.{Words.row_length, Words.words_of, Words.machine_from, 
 use Rattle.machine.specs.stages.Rows.{Shaped, Steps, Proceeds}
 use Rattle.machine.proofs.{Rows.over_all, Places.over_in, Back.words_length, Back.row_back, Back.shaped_from, Back.fresh_shaped}
 use Rattle.machine.proofs.{Formed.form_long, Formed.form_holds, Kept.step_sound, Kept.fresh_sound, Rooms.parts}
-use Rattle.lines.specs.{AnswerLine.answer_line, Progress.progressed, stages.Runs.held_on, stages.Runs.row_with, stages.Runs.Ready, declared.session.Progress.Progress}
+use Rattle.lines.specs.{AnswerLine.answer_line, stages.Runs.ran, stages.Runs.held_on, stages.Runs.row_with, stages.Runs.Ready, declared.session.Progress.Progress}
 use Rattle.lines.proofs.Runs.{reached}
 
 -- a row that a machine's words were put to: as long, ready, and the same behind them
@@ -99,11 +99,11 @@ ready_came a b c d r = rw (a, b, c, d) r
 
 -- a run that stops on a row that is ready
 pub reached_row : (s l bytes cells items out : List ℕ) (first : Bool) (used wrote : ℕ) {p : Progress} → Ready l (buffers bytes cells items) → drop row_length l ≡ drop row_length s
-    → p ≡ record { number = 0; session = record { first = first; skip = false }; used = used; wrote = wrote }
-    → progressed p l bytes cells items out ≡ reached s used wrote out (held_on (machine_from l) first bytes cells items)
+    → p ≡ record { session = record { first = first; skip = false }; used = used; wrote = wrote }
+    → ran p l bytes cells items out ≡ reached s used wrote out (held_on (machine_from l) first bytes cells items)
 reached_row s l bytes cells items out first used wrote r e q =
-    ap (λ (p : Progress). progressed p l bytes cells items out) q
-    ∙ ap (λ (v : List ℕ). progressed (record { number = 0; session = record { first = first; skip = false }; used = used; wrote = wrote }) v bytes cells items out)
+    ap (λ (p : Progress). ran p l bytes cells items out) q
+    ∙ ap (λ (v : List ℕ). ran (record { session = record { first = first; skip = false }; used = used; wrote = wrote }) v bytes cells items out)
     (ready_row l s (buffers bytes cells items) r e)
 
 -- the answer's line shows the fuel of the row

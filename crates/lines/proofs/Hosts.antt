@@ -1,5 +1,8 @@
 -- A host's turn is the model's: what it keeps of its input is what `fed` leaves, and the LF at the end makes the last line whole. Assumes nothing.
-use Rattle.types.proofs.Prelude.{◌≡◌, refl, sym, ap, ◌∙◌, Bool, true, false, false≢true, List, [], ◌∷◌, ◌++◌, append-nil, append_assoc, ℕ, suc, ◌+◌, ◌<◌, ◌≤◌}
+use Rattle.std.specs.Prelude.{Some, None, min}
+use Rattle.std.specs.List.{copy_within}
+use Rattle.std.proofs.lemmas.List.{drop-take}
+use Rattle.types.proofs.Prelude.{◌-◌, ◌≡◌, refl, sym, ap, ◌∙◌, Bool, true, false, false≢true, List, [], ◌∷◌, ◌++◌, append-nil, append_assoc, ℕ, suc, ◌+◌, ◌<◌, ◌≤◌}
 use Rattle.types.proofs.Prelude.{arith, add-one, eqb, ltb, leb, length, take, drop, set, get_or, length-append, length-take, length-drop, length-set, take_all}
 use Rattle.types.proofs.Prelude.{drop-drop, ltb-true, ltb-false, leb-true, leb-false, lt-leb, eqb-true, eqb-false, pick_true, pick_false, either}
 use Rattle.types.proofs.{Dones.done_as, Spans.over_after, Spans.over_span, Spans.length_over, Moves.put_turn}
@@ -25,44 +28,25 @@ pub record Starts (input : List ℕ) (n : ℕ) (l : List ℕ) : Type 0 where
 abbrev pub ran_of : ℕ → Host → Feed → Run
 ran_of r h x = piece_of x.room h.skip r h.held (h.tail ++ x.bytes)
 
--- there is a byte more to keep
-pub keep_more : (l s : List ℕ) (from end to at : ℕ) → at ≡ from + to → at < end → at < length s → length s ≡ length l →
-    to + 1 ≤ length (left_of l from end)
-keep_more l s from end to at q g h n = simp (length-drop, length-take) (omega arith)
+-- it comes to the start by a copy within the input
+module _ (l : List ℕ) (from end f e : ℕ) (m : e ≡ min end (length l)) (n : f ≡ min from e) where
+  left_lem : left_of l from end ≡ take (e - f) (drop f l)
+  left_lem =
+      let k : f + (e - f) ≡ e = omega arith in
+      let a : take end l ≡ take e l = either (leb end (length l)) (λ t. let q : end ≡ e = omega (arith, leb-true _ _ t) in ap (λ (i : ℕ). take i l) q)
+      (λ t. let q : length l ≤ end = omega (arith, leb-false end (length l) t) in
+      let p : length l ≤ e = omega (arith, leb-false end (length l) t) in take_all end l q ∙ sym (take_all e l p)) in
+      let b : drop from (take e l) ≡ drop f (take e l) =
+      either (leb from e) (λ t. let q : from ≡ f = omega (arith, leb-true _ _ t) in ap (λ (i : ℕ). drop i (take e l)) q)
+      (λ t. drop_of_length-le (take e l) (omega (arith, leb-false from e t, length-take e l)) ∙ sym (drop_of_length-le (take e l) (omega (arith, leb-false from e t, length-take e l)))) in
+      ap (drop from) a ∙ b ∙ ap (λ (i : ℕ). drop f (take i l)) (sym k) ∙ drop-take f (e - f) l
 
--- a turn of the loop: one byte more
-pub keep_turn : (l s : List ℕ) (from end to at : ℕ) → at ≡ from + to → at < end → at < length s → length s ≡ length l →
-    s ≡ over l 0 (take to (left_of l from end)) → set s to (get_or s at 0) ≡ over l 0 (take (to + 1) (left_of l from end))
-keep_turn l s from end to at q g h n e =
-    let w = left_of l from end in
-    let k : to + 1 ≤ length w = keep_more l s from end to at q g h n in
-    let v : length (take to w) ≤ at = simp length-take (omega arith) in
-    let z : at + 0 ≡ at = omega arith in
-    let b : get_or s at 0 ≡ get_or l at 0 =
-    ap (λ (i : ℕ). get_or s i 0) (sym z) ∙ sym (get_or-drop at s 0 0)
-    ∙ ap (λ (x : List ℕ). get_or (drop at x) 0 0) e
-    ∙ ap (λ (x : List ℕ). get_or x 0 0) (over_after l 0 (take to w) at (omega arith) (omega arith))
-    ∙ get_or-drop at l 0 0 ∙ ap (λ (i : ℕ). get_or l i 0) z in
-    let f : get_or w to 0 ≡ get_or l at 0 = get_or-drop from (take end l) to 0 ∙ ap (λ (i : ℕ). get_or (take end l) i 0) (sym q) ∙ get_or-take end l at 0 g in
-    ap (set s to) (b ∙ sym f) ∙ put_turn l s w to (omega arith) (omega arith) e
-
--- all of it is at the start
-kept : (l s : List ℕ) (from end to : ℕ) → length (left_of l from end) ≤ to → to ≤ length (left_of l from end) →
-    s ≡ over l 0 (take to (left_of l from end)) → done to s ≡ kept_of l from end
-unfolding kept_of
-kept l s from end to g h e =
-    let w = left_of l from end in
-    let n : to ≡ length w = omega arith in
-    done_as n (e ∙ ap (over l 0) (take_all to w g))
-
--- at the end of what is kept, or of the input
-pub keep_end : (l s : List ℕ) (from end to at : ℕ) → end ≤ at → at ≡ from + to → to ≤ length (left_of l from end) →
-    s ≡ over l 0 (take to (left_of l from end)) → done to s ≡ kept_of l from end
-keep_end l s from end to at g q h e = kept l s from end to (simp (length-drop, length-take) (omega arith)) h e
-
-pub keep_short : (l s : List ℕ) (from end to at : ℕ) → length s ≤ at → length s ≡ length l → at ≡ from + to → to ≤ length (left_of l from end) →
-    s ≡ over l 0 (take to (left_of l from end)) → done to s ≡ kept_of l from end
-keep_short l s from end to at g n q h e = kept l s from end to (simp (length-drop, length-take) (omega arith)) h e
+  pub keep_left : {r : List ℕ} → r ≡ copy_within l f e 0 → done (e - f) r ≡ kept_of l from end
+  unfolding kept_of over
+  keep_left q =
+      let w = take (e - f) (drop f l) in
+      let k : e - f ≡ length w = simp (length-take, length-drop) (omega arith) in
+      rw (left_lem, q, ← k) refl
 
 -- a list that an input starts with has as many bytes
 starts_long : (input : List ℕ) (n : ℕ) (l : List ℕ) → Starts input n l → length l ≡ n
@@ -142,20 +126,22 @@ some_kept n e =
     either (eqb n 0) (λ z. absurd (false≢true (sym (pick_true _ _ _ z) ∙ e))) (λ z. let k : n ≡ 0 → ⊥ = eqb-false n 0 z in omega arith)
 
 -- no line lacks its LF: nothing changes
-pub end_line_none : (t : Bool) (input : List ℕ) (n : ℕ) (l : List ℕ) → Starts input n l → unended t (length l) ≡ false → ended_of t input n ≡ done 0 input
+pub end_line_none : (t : Bool) (input : List ℕ) (n : ℕ) (l : List ℕ) → Starts input n l → unended t (length l) ≡ false → ended_of t input n ≡ done None input
 unfolding ended_of
 end_line_none t input n l s e = pick_false _ _ _ (ap (unended t) (sym (starts_long input n l s)) ∙ e)
 
 -- the LF goes behind what is kept
 pub end_line_tail : (t : Bool) (input : List ℕ) (n : ℕ) (l : List ℕ) → Starts input n l → unended t (length l) ≡ true → n < length input →
-    Starts (ended_of t input n).cells (ended_of t input n).out (l ++ (lf ∷ []))
+    ((ended_of t input n).out ≡ Some (n + 1)) × Starts (ended_of t input n).cells (n + 1) (l ++ (lf ∷ []))
 unfolding ended_of
 end_line_tail t input n l s e g =
-    rw (pick_true _ _ _ (ap (unended t) (sym (starts_long input n l s)) ∙ e), pick_false _ _ _ (lt-leb _ _ g))
-    record {
-      within = rw length-set (omega arith);
-      same = ap (λ (i : ℕ). take i (set input n lf)) (add-one n) ∙ take-suc-set input n lf g ∙ ap (λ (x : List ℕ). x ++ (lf ∷ [])) s.same;
-    }
+    rw (pick_true _ _ _ (ap (unended t) (sym (starts_long input n l s)) ∙ e), pick_false _ _ _ (lt-leb _ _ g)) (
+      refl,
+      record {
+        within = rw length-set (omega arith);
+        same = ap (λ (i : ℕ). take i (set input n lf)) (add-one n) ∙ take-suc-set input n lf g ∙ ap (λ (x : List ℕ). x ++ (lf ∷ [])) s.same;
+      },
+    )
 
 -- and says nothing else than the line without it
 pub end_line_same : (t : Bool) (r : ℕ) (h : Held) (l : List ℕ) → unended t (length l) ≡ true → lf_at l ≡ length l →

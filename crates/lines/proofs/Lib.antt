@@ -3,7 +3,6 @@ pub mod DigitLaws
 pub mod HexLaws
 pub mod FieldLaws
 pub mod NumberLaws
-pub mod CodeLaws
 pub mod Writing
 pub mod HexText
 pub mod FieldText

@@ -1,4 +1,7 @@
 -- Where lines end: the first line of a text, and a session behind it. Assumes nothing.
+use Rattle.std.specs.Prelude.{Some, None, Option, MatchOption, cond}
+use Rattle.std.specs.List.{position_or_len}
+use Rattle.std.proofs.lemmas.List.Recursion.{is_position_or_len}
 use Rattle.types.proofs.Prelude.{◌≡◌, refl, sym, ap, ◌∙◌, true, false, List, [], ◌∷◌, ◌++◌, append_assoc, append-nil, ℕ, zero, suc, ◌+◌, ◌<◌, ◌≤◌, arith, ltb}
 use Rattle.types.proofs.Prelude.{eqb, length, take, drop, get_or, length-drop, drop-cons, drop-drop, ltb-true, ltb-false, eq-eqb, ne_eqb, pick_true, pick_false}
 use Rattle.types.proofs.Prelude.{either}
@@ -41,27 +44,25 @@ behind x l e =
     ap (λ (n : ℕ). drop n (x ++ l)) j ∙ drop-append-add x l (lf_at l + 1)
 
 -- the search for a line's end
-lf_step : (s : List ℕ) (i : ℕ) → i < length s → lf_at (drop i s) ≡ pick (eqb (get_or s i 0) lf) 0 (suc (lf_at (drop (suc i) s)))
+lf_step : (b : ℕ) (l : List ℕ) → lf_at (b ∷ l) ≡ cond (eqb b lf) 0 (1 + lf_at l)
+lf_step b l =
+    either (eqb b lf)
+    (λ e. rw e (lf_true b l e))
+    (λ e. rw e (omega (arith, lf_false b l e)))
+
+lf_none : lf_at [] ≡ 0
 unfolding lf_at
-lf_step s i h = ap lf_at (drop-cons s i 0 h)
+lf_none = refl
 
-pub lf_on : (s : List ℕ) (i n : ℕ) → i < length s → (get_or s i 0 ≡ lf → ⊥) → i + lf_at (drop i s) ≡ n → (i + 1) + lf_at (drop (i + 1) s) ≡ n
-lf_on s i n h e q =
-    let a : lf_at (drop i s) ≡ suc (lf_at (drop (suc i) s)) = lf_step s i h ∙ pick_false _ _ _ (ne_eqb _ _ e) in
-    let j : suc i ≡ i + 1 = omega arith in
-    let b : lf_at (drop (suc i) s) ≡ lf_at (drop (i + 1) s) = ap (λ (k : ℕ). lf_at (drop k s)) j in
-    omega arith
-
-pub lf_here : (s : List ℕ) (i n : ℕ) → i < length s → get_or s i 0 ≡ lf → i + lf_at (drop i s) ≡ n → i ≡ n
-lf_here s i n h e q =
-    let a : lf_at (drop i s) ≡ 0 = lf_step s i h ∙ pick_true _ _ _ (eq-eqb _ _ e) in
-    omega arith
-
-pub lf_none : (s : List ℕ) (i n : ℕ) → length s ≤ i → i + lf_at (drop i s) ≡ n → i ≡ n
-unfolding lf_at
-lf_none s i n h q =
-    let a : lf_at (drop i s) ≡ 0 = ap lf_at (drop_of_length-le s h) in
-    omega arith
+pub lf_found : (l : List ℕ) {r : Option ℕ}
+    → r ≡ cond (ltb (position_or_len (λ (b : ℕ). eqb b lf) l) (length l)) (Some (position_or_len (λ (b : ℕ). eqb b lf) l)) None
+    → MatchOption r (lf_at l ≡ length l) (λ n. (n ≡ lf_at l) × (n < length l))
+lf_found l e =
+    let s : position_or_len (λ (b : ℕ). eqb b lf) l ≡ lf_at l = sym (is_position_or_len lf_at (λ (b : ℕ). eqb b lf) lf_none lf_step l) in
+    rw (e, s)
+    (either (ltb (lf_at l) (length l))
+    (λ t. rw t (refl, ltb-true (lf_at l) (length l) t))
+    (λ t. rw t (omega (arith, lf_le l, ltb-false (lf_at l) (length l) t))))
 
 -- the first line of a text
 here : (b : ℕ) (l more : List ℕ) → eqb b lf ≡ true → lines_of (b ∷ (l ++ more)) ≡ take (lf_at (b ∷ l)) (b ∷ l) ∷ lines_of (drop (lf_at (b ∷ l) + 1) (b ∷ l) ++ more)

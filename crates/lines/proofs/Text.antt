@@ -1,4 +1,5 @@
 -- A line's text and what it says: each way, and only one text. A line of over 160 bytes says nothing; an answer line has 37. Assumes nothing.
+use Rattle.std.specs.Prelude.{Some, None, Option, option_and_then}
 use Rattle.types.proofs.Prelude.{◌≡◌, refl, sym, ap, ◌∙◌, Bool, true, false, List, [], ◌∷◌, ◌++◌, ℕ, zero, suc, ◌+◌, ◌^◌, ◌<◌, ◌≤◌, arith, eqb, length, take}
 use Rattle.types.proofs.Prelude.{get_or, length-append, length-take, ltb-true, leb-true, eqb-true, lt-ltb, le-leb, pick_true, pick_false, both_1, both_2, either}
 use Rattle.types.specs.{Pick.pick, Pick.both, Span.over, Names.Answer, Names.Fuel, Names.RefType}
@@ -7,7 +8,7 @@ use Rattle.lines.specs.{Hex.hex_text, Line.space, Line.lf, Line.longest, Line.li
 use Rattle.lines.specs.Code.{taken, items_from, by_code, operation_of, read_line}
 use Rattle.lines.specs.{Writing.numbers_of, Writing.write_line, Writing.write_making, AnswerLine.answer_text, AnswerLine.answer_bytes, AnswerLine.answer_line}
 use Rattle.lines.specs.Sayable.{Small, Said, Sayable}
-use Rattle.lines.specs.{stages.Codes.segment_ranges, stages.Back.filled, stages.Back.back_of, stages.Back.making_back, declared.line.Line.Line, declared.code.Read.Read}
+use Rattle.lines.specs.{stages.Codes.segment_ranges, stages.Back.with_fields, stages.Back.back_of, stages.Back.making_back, declared.line.Line.Line, declared.code.Read.Read}
 use Rattle.lines.proofs.NumberLaws.{load_number_lem, store_number_lem, kind_number_lem, flag_number, load_said, store_said, kind_said, flag_said}
 use Rattle.lines.proofs.NumberLaws.{reference_said, reference_fields_lem, memory_in_lem, memory_said, memory_fields_lem, table_in_lem, table_said, table_fields_lem}
 use Rattle.lines.proofs.{FieldText.line_write, FieldText.line_read, FieldText.Told, BackLaws.few, Writing.length_hex, Writing.length_line}
@@ -37,7 +38,7 @@ module _ (k : RefType) (a b c d : ℕ) where
   some_items n = record { count = n; first = a; second = b; third = c; fourth = d }
 
   abbrev Says : ℕ → Type 0
-  Says n = item_fields (some_items n) ≡ true → operation_of (back_of (op.NewSegment k (some_items n))) ≡ read.Operation (op.NewSegment k (some_items n))
+  Says n = item_fields (some_items n) ≡ true → operation_of (back_of (op.NewSegment k (some_items n))) ≡ Some (read.Operation (op.NewSegment k (some_items n)))
 
   -- at most 4, and zeros past them
   items_few : (n : ℕ) → item_fields (some_items n) ≡ true → (n ≤ 4) × (n ≤ 0 → a ≡ 0) × (n ≤ 1 → b ≡ 0) × (n ≤ 2 → c ≡ 0) × (n ≤ 3 → d ≡ 0)
@@ -49,7 +50,7 @@ module _ (k : RefType) (a b c d : ℕ) where
       (leb-true _ _ (both_1 _ _ h), item_zero n 0 a (both_1 _ _ f), item_zero n 1 b (both_1 _ _ g), item_zero n 2 c (both_1 _ _ i), item_zero n 3 d (both_2 _ _ i))
 
   segment_says : (n : ℕ) → Says n
-  unfolding operation_of by_code taken back_of numbers_of filled over pick both
+  unfolding operation_of by_code taken back_of numbers_of with_fields over pick both
   segment_says n h =
       let e = kind_said k in
       five Says n (items_few n h).0
@@ -61,8 +62,8 @@ module _ (k : RefType) (a b c d : ℕ) where
       h
 
 -- an operation's numbers say it
-says : (o : Operation) → Said o → operation_of (back_of o) ≡ read.Operation o
-unfolding operation_of by_code taken back_of numbers_of filled over pick both Said
+says : (o : Operation) → Said o → operation_of (back_of o) ≡ Some (read.Operation o)
+unfolding operation_of by_code taken back_of numbers_of with_fields over pick both Said
 says (op.Fuel (fuel.SetFuel amount)) h = refl
 says (op.Fuel fuel.GetFuel) h = refl
 says (op.Fuel (fuel.Charge units)) h = refl
@@ -84,20 +85,20 @@ says (op.TableInit table segment span) h = refl
 says (op.DropSegment segment) h = refl
 says (op.NewSegment k i) h = segment_says k i.first i.second i.third i.fourth i.count h
 
-making_says : (m : Bool) (b : ℕ) → b < 2 ^ 32 → operation_of (making_back m b) ≡ read.Making m b
-unfolding operation_of by_code taken making_back filled over pick both
+making_says : (m : Bool) (b : ℕ) → b < 2 ^ 32 → operation_of (making_back m b) ≡ Some (read.Making m b)
+unfolding operation_of by_code taken making_back with_fields over pick both
 making_says m b h = rw (lt-ltb b (2 ^ 32) h, (flag_said m).0, (flag_said m).1) refl
 
 -- the way there: what is written is read as what was meant
-pub read_write : (o : Operation) → Sayable o → read_line (write_line o) ≡ read.Operation o
+pub read_write : (o : Operation) → Sayable o → read_line (write_line o) ≡ Some (read.Operation o)
 unfolding read_line write_line back_of Sayable
-read_write o h = ap operation_of (line_write (numbers_of o).code (numbers_of o).fields (few o).0 (few o).1 h.0) ∙ says o h.1
+read_write o h = ap (option_and_then operation_of) (line_write (numbers_of o).code (numbers_of o).fields (few o).0 (few o).1 h.0) ∙ says o h.1
 
-pub making_write : (m : Bool) (b : ℕ) → b < 2 ^ 32 → read_line (write_making m b) ≡ read.Making m b
+pub making_write : (m : Bool) (b : ℕ) → b < 2 ^ 32 → read_line (write_making m b) ≡ Some (read.Making m b)
 unfolding read_line write_making making_back Small
 making_write m b h =
     let t : flag m < 2 = ltb-true (flag m) 2 (flag_said m).0 in
-    ap operation_of (line_write 0 (flag m ∷ b ∷ []) (omega arith) (omega arith) (omega arith, (omega arith, tt))) ∙ making_says m b h
+    ap (option_and_then operation_of) (line_write 0 (flag m ∷ b ∷ []) (omega arith) (omega arith) (omega arith, (omega arith, tt))) ∙ making_says m b h
 
 -- a list of 8, by its elements
 abbrev all : Line → List ℕ
@@ -125,15 +126,14 @@ told_as l w c n t e f =
 unfoldable pub written : Read → List ℕ
 written (read.Operation o) = write_line o
 written (read.Making m b) = write_making m b
-written read.Malformed = []
 
--- a test that gives what is not malformed, and the same of one that goes on to others
-passed : (t : Bool) (x r : Read) → (r ≡ read.Malformed → ⊥) → pick t x read.Malformed ≡ r → (t ≡ true) × (x ≡ r)
+-- a test that gives something, and the same of one that goes on to others
+passed : (t : Bool) (x r : Read) → pick t (Some x) None ≡ Some r → (t ≡ true) × (x ≡ r)
 unfolding pick
-passed true x r g q = (refl, q)
-passed false x r g q = absurd (g (sym q))
+passed true x r q = (refl, cc)
+passed false x r q = let z : ◌≡◌ {A = ℕ} 0 1 = cc in absurd (omega arith)
 
-try : (t : Bool) (p s r : Read) {C : Type 0} → pick t p s ≡ r → (t ≡ true → p ≡ r → C) → (s ≡ r → C) → C
+try : (t : Bool) (p s r : Option Read) {C : Type 0} → pick t p s ≡ r → (t ≡ true → p ≡ r → C) → (s ≡ r → C) → C
 unfolding pick
 try true p s r q f g = f refl q
 try false p s r q f g = g q
@@ -141,16 +141,16 @@ try false p s r q f g = g q
 trim : (a b c d e f n : ℕ) → n ≤ 4 → take n (a ∷ b ∷ c ∷ d ∷ e ∷ f ∷ []) ≡ take n (a ∷ b ∷ c ∷ d ∷ [])
 trim a b c d e f n h = five (λ (n : ℕ). take n (a ∷ b ∷ c ∷ d ∷ e ∷ f ∷ []) ≡ take n (a ∷ b ∷ c ∷ d ∷ [])) n h refl refl refl refl refl
 
-module _ (l : List ℕ) (w : Line) (r : Read) (g : r ≡ read.Malformed → ⊥) (t : Told l w) where
+module _ (l : List ℕ) (w : Line) (r : Read) (t : Told l w) where
   -- a code with its number of fields, in range
-  arm : (c n : ℕ) (ok : Bool) (x : Read) → eqb w.code c ≡ true → taken w.count n ok x ≡ r → (ok ≡ true → line_text c (take n (all w)) ≡ written x) → l ≡ written r
+  arm : (c n : ℕ) (ok : Bool) (x : Read) → eqb w.code c ≡ true → taken w.count n ok x ≡ Some r → (ok ≡ true → line_text c (take n (all w)) ≡ written x) → l ≡ written r
   unfolding taken
   arm c n ok x e q d =
-      let p = passed _ _ _ g q in
+      let p = passed _ _ _ q in
       told_as l w c n t (eqb-true _ _ e) (eqb-true _ _ (both_1 _ _ p.0)) ∙ d (both_2 _ _ p.0) ∙ ap written p.1
 
   segment_arm : eqb w.code 0x29 ≡ true
-      → taken w.count (2 + at w 1) (segment_ranges (at w 0) (at w 1)) (read.Operation (op.NewSegment (kind_of (at w 0)) (items_from w))) ≡ r → l ≡ written r
+      → taken w.count (2 + at w 1) (segment_ranges (at w 0) (at w 1)) (read.Operation (op.NewSegment (kind_of (at w 0)) (items_from w))) ≡ Some r → l ≡ written r
   unfolding written write_line numbers_of
   segment_arm e q =
       let k : 2 + at w 1 ≡ suc (suc (at w 1)) = omega arith in
@@ -159,7 +159,7 @@ module _ (l : List ℕ) (w : Line) (r : Read) (g : r ≡ read.Malformed → ⊥)
       (trim (at w 2) (at w 3) (at w 4) (at w 5) (at w 6) (at w 7) (at w 1) (leb-true _ _ (both_1 _ _ h)))
       ∙ ap (λ (n : ℕ). line_text 0x29 (n ∷ at w 1 ∷ items_of (items_from w))) (sym (kind_number_lem (at w 0) (both_2 _ _ h))))
 
-  from_code : by_code w.code w.count w ≡ r → l ≡ written r
+  from_code : by_code w.code w.count w ≡ Some r → l ≡ written r
   unfolding by_code written write_line write_making numbers_of
   from_code q =
       try _ _ _ _ q (λ e p. arm 0x00 2 _ _ e p (λ h. ap (λ (n : ℕ). line_text 0x00 (n ∷ at w 1 ∷ [])) (sym (flag_number (at w 0) (both_2 _ _ h))))) (λ q.
@@ -183,31 +183,35 @@ module _ (l : List ℕ) (w : Line) (r : Read) (g : r ≡ read.Malformed → ⊥)
       try _ _ _ _ q (λ e p. arm 0x28 1 _ _ e p (λ h. refl)) (λ q.
       try _ _ _ _ q (λ e p. segment_arm e p) (λ q.
       try _ _ _ _ q (λ e p. arm 0x30 6 _ _ e p (λ h. ap (λ (z : List ℕ). line_text 0x30 (at w 0 ∷ z)) (sym (memory_fields_lem _ _ _ _ _ h)))) (λ q.
-      absurd (g (sym q)))))))))))))))))))))))
+      let z : ◌≡◌ {A = ℕ} 0 1 = cc in absurd (omega arith))))))))))))))))))))))
 
 -- the way back: a text that is read as something is the text that is written for it
-unique : (l : List ℕ) (r : Read) → (r ≡ read.Malformed → ⊥) → read_line l ≡ r → l ≡ written r
+unique : (l : List ℕ) (r : Read) → read_line l ≡ Some r → l ≡ written r
 unfolding read_line operation_of
-unique l r g q = let p = passed _ _ _ g q in from_code l (line_of l) r g (line_read l p.0) p.1
+unique l r q = from_line (line_of l) refl q
+  where
+    from_line : (o : Option Line) → line_of l ≡ o → option_and_then operation_of o ≡ Some r → l ≡ written r
+    from_line None e q = let z : ◌≡◌ {A = ℕ} 0 1 = cc in absurd (omega arith)
+    from_line (Some w) e q = from_code l w r (line_read l w e) q
 
-pub read_unique : (l : List ℕ) (o : Operation) → read_line l ≡ read.Operation o → l ≡ write_line o
+pub read_unique : (l : List ℕ) (o : Operation) → read_line l ≡ Some (read.Operation o) → l ≡ write_line o
 unfolding written
-read_unique l o q = unique l (read.Operation o) (λ e. let z : ◌≡◌ {A = ℕ} 0 1 = cc in absurd (omega arith)) q
+read_unique l o q = unique l (read.Operation o) q
 
-pub making_unique : (l : List ℕ) (m : Bool) (b : ℕ) → read_line l ≡ read.Making m b → l ≡ write_making m b
+pub making_unique : (l : List ℕ) (m : Bool) (b : ℕ) → read_line l ≡ Some (read.Making m b) → l ≡ write_making m b
 unfolding written
-making_unique l m b q = unique l (read.Making m b) (λ e. let z : ◌≡◌ {A = ℕ} 0 1 = cc in absurd (omega arith)) q
+making_unique l m b q = unique l (read.Making m b) q
 
 -- a line of over 160 bytes says nothing
-long_bad : (l : List ℕ) → longest < length l → (line_of l).good ≡ true → ⊥
-long_bad l h e =
-    let t = line_read l e in
-    let w = line_of l in
-    omega (arith, ap length t.text, length_line w.code (take w.count w.list), length-take w.count w.list, t.long)
-
-pub long_malformed : (l : List ℕ) → longest < length l → read_line l ≡ read.Malformed
-unfolding read_line operation_of
-long_malformed l h = either (line_of l).good (λ e. absurd (long_bad l h e)) (λ e. pick_false _ _ _ e)
+pub long_malformed : (l : List ℕ) → longest < length l → read_line l ≡ None
+unfolding read_line
+long_malformed l h = nothing (line_of l) refl
+  where
+    nothing : (o : Option Line) → line_of l ≡ o → option_and_then operation_of o ≡ None
+    nothing None e = refl
+    nothing (Some w) e =
+        let t = line_read l w e in
+        absurd (omega (arith, ap length t.text, length_line w.code (take w.count w.list), length-take w.count w.list, t.long))
 
 -- an answer line has 37 bytes
 pub answer_long : (number shown fuel : ℕ) → length (answer_text number shown fuel) ≡ answer_bytes

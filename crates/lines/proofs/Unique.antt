@@ -1,9 +1,8 @@
 -- Uniqueness: each public function's contract names one answer, and one content of what it is lent to write, for each input. Assumes nothing.
+use Rattle.std.specs.Prelude.{Option}
 use Rattle.types.proofs.Prelude.{sym, ◌∙◌, ap, Bool, List, ℕ}
 use Rattle.types.proofs.One.{One, OneWith}
 use Rattle.types.specs.Done.{Done}
-use Rattle.lines.proofs.line.no_line.Reads as no_line_reads
-use Rattle.lines.proofs.line.no_line.Kinds as no_line_kinds
 use Rattle.lines.proofs.code.operation_of.Reads as operation_of_reads
 use Rattle.lines.proofs.code.operation_of.Kinds as operation_of_kinds
 use Rattle.lines.proofs.code.read_line.Reads as read_line_reads
@@ -25,9 +24,6 @@ use Rattle.lines.proofs.input.keep.Kinds as keep_kinds
 use Rattle.lines.proofs.input.end_line.Reads as end_line_reads
 use Rattle.lines.proofs.input.end_line.Kinds as end_line_kinds
 
-pub no_line_one : One 0 no_line_kinds.ps no_line_kinds.r no_line_reads.Pre no_line_reads.Post
-no_line_one κs a x x' s s' z p q = p ∙ sym q
-
 pub operation_of_one : One 0 operation_of_kinds.ps operation_of_kinds.r operation_of_reads.Pre operation_of_reads.Post
 operation_of_one κs a x x' s s' z p q = p ∙ sym q
 
@@ -36,10 +32,10 @@ read_line_one κs a x x' s s' z p q = p ∙ sym q
 
 -- one length, and one content of the buffer
 pub write_line_one : OneWith 1 write_line_kinds.ps write_line_kinds.r write_line_reads.Pre write_line_reads.Post (List ℕ) (λ κs s. s.1.0.now)
-write_line_one κs a x x' s s' z p q = (ap (λ (o : Done ℕ). o.out) (p ∙ sym q), ap (λ (o : Done ℕ). o.cells) (p ∙ sym q))
+write_line_one κs a x x' s s' z p q = (ap (λ (o : Done (Option ℕ)). o.out) (p ∙ sym q), ap (λ (o : Done (Option ℕ)). o.cells) (p ∙ sym q))
 
 pub write_making_one : OneWith 1 write_making_kinds.ps write_making_kinds.r write_making_reads.Pre write_making_reads.Post (List ℕ) (λ κs s. s.1.1.0.now)
-write_making_one κs a x x' s s' z p q = (ap (λ (o : Done ℕ). o.out) (p ∙ sym q), ap (λ (o : Done ℕ). o.cells) (p ∙ sym q))
+write_making_one κs a x x' s s' z p q = (ap (λ (o : Done (Option ℕ)). o.out) (p ∙ sym q), ap (λ (o : Done (Option ℕ)). o.cells) (p ∙ sym q))
 
 pub write_answer_line_one : OneWith 1 write_answer_line_kinds.ps write_answer_line_kinds.r write_answer_line_reads.Pre write_answer_line_reads.Post (List ℕ) (λ κs s. s.0.now)
 write_answer_line_one κs a x x' s s' z p q = (ap (λ (o : Done Bool). o.out) (p ∙ sym q), ap (λ (o : Done Bool). o.cells) (p ∙ sym q))
@@ -60,4 +56,4 @@ pub keep_one : OneWith 1 keep_kinds.ps keep_kinds.r keep_reads.Pre keep_reads.Po
 keep_one κs a x x' s s' z p q = (ap (λ (o : Done ℕ). o.out) (p ∙ sym q), ap (λ (o : Done ℕ). o.cells) (p ∙ sym q))
 
 pub end_line_one : OneWith 1 end_line_kinds.ps end_line_kinds.r end_line_reads.Pre end_line_reads.Post (List ℕ) (λ κs s. s.1.0.now)
-end_line_one κs a x x' s s' z p q = (ap (λ (o : Done ℕ). o.out) (p ∙ sym q), ap (λ (o : Done ℕ). o.cells) (p ∙ sym q))
+end_line_one κs a x x' s s' z p q = (ap (λ (o : Done (Option ℕ)). o.out) (p ∙ sym q), ap (λ (o : Done (Option ℕ)). o.cells) (p ∙ sym q))

@@ -1,6 +1,7 @@
 -- Laws of writing: a number's digits, and the parts of a line one after the other. Assumes nothing.
+use Rattle.std.specs.Prelude.{Some, None, Option}
 use Rattle.types.proofs.Prelude.{◌≡◌, refl, sym, ap, ◌∙◌, true, List, [], ◌∷◌, ◌++◌, append_assoc, append-nil, ℕ, zero, suc, ◌+◌, ◌-◌, ◌*◌, ◌<◌, ◌≤◌, ◌/◌, ◌%◌}
-use Rattle.types.proofs.Prelude.{arith, add-one, length, take, set, get_or, length-append, length-take, lt-ltb, le-ltb, pick_true, pick_false}
+use Rattle.types.proofs.Prelude.{arith, add-one, length, take, set, get_or, length-append, length-take, take_all, lt-ltb, le-ltb, pick_true, pick_false}
 use Rattle.types.proofs.Spans.{over_nil, over_put, over_over, over_last}
 use lib.Seq.{take-suc}
 use Rattle.types.specs.{Done.done, Span.over, Names.Answer, Names.Fuel}
@@ -21,23 +22,25 @@ pub more_at : (l : List ℕ) (a b : ℕ) (xs ys : List ℕ) → b ≡ a + length
 more_at l a b xs ys e h = ap (λ (n : ℕ). over (over l a xs) n ys) e ∙ over_over l a xs ys h
 
 -- a turn of the loop that writes digits
-pub put_on : (l m l₀ : List ℕ) (a i w n : ℕ) {c : ℕ} → 0 < i → i ≤ n → a + n ≤ length l₀ → length l ≡ length l₀ → c ≡ char_of (w % 16) →
-    over l a (hex_text i w) ≡ m → over (set l (a + (i - 1)) c) a (hex_text (i - 1) (w / 16)) ≡ m
+pub put_on : (l m l₀ : List ℕ) (a i w n : ℕ) {c : ℕ} → i < n → a + n ≤ length l₀ → length l ≡ length l₀ → c ≡ char_of (w % 16) →
+    over l a (hex_text (n - i) w) ≡ m → over (set l (a + (n - 1 - i)) c) a (hex_text (n - (i + 1)) (w / 16)) ≡ m
 unfolding hex_text
-put_on l m l₀ a i w n₀ h g k z e q =
-    let j : i ≡ suc (i - 1) = omega arith in
-    let t : hex_text i w ≡ hex_text (i - 1) (w / 16) ++ (char_of (w % 16) ∷ []) = ap (λ (n : ℕ). hex_text n w) j in
-    let n : length (hex_text (i - 1) (w / 16)) ≡ i - 1 = length_hex (i - 1) (w / 16) in
-    let b : a + (i - 1) ≡ a + length (hex_text (i - 1) (w / 16)) = omega (arith, n) in
+put_on l m₀ l₀ a i w n h k z e q =
+    let r = n - (i + 1) in
+    let j : n - i ≡ suc r = omega arith in
+    let x = hex_text r (w / 16) in
+    let t : hex_text (n - i) w ≡ x ++ (char_of (w % 16) ∷ []) = ap (λ (n : ℕ). hex_text n w) j in
+    let m : length x ≡ r = length_hex r (w / 16) in
+    let b : a + (n - 1 - i) ≡ a + length x = omega (arith, m) in
     rw e
-    (ap (λ (x : ℕ). over (set l x (char_of (w % 16))) a (hex_text (i - 1) (w / 16))) b
-    ∙ over_last l a (hex_text (i - 1) (w / 16)) (char_of (w % 16)) (omega (arith, n))
+    (ap (λ (y : ℕ). over (set l y (char_of (w % 16))) a x) b
+    ∙ over_last l a x (char_of (w % 16)) (omega (arith, m))
     ∙ ap (λ (z : List ℕ). over l a z) (sym t) ∙ q)
 
-pub put_end : (l m : List ℕ) (a i w : ℕ) → i ≤ 0 → over l a (hex_text i w) ≡ m → l ≡ m
+pub put_end : (l m : List ℕ) (a i w n : ℕ) → n ≤ i → over l a (hex_text (n - i) w) ≡ m → l ≡ m
 unfolding hex_text
-put_end l m a i w h q =
-    let j : i ≡ 0 = omega arith in
+put_end l m a i w n h q =
+    let j : n - i ≡ 0 = omega arith in
     sym (over_nil l a) ∙ ap (λ (n : ℕ). over l a (hex_text n w)) (sym j) ∙ q
 
 -- the parts of an answer line, one after the other
@@ -94,43 +97,42 @@ field_more xs v =
     ∙ sym (text_append xs (v ∷ []))
 
 -- the loop that writes fields: none yet, a turn, and all
-pub fields_none : (l list : List ℕ) → l ≡ over l 2 (fields_text (take 0 list))
-unfolding fields_text
-fields_none l list = sym (over_nil l 2)
+module _ (l list : List ℕ) where
+  pub fields_none : l ≡ over l 2 (fields_text (take 0 list))
+  unfolding fields_text
+  fields_none = sym (over_nil l 2)
 
-pub fields_all : (l o list : List ℕ) (i n : ℕ) → n ≤ i → i ≤ n → o ≡ over l 2 (fields_text (take i list)) → o ≡ over l 2 (fields_text (take n list))
-fields_all l o list i n h g e = let k : i ≡ n = omega arith in e ∙ ap (λ (z : ℕ). over l 2 (fields_text (take z list))) k
+  pub fields_all : (o : List ℕ) (i : ℕ) → length list ≤ i → o ≡ over l 2 (fields_text (take i list)) → o ≡ over l 2 (fields_text list)
+  fields_all o i h e = e ∙ ap (λ (z : List ℕ). over l 2 (fields_text z)) (take_all i list h)
 
-pub fields_put : (l o p list : List ℕ) (i at n v : ℕ) → i < n → n ≤ 8 → length list ≡ 8 → at ≡ 2 + 17 * i → 2 + 17 * n ≤ length l → v ≡ get_or list i 0
-    → o ≡ over l 2 (fields_text (take i list)) → p ≡ over (set o at space) (at + 1) (hex_text 16 v) → p ≡ over l 2 (fields_text (take (i + 1) list))
-fields_put l o p list i at n v h g k a r d e q =
-    let x = fields_text (take i list) in
-    let y = x ++ space ∷ [] in
-    let lx : length x ≡ 17 * i = omega (arith, length_fields (take i list), length-take i list) in
-    let ly : length y ≡ 17 * i + 1 = omega (arith, length-append x (space ∷ []), lx) in
-    let s : set o at space ≡ over l 2 y = ap (λ (z : List ℕ). set z at space) e ∙ put_at l 2 at x space (omega (arith, lx)) (omega (arith, lx)) in
-    let t : take i list ++ v ∷ [] ≡ take (i + 1) list =
-    ap (λ (z : ℕ). take i list ++ z ∷ []) d ∙ sym (take-suc list i 0 (omega arith)) ∙ ap (λ (z : ℕ). take z list) (sym (add-one i)) in
-    q ∙ ap (λ (z : List ℕ). over z (at + 1) (hex_text 16 v)) s
-    ∙ more_at l 2 (at + 1) y (hex_text 16 v) (omega (arith, ly)) (omega (arith, ly))
-    ∙ ap (over l 2) (field_more (take i list) v ∙ ap fields_text t)
+  pub fields_put : (o p : List ℕ) (i at v : ℕ) → i < length list → at ≡ 2 + 17 * i → 2 + 17 * length list ≤ length l → v ≡ get_or list i 0
+      → o ≡ over l 2 (fields_text (take i list)) → p ≡ over (set o at space) (at + 1) (hex_text 16 v) → p ≡ over l 2 (fields_text (take (i + 1) list))
+  fields_put o p i at v h a r d e q =
+      let x = fields_text (take i list) in
+      let y = x ++ space ∷ [] in
+      let lx : length x ≡ 17 * i = omega (arith, length_fields (take i list), length-take i list) in
+      let ly : length y ≡ 17 * i + 1 = omega (arith, length-append x (space ∷ []), lx) in
+      let s : set o at space ≡ over l 2 y = ap (λ (z : List ℕ). set z at space) e ∙ put_at l 2 at x space (omega (arith, lx)) (omega (arith, lx)) in
+      let t : take i list ++ v ∷ [] ≡ take (i + 1) list =
+      ap (λ (z : ℕ). take i list ++ z ∷ []) d ∙ sym (take-suc list i 0 (omega arith)) ∙ ap (λ (z : ℕ). take z list) (sym (add-one i)) in
+      q ∙ ap (λ (z : List ℕ). over z (at + 1) (hex_text 16 v)) s
+      ∙ more_at l 2 (at + 1) y (hex_text 16 v) (omega (arith, ly)) (omega (arith, ly))
+      ∙ ap (over l 2) (field_more (take i list) v ∙ ap fields_text t)
 
--- a code and then the first n fields, or nothing
-module _ (l list : List ℕ) (c n : ℕ) (h : n ≤ 8) (k : length list ≡ 8) where
-  whole : length (line_text c (take n list)) ≡ 2 + 17 * n
-  whole = omega (arith, length_line c (take n list), length-take n list)
-
-  pub line_put : (o p : List ℕ) → 2 + 17 * n ≤ length l → o ≡ over l 0 (hex_text 2 c) → p ≡ over o 2 (fields_text (take n list))
-      → done (2 + 17 * n) p ≡ wrote_of l (line_text c (take n list))
+-- a code and then fields, or nothing
+module _ (l list : List ℕ) (c : ℕ) where
+  pub line_put : (o p : List ℕ) → 2 + 17 * length list ≤ length l → o ≡ over l 0 (hex_text 2 c) → p ≡ over o 2 (fields_text list)
+      → done (Some (2 + 17 * length list)) p ≡ wrote_of l (line_text c list)
   unfolding wrote_of line_text
   line_put o p g d e =
-      let x = fields_text (take n list) in
-      let q : p ≡ over l 0 (line_text c (take n list)) =
+      let x = fields_text list in
+      let w = length_line c list in
+      let q : p ≡ over l 0 (line_text c list) =
       e ∙ ap (λ (z : List ℕ). over z 2 x) d ∙ more_at l 0 2 (hex_text 2 c) x (omega (arith, length_hex 2 c)) (omega (arith, length_hex 2 c)) in
-      ap (done (2 + 17 * n)) q
-      ∙ ap (λ (z : ℕ). done z (over l 0 (line_text c (take n list)))) (sym whole)
-      ∙ sym (pick_false _ _ _ (le-ltb (length l) (length (line_text c (take n list))) (omega (arith, whole))))
+      ap (done (Some (2 + 17 * length list))) q
+      ∙ ap (λ (z : ℕ). done (Some z) (over l 0 (line_text c list))) (sym w)
+      ∙ sym (pick_false _ _ _ (le-ltb (length l) (length (line_text c list)) (omega (arith, w))))
 
-  pub line_kept : length l < 2 + 17 * n → done 0 l ≡ wrote_of l (line_text c (take n list))
+  pub line_kept : length l < 2 + 17 * length list → done None l ≡ wrote_of l (line_text c list)
   unfolding wrote_of
-  line_kept g = sym (pick_true _ _ _ (lt-ltb (length l) (length (line_text c (take n list))) (omega (arith, whole))))
+  line_kept g = sym (pick_true _ _ _ (lt-ltb (length l) (length (line_text c list)) (omega (arith, length_line c list))))

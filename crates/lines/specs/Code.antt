@@ -1,13 +1,13 @@
 -- Document 01, "Operation lines": what a line says, by its code, its number of fields and their ranges. Codes are hexadecimal, as in the text.
-use Rattle.std.specs.Prelude.{ℕ, ◌+◌, min, Bool, true, List, leb, ltb, eqb}
+use Rattle.std.specs.Prelude.{ℕ, ◌+◌, min, Bool, true, List, leb, ltb, eqb, Option, Some, None, option_and_then}
 use Rattle.types.specs.Names.{word32, pick, both, WantedMemory, WantedTable, CopySpan}
 use Rattle.machine.specs.Names.{Items, FuelOp, MemoryOp, TableOp, Operation}
 use Rattle.lines.specs.Fields.{binary, yes, kind_of, reference_of, limit_ranges, limits_of, load_kind_of, store_kind_of}
 use Rattle.lines.specs.{Line.line_of, Line.at, declared.line.Line.Line, declared.code.Read.Read}
 
 -- what a line of so many fields says where it should have n and they are in range; else it is malformed
-unfoldable pub taken : ℕ → ℕ → Bool → Read → Read
-taken count n ok x = pick (both (eqb count n) ok) x Read.Malformed
+unfoldable pub taken : ℕ → ℕ → Bool → Read → Option Read
+taken count n ok x = pick (both (eqb count n) ok) (Some x) None
 
 -- an operation of fuel and limiter
 abbrev pub on_fuel : FuelOp → Read
@@ -46,7 +46,7 @@ abbrev pub span_of : ℕ → ℕ → ℕ → CopySpan
 span_of to from len = record { to = to; from = from; len = len }
 
 -- what a line of code k and n fields says; 00 has B below 2^32, 29 at most 4 items
-unfoldable pub by_code : ℕ → ℕ → Line → Read
+unfoldable pub by_code : ℕ → ℕ → Line → Option Read
 by_code k n w =
     pick (eqb k 0x00) (taken n 2 (both (ltb (at w 1) word32) (binary (at w 0))) (Read.Making (yes (at w 0)) (at w 1)))
     (pick (eqb k 0x01) (taken n 1 true (on_fuel (FuelOp.SetFuel (at w 0))))
@@ -69,12 +69,12 @@ by_code k n w =
     (pick (eqb k 0x28) (taken n 1 true (Read.Operation (Operation.DropSegment (at w 0))))
     (pick (eqb k 0x29) (taken n (2 + at w 1) (both (leb (at w 1) 4) (binary (at w 0))) (Read.Operation (Operation.NewSegment (kind_of (at w 0)) (items_from w))))
     (pick (eqb k 0x30) (taken n 6 (memory_in w) (on_memory w (MemoryOp.LinkCheck (memory_of w))))
-    Read.Malformed))))))))))))))))))))
+    None))))))))))))))))))))
 
 -- what a line's numbers say
-unfoldable pub operation_of : Line → Read
-operation_of w = pick w.good (by_code w.code w.count w) Read.Malformed
+unfoldable pub operation_of : Line → Option Read
+operation_of w = by_code w.code w.count w
 
 -- what a line of text says
-unfoldable pub read_line : List ℕ → Read
-read_line l = operation_of (line_of l)
+unfoldable pub read_line : List ℕ → Option Read
+read_line l = option_and_then operation_of (line_of l)

@@ -1,5 +1,5 @@
 -- Document 01, "Operation lines": a two-digit code, then fields of 16 digits, each behind a single space.
-use Rattle.std.specs.Prelude.{ℕ, zero, suc, true, false, List, [], ◌∷◌, ◌++◌, eqb, ltb, length, drop, get_or, replicate, Some, None, Option}
+use Rattle.std.specs.Prelude.{ℕ, zero, suc, List, [], ◌∷◌, ◌++◌, eqb, ltb, length, drop, get_or, replicate, Some, None, Option}
 use Rattle.types.specs.Names.{pick, over, Done, done}
 use Rattle.lines.specs.{Hex.hex_from, Hex.hex_text, declared.line.Line.Line}
 
@@ -19,36 +19,27 @@ longest = 160
 abbrev pub most_fields : ℕ
 most_fields = 8
 
--- the fields of a line, where they are fields
-pub data Got : Type 0 where
-  none : Got
-  some : List ℕ → Got
-
 -- a field, and what follows it
-unfoldable pub then_field : Option ℕ → Got → Got
-then_field None g = none
-then_field (Some v) none = none
-then_field (Some v) (some l) = some (v ∷ l)
+unfoldable pub then_field : Option ℕ → Option (List ℕ) → Option (List ℕ)
+then_field None g = None
+then_field (Some v) None = None
+then_field (Some v) (Some l) = Some (v ∷ l)
 
 -- at most n fields, each behind a space, up to the end
-unfoldable pub fields_of : ℕ → List ℕ → Got
-fields_of zero [] = some []
-fields_of zero (b ∷ l) = none
-fields_of (suc n) [] = some []
-fields_of (suc n) (b ∷ l) = pick (eqb b space) (then_field (hex_from 16 0 l) (fields_of n (drop 16 l))) none
+unfoldable pub fields_of : ℕ → List ℕ → Option (List ℕ)
+fields_of zero [] = Some []
+fields_of zero (b ∷ l) = None
+fields_of (suc n) [] = Some []
+fields_of (suc n) (b ∷ l) = pick (eqb b space) (then_field (hex_from 16 0 l) (fields_of n (drop 16 l))) None
 
--- a line as numbers: whether it is a code and fields, the code, how many fields, and the fields with zeros behind them; this one is none
-abbrev pub no_line : Line
-no_line = record { good = false; code = 0; count = 0; list = replicate most_fields 0 }
-
--- a code, and fields behind it
-unfoldable pub coded : Option ℕ → Got → Line
-coded None g = no_line
-coded (Some code) none = no_line
-coded (Some code) (some l) = record { good = true; code = code; count = length l; list = over (replicate most_fields 0) 0 l }
+-- a code, and fields behind it, as numbers: the code, how many fields, and the fields with zeros behind them
+unfoldable pub coded : Option ℕ → Option (List ℕ) → Option Line
+coded None g = None
+coded (Some code) None = None
+coded (Some code) (Some l) = Some (record { code = code; count = length l; list = over (replicate most_fields 0) 0 l })
 
 -- a text as a line's numbers
-unfoldable pub line_of : List ℕ → Line
+unfoldable pub line_of : List ℕ → Option Line
 line_of l = coded (hex_from 2 0 l) (fields_of most_fields (drop 2 l))
 
 -- a field, 0 behind the last
@@ -64,6 +55,6 @@ fields_text (v ∷ l) = space ∷ (hex_text 16 v ++ fields_text l)
 unfoldable pub line_text : ℕ → List ℕ → List ℕ
 line_text code fields = hex_text 2 code ++ fields_text fields
 
--- a text at the start of a buffer and its length; 0 and nothing written where the buffer has less room
-unfoldable pub wrote_of : List ℕ → List ℕ → Done ℕ
-wrote_of l text = pick (ltb (length l) (length text)) (done 0 l) (done (length text) (over l 0 text))
+-- a text at the start of a buffer and its length; nothing is written where the buffer has less room
+unfoldable pub wrote_of : List ℕ → List ℕ → Done (Option ℕ)
+wrote_of l text = pick (ltb (length l) (length text)) (done None l) (done (Some (length text)) (over l 0 text))

@@ -1,5 +1,5 @@
 -- Document 01, "Operation lines": a session, from the bytes that go in to the bytes that come out.
-use Rattle.std.specs.Prelude.{ℕ, Bool, false, List, [], ◌∷◌, ◌++◌, eqb}
+use Rattle.std.specs.Prelude.{ℕ, Bool, false, List, [], ◌∷◌, ◌++◌, eqb, Option, Some, None}
 use Rattle.types.specs.Names.{pick, refuse, accept, default_costs, Answer, FuelCosts}
 use Rattle.machine.specs.Names.{Buffers, fresh_machine, step, Machine}
 use Rattle.lines.specs.{Line.lf, Code.read_line, AnswerLine.answer_line, declared.code.Read.Read}
@@ -29,10 +29,10 @@ abbrev pub costs_of : ℕ → FuelCosts
 costs_of copied = record { copied = copied; translated = default_costs.translated; validated = default_costs.validated }
 
 -- a line is one operation on the machine; the first line alone can make it anew, by 00, and leaves the buffers; anything else is 18
-unfoldable pub turn_by : ℕ → Held → Read → Turn
-turn_by r h (read.Operation op) = let s = step r h.machine h.buffers op in turned s.answer s.machine s.buffers
-turn_by r h (read.Making metering copied) = pick h.first (turned (accept 0) (fresh_machine metering (costs_of copied)) h.buffers) (malformed h)
-turn_by r h read.Malformed = malformed h
+unfoldable pub turn_by : ℕ → Held → Option Read → Turn
+turn_by r h (Some (read.Operation op)) = let s = step r h.machine h.buffers op in turned s.answer s.machine s.buffers
+turn_by r h (Some (read.Making metering copied)) = pick h.first (turned (accept 0) (fresh_machine metering (costs_of copied)) h.buffers) (malformed h)
+turn_by r h None = malformed h
 
 -- what a line of text gives
 unfoldable pub turn_of : ℕ → Held → List ℕ → Turn

@@ -1,4 +1,6 @@
 // Answer lines: the number, the value or amount, and the fuel left.
+#![tactic(auto, using(types::proofs::Picks::cases, crate::proofs::Writing::room_for), unfolding(crate::specs::AnswerLine::fuel_shown, crate::specs::AnswerLine::answer_line, crate::specs::AnswerLine::answered_of))]
+
 ghost use Rattle.std.specs.Prelude.{◌+◌, ◌≤◌, ◌≡◌, length};
 ghost use Rattle.types.specs.Done.{done};
 ghost use Rattle.types.specs.Span.{over};
@@ -16,7 +18,7 @@ fn write_answer(out: &mut [u8], at: usize, number: u8, shown: u64, fuel: u64)
     requires { at + answer_bytes ≤ length out.old }
     ensures { out.new ≡ over out.old at (answer_text number shown fuel) }
 {
-    field::put_hex(out, at, 2, number as u64);
+    field::put_hex(out, at, 2, u64::from(number));
     out[at + 2] = line::SPACE;
     field::put_hex(out, at + 3, 16, shown);
     out[at + 19] = line::SPACE;
@@ -28,10 +30,7 @@ fn write_answer(out: &mut [u8], at: usize, number: u8, shown: u64, fuel: u64)
 fn fuel_shown(fuel: Fuel) -> u64
     ensures { result ≡ fuel_shown fuel }
 {
-    if fuel.enabled {
-        return fuel.remaining;
-    }
-    0
+    if fuel.enabled { fuel.remaining } else { 0 }
 }
 
 // An answer's line at a place.

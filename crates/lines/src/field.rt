@@ -1,30 +1,32 @@
 // Hexadecimal: a byte as a digit, a number in so many digits, and back.
-ghost use Rattle.std.specs.Prelude.{◌+◌, ◌≤◌, ◌<◌, ◌≡◌, length, drop};
+#![tactic(auto, using(types::proofs::Picks::cases), unfolding(crate::specs::Hex::char_of))]
+
+ghost use Rattle.std.specs.Prelude.{◌+◌, ◌≤◌, ◌<◌, ◌≡◌, length};
 ghost use Rattle.types.specs.Span.{over};
-ghost use Rattle.lines.specs.stages.Digits.{digit_table};
 ghost use Rattle.lines.specs.Hex.{digit_of, char_of, hex_from, hex_text};
 
-fn digit(t: &[u8; 256], b: u8) -> u8
-    requires { t.now ≡ digit_table }
+// The digits of all 256 bytes, 16 where a byte is none.
+static DIGITS: [u8; 256] =
+    *b"\x10\x10\x10\x10\x10\x10\x10\x10\x10\x10\x10\x10\x10\x10\x10\x10\x10\x10\x10\x10\x10\x10\x10\x10\x10\x10\x10\x10\x10\x10\x10\x10\x10\x10\x10\x10\x10\x10\x10\x10\x10\x10\x10\x10\x10\x10\x10\x10\x00\x01\x02\x03\x04\x05\x06\x07\x08\x09\x10\x10\x10\x10\x10\x10\x10\x10\x10\x10\x10\x10\x10\x10\x10\x10\x10\x10\x10\x10\x10\x10\x10\x10\x10\x10\x10\x10\x10\x10\x10\x10\x10\x10\x10\x10\x10\x10\x10\x0a\x0b\x0c\x0d\x0e\x0f\x10\x10\x10\x10\x10\x10\x10\x10\x10\x10\x10\x10\x10\x10\x10\x10\x10\x10\x10\x10\x10\x10\x10\x10\x10\x10\x10\x10\x10\x10\x10\x10\x10\x10\x10\x10\x10\x10\x10\x10\x10\x10\x10\x10\x10\x10\x10\x10\x10\x10\x10\x10\x10\x10\x10\x10\x10\x10\x10\x10\x10\x10\x10\x10\x10\x10\x10\x10\x10\x10\x10\x10\x10\x10\x10\x10\x10\x10\x10\x10\x10\x10\x10\x10\x10\x10\x10\x10\x10\x10\x10\x10\x10\x10\x10\x10\x10\x10\x10\x10\x10\x10\x10\x10\x10\x10\x10\x10\x10\x10\x10\x10\x10\x10\x10\x10\x10\x10\x10\x10\x10\x10\x10\x10\x10\x10\x10\x10\x10\x10\x10\x10\x10\x10\x10\x10\x10\x10\x10\x10\x10\x10\x10\x10\x10\x10\x10\x10\x10\x10\x10\x10\x10";
+
+fn digit(b: u8) -> u8
     ensures { result ≡ digit_of b }
 {
-    t[b as usize]
+    DIGITS[b as usize]
 }
 
-// The number of n digits at a place.
-pub(crate) fn hex(t: &[u8; 256], s: &[u8], at: usize, n: usize) -> Option<u64>
-    requires { (at + n ≤ length s.now) × (n ≤ 16) × (t.now ≡ digit_table) }
-    ensures { result ≡ hex_from n 0 (drop at s.now) }
+// The number of up to 16 digits.
+pub(crate) fn hex(s: &[u8]) -> Option<u64>
+    requires { length s.now ≤ 16 }
+    ensures { result ≡ hex_from (length s.now) 0 s.now }
 {
-    let mut v: u64 = 0;
-    let mut i: usize = 0;
-    while i < n {
-        let d = digit(t, s[at + i]);
+    let mut v = 0;
+    for b in s {
+        let d = digit(*b);
         if 15 < d {
             return None;
         }
-        v = v * 16 + (d as u64);
-        i += 1;
+        v = v * 16 + u64::from(d);
     }
     Some(v)
 }
@@ -33,10 +35,7 @@ fn char_of(d: u8) -> u8
     requires { d < 16 }
     ensures { result ≡ char_of d }
 {
-    if d < 10 {
-        return 48 + d;
-    }
-    87 + d
+    if d < 10 { b'0' + d } else { b'a' + (d - 10) }
 }
 
 // A number in n digits, from the last to the first.
@@ -45,11 +44,8 @@ pub(crate) fn put_hex(out: &mut [u8], at: usize, n: usize, v: u64)
     ensures { out.new ≡ over out.old at (hex_text n v) }
 {
     let mut w = v;
-    let mut i = n;
-    while i > 0 {
-        i -= 1;
-        let d = (w % 16) as u8;
-        out[at + i] = char_of(d);
+    for i in 0..n {
+        out[at + (n - 1 - i)] = char_of((w % 16) as u8);
         w /= 16;
     }
 }

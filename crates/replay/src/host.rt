@@ -30,7 +30,7 @@ impl Host {
     // One line; 00 makes the machine anew, on the first line alone.
     fn run(&mut self, line: &[u8], first: bool) -> Answer {
         match read_line(line) {
-            Read::Operation(op) => {
+            Some(Read::Operation(op)) => {
                 let done = operate_kept(
                     self.machine,
                     &mut self.bytes,
@@ -41,7 +41,7 @@ impl Host {
                 self.machine = done.machine;
                 done.answer
             }
-            Read::Making { metering, copied } if first => {
+            Some(Read::Making { metering, copied }) if first => {
                 let costs = FuelCosts {
                     copied,
                     ..FuelCosts::default_costs()

@@ -45,15 +45,12 @@ impl Host {
             &mut self.items,
             input,
             &mut self.out,
-        );
+        )
+        .map_err(|_| Failure::Damaged)?;
         self.session = p.session;
         let answers = self.out.get(..p.wrote).ok_or(Failure::Damaged)?;
         rt.write_all(answers).map_err(Failure::Unwritten)?;
-        if p.number == 0 {
-            Ok(p.used)
-        } else {
-            Err(Failure::Damaged)
-        }
+        Ok(p.used)
     }
 
     // All whole lines; answers how many bytes they are.

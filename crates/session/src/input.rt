@@ -71,7 +71,9 @@ impl Input {
         host: &mut Host,
     ) -> Result<(), Failure> {
         self.read_all(rt, from, host)?;
-        let end = end_line(host.session, &mut self.bytes, self.kept);
-        self.use_up(rt, host, end)
+        match end_line(host.session, &mut self.bytes, self.kept) {
+            Some(end) => self.use_up(rt, host, end),
+            None => Ok(()),
+        }
     }
 }

@@ -1,5 +1,5 @@
 -- One operation again and again on a machine in place, for the benches.
-use Rattle.std.specs.Prelude.{ℕ, zero, suc, ◌≡◌, Bool, List}
+use Rattle.std.specs.Prelude.{ℕ, zero, suc, ◌≡◌, Bool, List, Option, Some, None}
 use Rattle.types.specs.Names.{pick, raw_bytes}
 use Rattle.machine.specs.Names.{Buffers, buffers, Operation}
 use Rattle.machine.specs.Row.{InRow, operate_row, fuel_of}
@@ -27,10 +27,10 @@ again tested (suc n) h op =
     again tested n (rest (pick tested (operate_row raw_bytes h.words h.buffers op) (proceed_row raw_bytes h.words h.buffers op))) op
 
 -- a malformed line is no operation
-unfoldable pub timed_in : Bool → ℕ → Rowing → Read → Rowing
-timed_in tested n h (read.Operation op) = again tested n h op
-timed_in tested n h (read.Making metering copied) = h
-timed_in tested n h read.Malformed = h
+unfoldable pub timed_in : Bool → ℕ → Rowing → Option Read → Rowing
+timed_in tested n h (Some (read.Operation op)) = again tested n h op
+timed_in tested n h (Some (read.Making metering copied)) = h
+timed_in tested n h None = h
 
 -- the fuel left, the row and the buffers
 pub record Rounded (h : Rowing) (result : ℕ) (words bytes cells items : List ℕ) : Type 0 where

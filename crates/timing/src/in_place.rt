@@ -36,13 +36,13 @@ fn repeat(
     cells: &mut [u64],
     items: &mut [u64],
     tested: bool,
-    said: Read,
+    said: Option<Read>,
     rounds: u64,
 )
     ensures { rowing words.new bytes.new cells.new items.new
         ≡ timed_in tested rounds (rowing words.old bytes.old cells.old items.old) said }
 {
-    if let Read::Operation(op) = said {
+    if let Some(Read::Operation(op)) = said {
         for _ in 0..rounds {
             once(words, bytes, cells, items, tested, op);
         }

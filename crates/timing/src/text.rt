@@ -1,5 +1,5 @@
 // Operation lines: one read and answered at once, and a whole session over lines in one buffer.
-#![tactic(auto, unfolding(crate::specs::Text::echo_of, crate::specs::Text::session_on))]
+#![tactic(auto, unfolding(crate::specs::Text::echo_of, crate::specs::Text::session_on, crate::specs::Text::written_by))]
 
 ghost use Rattle.std.specs.Prelude.{◌≡◌, true};
 ghost use Rattle.types.specs.Fuel.{new_fuel, default_costs};
@@ -17,11 +17,11 @@ use types::answer::{Answer, Refusal, Value};
 use types::fuel::{Fuel, FuelCosts};
 
 // Whether a line is an operation's.
-fn echo(parsed: Read) -> Answer
+fn echo(parsed: Option<Read>) -> Answer
     ensures { result ≡ echo_of parsed }
 {
     match parsed {
-        Read::Operation(_) => Ok(Value::Number(0)),
+        Some(Read::Operation(_)) => Ok(Value::Number(0)),
         _ => Err(Refusal {
             number: 18,
             amount: 0,
@@ -52,5 +52,5 @@ pub extern "C" fn rounds_session(
 {
     let mut words = [0; 186];
     row::fresh(&mut words, true, FuelCosts::default_costs());
-    piece(Session::new(), &mut words, bytes, cells, items, input, out).wrote
+    piece(Session::new(), &mut words, bytes, cells, items, input, out).map_or(0, |p| p.wrote)
 }

@@ -1,12 +1,13 @@
 // A whole machine in a row of words that the host owns: made, operated, and asked for its sizes.
 #![tactic(auto, using(types::proofs::Picks::cases), unfolding(crate::specs::Whole::line_from, crate::specs::Whole::answered, crate::specs::Whole::told, crate::specs::Whole::operate_of, lines::specs::AnswerLine::fuel_shown))]
 
-ghost use Rattle.std.specs.Prelude.{◌≡◌, ◌≤◌, length, get_or, replicate};
+ghost use Rattle.std.specs.Prelude.{◌≡◌, ◌≤◌, length, get_or, replicate, option_and_then};
 ghost use Rattle.types.specs.Answer.{refuse};
 ghost use Rattle.types.specs.Span.{over};
 ghost use Rattle.machine.specs.Machine.{Buffers, buffers};
 ghost use Rattle.machine.specs.Words.{row_length};
 ghost use Rattle.machine.specs.Row.{rowed, fresh_row, in_row, row_pages, row_cells};
+ghost use Rattle.lines.specs.Code.{operation_of};
 ghost use Rattle.lines.specs.Line.{most_fields};
 ghost use Rattle.lines.specs.Session.{costs_of};
 ghost use Rattle.lines.specs.AnswerLine.{fuel_shown};
@@ -14,9 +15,9 @@ ghost use Rattle.yshankelt.specs.Face.{Given};
 ghost use Rattle.yshankelt.specs.Whole.{line_from, answered, call, told, operate_of};
 
 use super::{costs, deliver};
+use lines::code;
 use lines::code::Read;
 use lines::line::{Line, MOST_FIELDS};
-use lines::{code, line};
 use machine::row;
 use machine::words::ROW;
 use types::answer::{Answer, Refusal};
@@ -62,20 +63,26 @@ fn padded(fields: &[u64]) -> [u64; MOST_FIELDS]
     ]
 }
 
-fn line_from(code: u8, fields: &[u64]) -> Line
+// A code and its fields as a line's numbers, where there are at most as many as a line has.
+fn line_from(code: u8, fields: &[u64]) -> Option<Line>
     ensures { result ≡ line_from code fields.now }
 {
     let count = fields.len();
     if MOST_FIELDS < count {
-        return line::no_line();
+        return None;
     }
-    let list = padded(fields);
-    Line {
-        good: true,
+    Some(Line {
         code: code as u64,
         count,
-        list,
-    }
+        list: padded(fields),
+    })
+}
+
+// What they say.
+fn said_of(code: u8, fields: &[u64]) -> Option<Read>
+    ensures { result ≡ option_and_then operation_of (line_from code fields.now) }
+{
+    code::operation_of(line_from(code, fields)?)
 }
 
 fn malformed() -> Answer
@@ -93,15 +100,15 @@ fn answered(
     bytes: &mut [u8],
     cells: &mut [u64],
     items: &mut [u64],
-    said: Read,
+    said: Option<Read>,
 ) -> Answer
     ensures { in_row result words.new bytes.new cells.new items.new
         ≡ answered said words.old (buffers bytes.old cells.old items.old) }
 {
     match said {
-        Read::Operation(op) => row::operate(words, bytes, cells, items, op),
-        Read::Making { .. } => malformed(),
-        Read::Malformed => malformed(),
+        Some(Read::Operation(op)) => row::operate(words, bytes, cells, items, op),
+        Some(Read::Making { .. }) => malformed(),
+        None => malformed(),
     }
 }
 
@@ -141,9 +148,7 @@ pub extern "C" fn ysh_operate(
         ≡ operate_of words.old (buffers bytes.old cells.old items.old)
         (line_from code fields.now) value.old fuel.old }
 {
-    let line = line_from(code, fields);
-    let said = code::operation_of(line);
-    let answer = answered(words, bytes, cells, items, said);
+    let answer = answered(words, bytes, cells, items, said_of(code, fields));
     tell(words, answer, value, fuel)
 }
 

@@ -1,9 +1,19 @@
 -- For the code alone: what its functions of one code and of one type read.
-use Rattle.std.specs.Prelude.{ℕ, min, Bool, leb, ltb}
-use Rattle.types.specs.Names.{word32, both, WantedMemory, WantedTable}
+use Rattle.std.specs.Prelude.{ℕ, min, Bool, leb, ltb, Option, Some, None}
+use Rattle.types.specs.Names.{word32, pick, both, WantedMemory, WantedTable}
 use Rattle.lines.specs.Fields.{binary, yes, kind_of, limit_ranges, limits_of}
-use Rattle.lines.specs.Code.{taken, by_code}
-use Rattle.lines.specs.declared.{line.Line.Line, code.Read.Read}
+
+-- what fields stand for where they are in range
+abbrev pub in_range : {A : Type 0} → Bool → A → Option A
+in_range ok x = pick ok (Some x) None
+
+-- the range of a load kind
+abbrev pub load_in : ℕ → Bool
+load_in n = leb n 13
+
+-- that of a store kind
+abbrev pub store_in : ℕ → Bool
+store_in n = leb n 8
 
 -- the ranges of a memory's type
 abbrev pub memory_ranges : ℕ → ℕ → ℕ → ℕ → Bool
@@ -30,11 +40,3 @@ making_ranges metering copied = both (ltb copied word32) (binary metering)
 -- those of a segment
 abbrev pub segment_ranges : ℕ → ℕ → Bool
 segment_ranges kind count = both (leb count 4) (binary kind)
-
--- what a line says where it has n fields and they are in range
-abbrev pub taking : ℕ → Line → Bool → Read → Read
-taking n w ok x = taken w.count n ok x
-
--- what a good line says
-unfoldable pub meant : Line → Read
-meant w = by_code w.code w.count w

@@ -1,9 +1,6 @@
-use Rattle.types.proofs.Prelude.{◌≡◌, ◌≤◌, ◌<◌, ◌+◌, ◌-◌, ◌^◌, drop}
+use Rattle.types.proofs.Prelude.{◌≡◌, ◌<◌, ◌-◌, ◌^◌, length, drop}
 use Rattle.lines.specs.Hex.{hex_from}
 use Rattle.lines.proofs.field.hex.Given as goal
 
-abbrev pub invariant-loop-i : goal.invariant-loop-i
-invariant-loop-i l = (l.i ≤ l.n) × (l.v < 16 ^ l.i) × (hex_from (l.n - l.i) l.v (drop (l.at + l.i) l.s) ≡ hex_from l.n 0 (drop l.at l.s))
-
-abbrev pub decreases-loop-i : goal.decreases-loop-i
-decreases-loop-i l = l.n - l.i
+abbrev pub invariant-loop-b : goal.invariant-loop-b
+invariant-loop-b l = (l.v < 16 ^ l.b-index) × (hex_from (length l.s - l.b-index) l.v (drop l.b-index l.s) ≡ hex_from (length l.s) 0 l.s)

@@ -1,10 +1,9 @@
-use Rattle.types.proofs.Prelude.{◌≡◌, ◌≤◌, ◌-◌, length, drop, replicate}
+use Rattle.types.proofs.Prelude.{◌≡◌, ◌≤◌, ◌-◌, length, replicate}
+use Rattle.std.specs.Slice.Iter.{chunks_rest, chunks_size}
 use Rattle.lines.specs.{Line.fields_of, stages.Back.filled}
 use Rattle.lines.proofs.line.read_fields.Given as goal
 
-abbrev pub invariant-loop-at : goal.invariant-loop-at
-invariant-loop-at l =
-    (l.n ≤ 8) × (length l.list ≡ 8) × (filled l.code l.n l.list (fields_of (8 - l.n) (drop l.at l.s)) ≡ filled l.code 0 (replicate 8 0) (fields_of 8 (drop 2 l.s)))
-
-abbrev pub decreases-loop-at : goal.decreases-loop-at
-decreases-loop-at l = length l.s - l.at
+abbrev pub invariant-loop-part : goal.invariant-loop-part
+invariant-loop-part l =
+    (l.count ≤ 8) × (length l.list ≡ 8) × (chunks_size l.part-iterator ≡ 17)
+    × (filled l.code l.count l.list (fields_of (8 - l.count) (chunks_rest l.part-iterator)) ≡ filled l.code 0 (replicate 8 0) (fields_of 8 l.s))

@@ -8,20 +8,19 @@ use Rattle.lines.proofs.session.skip_on.Goals as goal
 pub returns-then-out-lt-ANSWER : goal.returns-then-out-lt-ANSWER
 returns-then-out-lt-ANSWER c =
     let a = c.args in
-    let s = c.requires in
-    ap (λ (v : List ℕ). record { progress = record { number = 0; session = record { first = a.session.first; skip = true }; used = 0; wrote = 0 }; words = v; buffers = (buffers (a.bytes.now) (a.cells.now) (a.items.now)); out = a.out.now }) (ready_row (a.words.now) (a.words.now) (buffers (a.bytes.now) (a.cells.now) (a.items.now)) s.1 refl)
+    let b = buffers (a.bytes.now) (a.cells.now) (a.items.now) in
+    ap (λ (v : List ℕ). record { progress = record { session = record { first = a.session.first; skip = true }; used = 0; wrote = 0 }; words = v; buffers = b; out = a.out.now }) (ready_row (a.words.now) (a.words.now) b c.requires refl)
     ∙ skip_short (a.words.now) raw_bytes (held_on (machine_from (a.words.now)) a.session.first (a.bytes.now) (a.cells.now) (a.items.now)) (a.input.now) (a.out.now) c.if-out-lt-ANSWER.true
 
-pub returns-then-input-e : goal.returns-then-input-e
-returns-then-input-e c =
+pub returns-in_default : goal.returns-in_default
+returns-in_default c =
     let a = c.args in
-    let s = c.requires in
-    ap (λ (v : List ℕ). record { progress = record { number = 0; session = record { first = a.session.first; skip = true }; used = length (a.input.now); wrote = 0 }; words = v; buffers = (buffers (a.bytes.now) (a.cells.now) (a.items.now)); out = a.out.now }) (ready_row (a.words.now) (a.words.now) (buffers (a.bytes.now) (a.cells.now) (a.items.now)) s.1 refl)
-    ∙ skip_none (a.words.now) raw_bytes (held_on (machine_from (a.words.now)) a.session.first (a.bytes.now) (a.cells.now) (a.items.now)) _ (a.input.now) (a.out.now) c.if-out-lt-ANSWER.false c.find_lf-e.ensures c.if-input-e.true
+    let b = buffers (a.bytes.now) (a.cells.now) (a.items.now) in
+    ap (λ (v : List ℕ). record { progress = record { session = record { first = a.session.first; skip = true }; used = length (a.input.now); wrote = 0 }; words = v; buffers = b; out = a.out.now }) (ready_row (a.words.now) (a.words.now) b c.requires refl)
+    ∙ skip_none (a.words.now) raw_bytes (held_on (machine_from (a.words.now)) a.session.first (a.bytes.now) (a.cells.now) (a.items.now)) (a.input.now) (a.out.now) c.if-out-lt-ANSWER.false c.in_default.ensures
 
 pub returns : goal.returns
 returns c =
     let a = c.args in
-    let s = c.requires in
-    let line = row_line (a.out.now) _ (a.words.now) 0 (buffers (a.bytes.now) (a.cells.now) (a.items.now)) _ s.1 c.fuel_of-fuel.ensures c.put_answer.ensures ∙ ap (λ (x : Answer). over (a.out.now) 0 (answer_line x (machine_from (a.words.now)).fuel)) c.refused-answer.ensures in
-    skip_closed (a.words.now) (held_on (machine_from (a.words.now)) a.session.first (a.bytes.now) (a.cells.now) (a.items.now)) _ (a.input.now) (a.out.now) _ _ c.if-out-lt-ANSWER.false c.find_lf-e.ensures c.if-input-e.false line c.whole_lines-p.ensures c.close.ensures
+    let line = row_line (a.out.now) _ (a.words.now) 0 (buffers (a.bytes.now) (a.cells.now) (a.items.now)) _ c.requires c.fuel_of.ensures c.put_answer.ensures ∙ ap (λ (x : Answer). over (a.out.now) 0 (answer_line x (machine_from (a.words.now)).fuel)) c.refused.ensures in
+    skip_closed (a.words.now) (held_on (machine_from (a.words.now)) a.session.first (a.bytes.now) (a.cells.now) (a.items.now)) _ (a.input.now) (a.out.now) _ _ c.if-out-lt-ANSWER.false c.in-Some.ensures line c.whole_lines-p.ensures c.close.ensures
