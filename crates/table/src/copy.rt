@@ -61,19 +61,14 @@ fn rooms_apart(into: Table, source: Table) -> bool
     types::span::within(source.start as u64, source.room, into.start as u64)
 }
 
+#[tactic(auto, using(types::proofs::Picks::cases), unfolding(crate::specs::Copy::sound_two))]
 fn sound_two(into: Table, source: Table, len: usize) -> bool
     ensures { result ≡ sound_two into source len }
 {
-    if !into.is_sound(len) {
+    if !into.is_sound(len) || !source.is_sound(len) {
         return false;
     }
-    if !source.is_sound(len) {
-        return false;
-    }
-    if same_table(into, source) {
-        return true;
-    }
-    rooms_apart(into, source)
+    same_table(into, source) || rooms_apart(into, source)
 }
 
 impl Table {
