@@ -1,8 +1,7 @@
 -- One law for each way out of a function that decides: its premises are what the code knows there. Assumes nothing.
-use Rattle.types.proofs.Prelude.{◌≡◌, sym, ◌∙◌, Bool, true, false, ℕ, ◌≤◌, ◌<◌, leb, eqb, le-leb, lt-leb, eq-eqb, ne_eqb, not-true, not-false, pick_true}
-use Rattle.types.proofs.{Prelude.pick_false, Prelude.both_left, Prelude.both_then, Prelude.known_test, Dones.done_as}
-use mathlib.Core.Bool.{not}
-use Rattle.types.specs.Pick.{pick, both}
+use Rattle.types.proofs.Prelude.{◌≡◌, sym, ◌∙◌, Bool, true, false, ℕ, ◌≤◌, ◌<◌, leb, eqb, le-leb, lt-leb, eq-eqb, ne_eqb, pick_true}
+use Rattle.types.proofs.{Prelude.pick_false, Prelude.known_test, Dones.done_as}
+use Rattle.types.specs.Pick.{pick}
 
 module _ {A : Type 0} {x : A} (a b : A) where
   -- a call's result was tested

@@ -2,7 +2,6 @@ use Rattle.types.proofs.Prelude.{◌+◌, arith}
 use Rattle.types.specs.Span.{cut, over}
 use Rattle.table.proofs.Outcomes.{goes_both, spanned_done_lem, spanned_refused}
 use Rattle.table.specs.stages.Spans.{copy_bounds}
-use Rattle.types.specs.stages.Facts.{Two}
 use Rattle.table.proofs.copy.copy_bounds.Goals as goal
 
 pub overflow_add-there : goal.overflow_add-there

@@ -1,5 +1,5 @@
 use Rattle.types.proofs.Prelude.{◌∙◌, known_test, lt-leb, not-true, not-false}
-use Rattle.types.proofs.Held.{held_below, held_past, held_free, held_above, held_by}
+use Rattle.types.proofs.Held.{held_free, held_above, held_by}
 use Rattle.table.proofs.table.sound_cells.Goals as goal
 
 pub returns-then-not-limits : goal.returns-then-not-limits
