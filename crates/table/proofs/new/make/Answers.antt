@@ -1,4 +1,4 @@
-use Rattle.types.proofs.{Prelude.refl, Prelude.◌∙◌, Prelude.arith, Dones.done_as}
+use Rattle.types.proofs.{Prelude.refl, Prelude.◌∙◌, Dones.done_as}
 use Rattle.table.specs.stages.New.{made_by}
 use Rattle.table.proofs.{Growths.creation_room_lem, Readings.made_as}
 use Rattle.table.proofs.new.make.Goals as goal
