@@ -1,11 +1,11 @@
 -- The stages of the code are the chains of checks that the definitions say. Assumes nothing.
 use Rattle.std.specs.Prelude.{Ok, Err, Some, None, Option, Result, ⊤}
-use Rattle.types.proofs.Prelude.{◌≡◌, ap, sym, ◌∙◌, Bool, true, false, List, ℕ, ◌+◌, ◌-◌, ◌^◌, eqb, leb, ltb, length, replicate, pick_true, pick_false, arith}
+use Rattle.types.proofs.Prelude.{◌≡◌, ap, sym, ◌∙◌, Bool, true, false, List, ℕ, ◌+◌, ◌-◌, ◌^◌, eqb, leb, ltb, length, replicate, pick_true, pick_false, arith, eq-eqb, ne_eqb}
 use Rattle.types.proofs.{Picks.pick_ap, Chains.growth_chain, Chains.creation_chain}
 use Rattle.types.specs.{Pick.pick, Pick.both, Pick.unless, Done.Done, Done.done, Span.over, Answer.refusal, Answer.refuse, Answer.accept, Fuel.short, Fuel.paid}
 use Rattle.types.specs.{Limiter.says_of, Limiter.moved, Limiter.heard_of, Limiter.noticed, declared.fuel.Fuel.Fuel, declared.limiter.Limiter.Limiter}
 use Rattle.types.specs.MemoryType.{valid_exponent, valid_memory, build_memory, byte_size, minimum_bytes}
-use Rattle.types.specs.{declared.memory_ty.WantedMemory.WantedMemory, declared.memory_ty.MemoryType.MemoryType, declared.answer.Refusal.Refusal, declared.limiter.Asked.Asked, stages.Grant.grant_creation}
+use Rattle.types.specs.{declared.memory_ty.WantedMemory.WantedMemory, declared.memory_ty.MemoryType.MemoryType, declared.answer.Refusal.Refusal, declared.limiter.Asked.Asked, stages.Grant.grant_creation, declared.grant.Growth.Growth}
 use Rattle.memory.specs.Memory.{pages_of, resized, sound_memory}
 use Rattle.memory.specs.Grow.{answered, may_have, grown_size, growth_price, grow_memory}
 use Rattle.memory.specs.stages.Grow.{reach_pages, reach_of, enlarged_by, grant_of, grow_to, by_reach, grow_sound}
@@ -47,6 +47,24 @@ module _ (m : Memory) (bs : List ℕ) (n : ℕ) (f : Fuel) (l : Limiter) where
 
   pub grow_stops : {g : Done GrownMemory} → sound_memory m (length bs) ≡ false → g ≡ done (answered (refuse 19 0) m f l) bs → g ≡ grow_memory m bs n f l
   grow_stops e q = q ∙ sym (grow_staged ∙ pick_false _ _ _ e)
+
+-- by what limiter, fuel and room say of a growth to a size
+pub grown_as : (m : Memory) (bs : List ℕ) (size : ℕ) (f : Fuel) (l : Limiter) {g : Growth} {p : Result ⊤ Refusal} → g ≡ grant_of m size f l → g.permit ≡ p
+    → enlarged_by p g.fuel g.limiter m bs size ≡ grow_to m bs size f l
+unfolding grow_to
+grown_as m bs size f l {g} e q =
+    ap (λ (x : Result ⊤ Refusal). enlarged_by x g.fuel g.limiter m bs size) (sym q)
+    ∙ ap (λ (x : Growth). enlarged_by x.permit x.fuel x.limiter m bs size) e
+
+-- the ways out of a growth of a sound record
+module _ (m : Memory) (bs : List ℕ) (n : ℕ) (f : Fuel) (l : Limiter) (h : sound_memory m (length bs) ≡ true) {g : Done GrownMemory} where
+  pub grow_none : n ≡ 0 → g ≡ done (answered (accept (pages_of m)) m f l) bs → g ≡ grow_memory m bs n f l
+  unfolding grow_sound
+  grow_none e q = grow_goes m bs n f l h (q ∙ sym (pick_true _ _ _ (eq-eqb _ _ e)))
+
+  pub grow_by : {o : Option ℕ} → (n ≡ 0 → ⊥) → o ≡ reach_of m n → g ≡ by_reach o m bs f l → g ≡ grow_memory m bs n f l
+  unfolding grow_sound
+  grow_by e p q = grow_goes m bs n f l h (q ∙ ap (λ (o : Option ℕ). by_reach o m bs f l) p ∙ sym (pick_false _ _ _ (ne_eqb _ _ e)))
 
 -- by what the limiter and the room say
 pub made_as : (l : Limiter) (m : Memory) (bs : List ℕ) {a : Asked} {p : Result ⊤ Refusal} → a ≡ grant_creation l (leb m.size m.room) → a.permit ≡ p

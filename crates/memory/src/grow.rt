@@ -3,9 +3,9 @@ ghost use Rattle.std.specs.Prelude.{◌≡◌, true, ◌≤◌, length};
 ghost use Rattle.types.specs.Answer.{refuse, accept};
 ghost use Rattle.types.specs.Done.{done};
 ghost use Rattle.memory.specs.Memory.{pages_of, sound_memory};
-ghost use Rattle.memory.specs.stages.Facts.{Roomy, Held, Reaches};
+ghost use Rattle.memory.specs.stages.Facts.{Held};
 ghost use Rattle.memory.specs.Grow.{answered, may_have, grow_memory};
-ghost use Rattle.memory.specs.stages.Grow.{reach_pages, reach_of, enlarged_by, grant_of, grow_to, by_reach, grow_sound};
+ghost use Rattle.memory.specs.stages.Grow.{reach_of, grant_of, grow_to};
 
 use super::memory::Memory;
 use super::{memory, new};
@@ -37,72 +37,26 @@ fn answered_with(answer: Answer, memory: Memory, fuel: Fuel, limiter: Limiter) -
 fn refused(number: u8, memory: Memory, fuel: Fuel, limiter: Limiter) -> GrownMemory
     ensures { result ≡ answered (refuse number 0) memory fuel limiter }
 {
-    answered_with(Err(Refusal { number, amount: 0 }), memory, fuel, limiter)
+    answered_with(Err(Refusal::of(number)), memory, fuel, limiter)
 }
 
 // Whether a memory of this type may have so many pages.
 fn may_have(ty: MemoryType, pages: u64) -> bool
     ensures { result ≡ may_have ty pages }
 {
-    let page = ty.page;
-    if !memory::admits_pages(ty, pages) {
-        return false;
-    }
-    pages <= 18446744073709551615 / page.page_size()
+    memory::admits_pages(ty, pages) && pages <= u64::MAX / ty.page.page_size()
 }
 
 // The size in bytes that a growth reaches, if it may.
+#[tactic(auto, using(crate::proofs::Growths::reach_past, crate::proofs::Growths::reach_some, crate::proofs::Growths::reach_none, types::proofs::Picks::cases))]
 fn reach(memory: Memory, additional: u64) -> Option<u64>
     ensures { result ≡ reach_of memory additional }
 {
-    let ty = memory.ty;
-    let pages = memory.pages();
-    if 18446744073709551615 - pages < additional {
+    let pages = memory.pages().checked_add(additional)?;
+    if !may_have(memory.ty, pages) {
         return None;
     }
-    reach_pages(ty, pages + additional)
-}
-
-fn reach_pages(ty: MemoryType, pages: u64) -> Option<u64>
-    ensures { result ≡ reach_pages ty pages }
-{
-    let page = ty.page;
-    if may_have(ty, pages) {
-        return page.byte_size(pages);
-    }
-    None
-}
-
-// The growth is granted: the new bytes become 0.
-fn enlarge(memory: Memory, bytes: &mut [u8], size: u64, fuel: Fuel, limiter: Limiter) -> GrownMemory
-    requires { Roomy memory size (length bytes.old) }
-    ensures { done result bytes.new ≡ enlarged_by (Ok tt) fuel limiter memory bytes.old size }
-{
-    let from = memory.start + (memory.size as usize);
-    let n = (size - memory.size) as usize;
-    new::zero(bytes, from, n);
-    let before = memory.pages();
-    let mut next = memory;
-    next.size = size;
-    answered_with(Ok(Value::Number(before)), next, fuel, limiter)
-}
-
-// By what the checks say.
-fn enlarge_by(
-    permit: Result<(), Refusal>,
-    fuel: Fuel,
-    limiter: Limiter,
-    memory: Memory,
-    bytes: &mut [u8],
-    size: u64,
-) -> GrownMemory
-    requires { permit ≡ (Ok tt) → Roomy memory size (length bytes.old) }
-    ensures { done result bytes.new ≡ enlarged_by permit fuel limiter memory bytes.old size }
-{
-    match permit {
-        Err(refusal) => { answered_with(Err(refusal), memory, fuel, limiter) }
-        Ok(()) => enlarge(memory, bytes, size, fuel, limiter),
-    }
+    memory.ty.page.byte_size(pages)
 }
 
 // The limiter's question, the fuel step and the room.
@@ -110,76 +64,30 @@ fn grant(memory: Memory, size: u64, fuel: Fuel, limiter: Limiter) -> Growth
     requires { memory.size ≤ size }
     ensures { result ≡ grant_of memory size fuel limiter }
 {
-    let costs = fuel.costs;
-    let price = costs.fuel_for_copying_bytes(size - memory.size);
-    let fits = size <= memory.room;
-    types::grant::grant_growth(limiter, fuel, true, price, fits)
+    let price = fuel.costs.fuel_for_copying_bytes(size - memory.size);
+    types::grant::grant_growth(limiter, fuel, true, price, size <= memory.room)
 }
 
+// The growth to a size: what is granted becomes 0.
 fn grow_to(memory: Memory, bytes: &mut [u8], size: u64, fuel: Fuel, limiter: Limiter) -> GrownMemory
     requires { Held memory size (length bytes.old) }
     ensures { done result bytes.new ≡ grow_to memory bytes.old size fuel limiter }
 {
     let growth = grant(memory, size, fuel, limiter);
-    let permit = growth.permit;
-    let paid = growth.fuel;
-    let left = growth.limiter;
-    enlarge_by(permit, paid, left, memory, bytes, size)
-}
-
-// By how far the growth reaches.
-fn by_reach(
-    to: Option<u64>,
-    memory: Memory,
-    bytes: &mut [u8],
-    fuel: Fuel,
-    limiter: Limiter,
-) -> GrownMemory
-    requires { Reaches to memory (length bytes.old) }
-    ensures { done result bytes.new ≡ by_reach to memory bytes.old fuel limiter }
-{
-    match to {
-        None => refused(6, memory, fuel, limiter),
-        Some(size) => grow_to(memory, bytes, size, fuel, limiter),
+    match growth.permit {
+        Err(refusal) => { answered_with(Err(refusal), memory, growth.fuel, growth.limiter) }
+        Ok(()) => {
+            let from = memory.start + (memory.size as usize);
+            new::zero(bytes, from, (size - memory.size) as usize);
+            let answer = Ok(Value::Number(memory.pages()));
+            answered_with(
+                answer,
+                Memory { size, ..memory },
+                growth.fuel,
+                growth.limiter,
+            )
+        }
     }
-}
-
-fn grow_some(
-    memory: Memory,
-    bytes: &mut [u8],
-    additional: u64,
-    fuel: Fuel,
-    limiter: Limiter,
-) -> GrownMemory
-    requires { sound_memory memory (length bytes.old) ≡ true }
-    ensures { done result bytes.new ≡ by_reach (reach_of memory additional) memory bytes.old fuel limiter }
-{
-    let to = reach(memory, additional);
-    by_reach(to, memory, bytes, fuel, limiter)
-}
-
-// Growth by 0 answers the size.
-fn grow_none(memory: Memory, fuel: Fuel, limiter: Limiter) -> GrownMemory
-    ensures { result ≡ answered (accept (pages_of memory)) memory fuel limiter }
-{
-    let pages = memory.pages();
-    answered_with(Ok(Value::Number(pages)), memory, fuel, limiter)
-}
-
-fn grow_sound(
-    memory: Memory,
-    bytes: &mut [u8],
-    additional: u64,
-    fuel: Fuel,
-    limiter: Limiter,
-) -> GrownMemory
-    requires { sound_memory memory (length bytes.old) ≡ true }
-    ensures { done result bytes.new ≡ grow_sound memory bytes.old additional fuel limiter }
-{
-    if additional == 0 {
-        return grow_none(memory, fuel, limiter);
-    }
-    grow_some(memory, bytes, additional, fuel, limiter)
 }
 
 impl Memory {
@@ -193,10 +101,15 @@ impl Memory {
     ) -> GrownMemory
         ensures { done result bytes.new ≡ grow_memory self bytes.old additional fuel limiter }
     {
-        let len = bytes.len();
-        if self.is_sound(len) {
-            return grow_sound(self, bytes, additional, fuel, limiter);
+        if !self.is_sound(bytes.len()) {
+            return refused(19, self, fuel, limiter);
         }
-        refused(19, self, fuel, limiter)
+        if additional == 0 {
+            return answered_with(Ok(Value::Number(self.pages())), self, fuel, limiter);
+        }
+        let Some(size) = reach(self, additional) else {
+            return refused(6, self, fuel, limiter);
+        };
+        grow_to(self, bytes, size, fuel, limiter)
     }
 }

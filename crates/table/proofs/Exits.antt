@@ -1,8 +1,7 @@
 -- One law for each way out of a function that decides: its premises are what the code knows there. Assumes nothing.
-use Rattle.types.proofs.Prelude.{◌≡◌, sym, ◌∙◌, Bool, true, false, ℕ, ◌≤◌, ◌<◌, leb, eqb, le-leb, lt-leb, eq-eqb, ne_eqb, not-true, not-false, pick_true}
-use Rattle.types.proofs.{Prelude.pick_false, Prelude.both_left, Prelude.both_then, Prelude.known_test, Dones.done_as}
-use mathlib.Core.Bool.{not}
-use Rattle.types.specs.Pick.{pick, both}
+use Rattle.types.proofs.Prelude.{◌≡◌, sym, ◌∙◌, Bool, true, false, ℕ, ◌≤◌, ◌<◌, leb, eqb, le-leb, lt-leb, eq-eqb, ne_eqb, pick_true}
+use Rattle.types.proofs.{Prelude.pick_false, Prelude.known_test, Dones.done_as}
+use Rattle.types.specs.Pick.{pick}
 
 module _ {A : Type 0} {x : A} (a b : A) where
   -- a call's result was tested
@@ -11,12 +10,6 @@ module _ {A : Type 0} {x : A} (a b : A) where
 
   pub left_by : {r t : Bool} → r ≡ t → r ≡ false → x ≡ b → x ≡ pick t a b
   left_by p q e = e ∙ sym (pick_false _ _ _ (known_test p q))
-
-  pub taken_not : {r t : Bool} → r ≡ t → not r ≡ true → x ≡ b → x ≡ pick t a b
-  taken_not p q e = left_by p (not-true _ q) e
-
-  pub left_not : {r t : Bool} → r ≡ t → not r ≡ false → x ≡ a → x ≡ pick t a b
-  left_not p q e = taken_by p (not-false _ q) e
 
   -- two numbers were compared
   pub taken_le : (n m : ℕ) → n ≤ m → x ≡ a → x ≡ pick (leb n m) a b
@@ -31,12 +24,4 @@ module _ {A : Type 0} {x : A} (a b : A) where
   pub left_eq : (n m : ℕ) → (n ≡ m → ⊥) → x ≡ b → x ≡ pick (eqb n m) a b
   left_eq n m h e = e ∙ sym (pick_false _ _ _ (ne_eqb _ _ h))
 
--- the first of several tests failed, or held and the others decide
-module _ (u : Bool) where
-  pub first_fails : {r t : Bool} → r ≡ t → not r ≡ true → false ≡ both t u
-  first_fails p q = sym (both_left _ _ (known_test p (not-true _ q)))
-
-  pub first_holds : {x r t : Bool} → r ≡ t → not r ≡ false → x ≡ u → x ≡ both t u
-  first_holds p q e = e ∙ sym (both_then _ _ (known_test p (not-false _ q)))
-
-pub ruleset exits = (taken_by, left_by, taken_not, left_not, taken_le, left_le, taken_eq, left_eq, first_fails, first_holds, done_as)
+pub ruleset exits = (taken_by, left_by, taken_le, left_le, taken_eq, left_eq, done_as)

@@ -1,11 +1,12 @@
 -- What a granted creation or growth shows of the room, and the sizes that no index type reaches. Assumes nothing.
-use Rattle.std.specs.Prelude.{Ok}
+use Rattle.std.specs.Prelude.{Ok, Result, List, ⊤}
+use Rattle.types.specs.declared.answer.Refusal.{Refusal}
 use Rattle.types.proofs.Prelude.{◌≡◌, sym, ap, ◌∙◌, ℕ, ◌+◌, ◌-◌, ◌^◌, ◌≤◌, ◌<◌, arith, leb-true, le-ltb, leb, ltb, pick_false}
 use Rattle.types.proofs.Grants.{granted_creation, granted_growth}
 use Rattle.types.specs.{Pick.pick, IndexType.max_size, stages.Grant.grant_creation, declared.fuel.Fuel.Fuel, declared.grant.Growth.Growth}
 use Rattle.types.specs.{declared.index_ty.IndexType.IndexType, declared.index_ty.IndexType.TheVariants.I32, declared.index_ty.IndexType.TheVariants.I64}
 use Rattle.types.specs.{declared.limiter.Asked.Asked, declared.limiter.Limiter.Limiter}
-use Rattle.table.specs.{stages.Facts.Roomed, stages.Facts.Roomy, stages.Grow.grant_of, declared.table.Table.Table}
+use Rattle.table.specs.{stages.Facts.Roomed, stages.Facts.Roomy, stages.Grow.grant_of, stages.Grow.enlarged_by, stages.Grow.grow_to, declared.table.Table.Table}
 
 -- the cells of a creation that is granted lie in the buffer
 pub creation_room_lem : (l : Limiter) (start min room len : ℕ) {a : Asked} → start + room ≤ len → a ≡ grant_creation l (leb min room) → a.permit ≡ (Ok tt)
@@ -32,3 +33,11 @@ past_largest I64 a n h = omega arith
 
 pub grows_past : {A : Type 0} {x : A} (a b : A) (i : IndexType) (size n : ℕ) → 2 ^ 64 - 1 - size < n → x ≡ b → x ≡ pick (ltb (size + n) (max_size i)) a b
 grows_past a b i size n h e = e ∙ sym (pick_false _ _ _ (le-ltb _ _ (past_largest i size n h)))
+
+-- by what limiter, fuel and room say of a growth to a size
+pub grown_as : (r : ℕ) (t : Table) (cs : List ℕ) (size bits : ℕ) (f : Fuel) (l : Limiter) {g : Growth} {p : Result ⊤ Refusal} → g ≡ grant_of r t size f l → g.permit ≡ p
+    → enlarged_by p g.fuel g.limiter t cs size bits ≡ grow_to r t cs size bits f l
+unfolding grow_to
+grown_as r t cs size bits f l {g} e q =
+    ap (λ (x : Result ⊤ Refusal). enlarged_by x g.fuel g.limiter t cs size bits) (sym q)
+    ∙ ap (λ (x : Growth). enlarged_by x.permit x.fuel x.limiter t cs size bits) e

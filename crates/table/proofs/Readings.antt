@@ -1,6 +1,7 @@
 -- The stages of the code are the chains of checks that the definitions say. Assumes nothing.
-use Rattle.std.specs.Prelude.{Ok, Err}
-use Rattle.types.proofs.Prelude.{◌≡◌, ap, sym, ◌∙◌, List, ℕ, ◌+◌, ◌-◌, ◌*◌, eqb, leb, ltb, length, replicate}
+use Rattle.std.specs.Prelude.{Ok, Err, Result, ⊤}
+use Rattle.types.specs.{declared.table_ty.TableType.TableType, declared.answer.Refusal.Refusal, declared.limiter.Asked.Asked, stages.Grant.grant_creation}
+use Rattle.types.proofs.Prelude.{◌≡◌, refl, ap, sym, ◌∙◌, arith, Bool, true, false, List, ℕ, ◌+◌, ◌-◌, ◌*◌, eqb, leb, ltb, length, replicate}
 use Rattle.types.proofs.{Picks.pick_ap, Chains.growth_chain, Chains.creation_chain, Chains.charge_chain, Chains.span_chain}
 use native.Mathlib.Nat.{add-sub_cancel_left}
 use Rattle.types.specs.{Pick.pick, Pick.both, Pick.unless, Span.inside, Span.cut, Span.over, Answer.refusal, Answer.refuse, Answer.accept, Price.price}
@@ -10,7 +11,7 @@ use Rattle.types.specs.{TableType.valid_table, TableType.validated, TableType.bu
 use Rattle.types.specs.{declared.span.CopySpan.CopySpan, declared.span.FillSpan.FillSpan, declared.table_ty.WantedTable.WantedTable}
 use Rattle.table.specs.{Table.resized, Table.sound_buffer, Table.sound_table, Element.sound_segment, Grow.answered, Grow.cells_price, Grow.grow_table}
 use Rattle.table.specs.{Fill.fill_table, Copy.sound_two, Copy.copy_table, Init.init_table}
-use Rattle.table.specs.stages.New.{made_by, made_of, by_kind, by_type}
+use Rattle.table.specs.stages.New.{made_by, made_of, by_kind, by_type, planned}
 use Rattle.table.specs.stages.Grow.{enlarged_by, grant_of, grow_to, grow_some, grow_sound}
 use Rattle.table.specs.stages.Spans.{fill_kind, fill_sound, copy_bounds, copy_kinds, init_some, init_bounds, init_kinds}
 use Rattle.table.specs.{declared.table.Table.Table, declared.element.ElementSegment.ElementSegment}
@@ -75,6 +76,55 @@ module _ (w : WantedTable) (init : TypedRawRef) (start room : ℕ) (cs : List �
   unfolding new.new_table
   new_reads =
       ap (λ (c : Done CreatedTable). unless (sound_buffer start room (length cs)) (done (new.refused l (refusal 19 0)) cs) c) (sym type_chain)
+
+-- by what the limiter and the room say
+pub made_as : (l : Limiter) (t : Table) (bits : ℕ) (cs : List ℕ) {a : Asked} {p : Result ⊤ Refusal} → a ≡ grant_creation l (leb t.size t.room) → a.permit ≡ p
+    → made_by p a.limiter t bits cs ≡ made_of l t bits cs
+unfolding made_of
+made_as l t bits cs {a} e q =
+    ap (λ (x : Result ⊤ Refusal). made_by x a.limiter t bits cs) (sym q) ∙ ap (λ (x : Asked). made_by x.permit x.limiter t bits cs) e
+
+-- by what the plan is: a creation of a type
+pub plan_missed : (b : Result TableType Refusal) (init : TypedRawRef) (start room : ℕ) {r : Refusal} → b ≡ Err r → Err r ≡ planned b init start room
+unfolding planned
+plan_missed b init start room e = sym (ap (λ (x : Result TableType Refusal). planned x init start room) e)
+
+pub plan_by : (b : Result TableType Refusal) (init : TypedRawRef) (start room : ℕ) {t : TableType} {x : Result Table Refusal} → b ≡ Ok t
+    → x ≡ pick (element_matches t init.ty) (Ok (new.table_of t start room t.limits.minimum)) (Err (refusal 14 0)) → x ≡ planned b init start room
+unfolding planned
+plan_by b init start room e q = q ∙ sym (ap (λ (x : Result TableType Refusal). planned x init start room) e)
+
+-- what is made by a plan
+unfoldable plan_made : Result Table Refusal → ℕ → List ℕ → Limiter → Done CreatedTable
+plan_made (Err r) bits cs l = done (new.refused l r) cs
+plan_made (Ok t) bits cs l = made_of l t bits cs
+
+plan_is : (b : Result TableType Refusal) (init : TypedRawRef) (start room : ℕ) (cs : List ℕ) (l : Limiter)
+    → plan_made (planned b init start room) init.raw.bits cs l ≡ by_type b l start room init cs
+unfolding planned by_type by_kind plan_made
+plan_is (Err r) init start room cs l = refl
+plan_is (Ok t) init start room cs l = pick_ap (λ p. plan_made p init.raw.bits cs l) (element_matches t init.ty) (Ok (new.table_of t start room t.limits.minimum)) (Err (refusal 14 0))
+
+module _ (b : Result TableType Refusal) (init : TypedRawRef) (start room : ℕ) (cs : List ℕ) (l : Limiter) where
+  pub plan_stops : {r : Refusal} → planned b init start room ≡ Err r → done (new.refused l r) cs ≡ by_type b l start room init cs
+  unfolding plan_made
+  plan_stops e = sym (ap (λ (p : Result Table Refusal). plan_made p init.raw.bits cs l) e) ∙ plan_is b init start room cs l
+
+  pub plan_goes : {t : Table} → planned b init start room ≡ Ok t → made_of l t init.raw.bits cs ≡ by_type b l start room init cs
+  unfolding plan_made
+  plan_goes e = sym (ap (λ (p : Result Table Refusal). plan_made p init.raw.bits cs l) e) ∙ plan_is b init start room cs l
+
+-- a table that is planned stands where it is wanted
+pub plan_place : (b : Result TableType Refusal) (init : TypedRawRef) (start room : ℕ) {t : Table} → planned b init start room ≡ Ok t → (t.start ≡ start) × (t.room ≡ room)
+unfolding planned pick
+plan_place (Err s) init start room e = let z : ◌≡◌ {A = ℕ} 0 1 = cc in absurd (omega arith)
+plan_place (Ok k) init start room {t} e = go (element_matches k init.ty) e
+  where
+    go : (u : Bool) → pick u (Ok (new.table_of k start room k.limits.minimum)) (Err (refusal 14 0)) ≡ Ok t → (t.start ≡ start) × (t.room ≡ room)
+    go true q =
+        let h : t ≡ new.table_of k start room k.limits.minimum = cc in
+        (ap (λ (x : Table). x.start) h, ap (λ (x : Table). x.room) h)
+    go false q = let z : ◌≡◌ {A = ℕ} 0 1 = cc in absurd (omega arith)
 
 pub fill_reads : (r : ℕ) (t : Table) (cs : List ℕ) (span : FillSpan) (v : TypedRawRef) (f : Fuel)
     → fill_table r t cs span v f ≡ pick (sound_table t (length cs)) (fill_sound r t cs span v f) (span_done (refuse 19 0) f cs)

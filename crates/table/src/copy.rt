@@ -1,34 +1,27 @@
 // Copying cells between two tables, which may be one, in the order of checks of document 01.
-ghost use Rattle.std.specs.Prelude.{◌≡◌, ◌+◌, length};
-ghost use Rattle.types.specs.Span.{over, cut};
+ghost use Rattle.std.specs.Prelude.{◌≡◌, length};
 ghost use Rattle.types.specs.Done.{done};
-ghost use Rattle.types.specs.stages.Grant.{spanned};
 ghost use Rattle.types.specs.Raw.{raw_bytes};
-ghost use Rattle.table.specs.stages.Facts.{Goes, Within};
+ghost use Rattle.table.specs.stages.Facts.{Within};
 ghost use Rattle.table.specs.Copy.{same_table, rooms_apart, sound_two, copy_table};
-ghost use Rattle.table.specs.stages.Spans.{copy_bounds, copy_kinds};
+ghost use Rattle.table.specs.stages.Spans.{copy_bounds};
 
 use super::table::Table;
 use super::{cells, table};
-use types::answer::{Answer, Refusal, Value};
+use types::answer::Value;
 use types::fuel::Fuel;
 use types::grant::Spanned;
 use types::raw::RawRef;
 use types::span::CopySpan;
 
-// By what bounds and fuel say.
-fn copy_by(
-    step: Result<Fuel, Refusal>,
-    fuel: Fuel,
-    into: Table,
-    source: Table,
-    cells: &mut [u64],
-    span: CopySpan,
-) -> Spanned
-    requires { Goes step (into.start + (span.to + span.len)) (length cells.old) × Goes step (source.start + (span.from + span.len)) (length cells.old) }
-    ensures { done result cells.new ≡ spanned step fuel cells.old (over cells.old (into.start + span.to) (cut cells.old (source.start + span.from) span.len)) }
+// Bounds 12 in both tables, then the fuel step.
+fn copy_bounds(into: Table, source: Table, cells: &mut [u64], span: CopySpan, fuel: Fuel) -> Spanned
+    requires { Within into (length cells.old) × Within source (length cells.old) }
+    ensures { done result cells.new ≡ copy_bounds raw_bytes into source cells.old span fuel }
 {
-    match step {
+    let ok = table::both_within(span.to, into.size, span.from, source.size, span.len);
+    let price = fuel.costs.fuel_for_copying_values(span.len, RawRef::size());
+    match types::grant::grant_span(fuel, ok, 12, price) {
         Err(refusal) => Spanned {
             answer: Err(refusal),
             fuel,
@@ -43,17 +36,6 @@ fn copy_by(
             }
         }
     }
-}
-
-fn copy_bounds(into: Table, source: Table, cells: &mut [u64], span: CopySpan, fuel: Fuel) -> Spanned
-    requires { Within into (length cells.old) × Within source (length cells.old) }
-    ensures { done result cells.new ≡ copy_bounds raw_bytes into source cells.old span fuel }
-{
-    let costs = fuel.costs;
-    let ok = table::both_within(span.to, into.size, span.from, source.size, span.len);
-    let price = costs.fuel_for_copying_values(span.len, RawRef::size());
-    let step = types::grant::grant_span(fuel, ok, 12, price);
-    copy_by(step, fuel, into, source, cells, span)
 }
 
 // Whether two records are of one table.
@@ -79,32 +61,14 @@ fn rooms_apart(into: Table, source: Table) -> bool
     types::span::within(source.start as u64, source.room, into.start as u64)
 }
 
+#[tactic(auto, using(types::proofs::Picks::cases), unfolding(crate::specs::Copy::sound_two))]
 fn sound_two(into: Table, source: Table, len: usize) -> bool
     ensures { result ≡ sound_two into source len }
 {
-    if !into.is_sound(len) {
+    if !into.is_sound(len) || !source.is_sound(len) {
         return false;
     }
-    if !source.is_sound(len) {
-        return false;
-    }
-    if same_table(into, source) {
-        return true;
-    }
-    rooms_apart(into, source)
-}
-
-fn copy_kinds(into: Table, source: Table, cells: &mut [u64], span: CopySpan, fuel: Fuel) -> Spanned
-    requires { Within into (length cells.old) × Within source (length cells.old) }
-    ensures { done result cells.new ≡ copy_kinds raw_bytes into source cells.old span fuel }
-{
-    let ty = into.ty;
-    let other = source.ty;
-    let kind = other.element;
-    if ty.element_matches(kind) {
-        return copy_bounds(into, source, cells, span, fuel);
-    }
-    table::not_spanned(14, fuel)
+    same_table(into, source) || rooms_apart(into, source)
 }
 
 impl Table {
@@ -113,10 +77,12 @@ impl Table {
     pub fn copy(self, source: Table, cells: &mut [u64], span: CopySpan, fuel: Fuel) -> Spanned
         ensures { done result cells.new ≡ copy_table raw_bytes self source cells.old span fuel }
     {
-        let len = cells.len();
-        if sound_two(self, source, len) {
-            return copy_kinds(self, source, cells, span, fuel);
+        if !sound_two(self, source, cells.len()) {
+            return table::not_spanned(19, fuel);
         }
-        table::not_spanned(19, fuel)
+        if !self.ty.element_matches(source.ty.element) {
+            return table::not_spanned(14, fuel);
+        }
+        copy_bounds(self, source, cells, span, fuel)
     }
 }

@@ -28,10 +28,7 @@ impl ElementSegment {
     {
         let n = given.len();
         if !table::sound_buffer(start, n as u64, items.len()) {
-            return Err(Refusal {
-                number: 19,
-                amount: 0,
-            });
+            return Err(Refusal::of(19));
         }
         cells::init_cells(items, start, given, 0, n);
         Ok(ElementSegment {
@@ -43,13 +40,11 @@ impl ElementSegment {
     }
 
     // Whether the record is sound over a buffer of `len` items.
+    #[tactic(auto, using(types::proofs::Picks::cases), unfolding(crate::specs::Element::sound_segment))]
     pub fn is_sound(self, len: usize) -> bool
         ensures { result ≡ sound_segment self len }
     {
-        if !table::sound_buffer(self.start, self.places, len) {
-            return false;
-        }
-        self.size <= self.places
+        table::sound_buffer(self.start, self.places, len) && self.size <= self.places
     }
 
     // An item: 9 outside.
@@ -72,8 +67,6 @@ impl ElementSegment {
     pub fn drop_items(self) -> ElementSegment
         ensures { result ≡ dropped self }
     {
-        let mut next = self;
-        next.size = 0;
-        next
+        ElementSegment { size: 0, ..self }
     }
 }

@@ -1,39 +1,37 @@
 // Writing a segment's items into a table, in the order of checks of document 01.
 ghost use Rattle.std.specs.Prelude.{◌≡◌, ◌+◌, ◌≤◌, length};
 ghost use Rattle.types.specs.Pick.{both};
-ghost use Rattle.types.specs.Span.{over, cut};
 ghost use Rattle.types.specs.Done.{done};
-ghost use Rattle.types.specs.stages.Grant.{spanned};
 ghost use Rattle.types.specs.Raw.{raw_bytes};
 ghost use Rattle.table.specs.stages.Facts.{Within, Places};
 ghost use Rattle.table.specs.Table.{sound_table};
 ghost use Rattle.table.specs.Element.{sound_segment};
 ghost use Rattle.table.specs.Init.{init_table};
-ghost use Rattle.table.specs.stages.Spans.{init_some, init_bounds, init_kinds};
+ghost use Rattle.table.specs.stages.Spans.{init_some, init_bounds};
 
 use super::element::ElementSegment;
 use super::table::Table;
 use super::{cells, table};
-use types::answer::{Answer, Refusal, Value};
+use types::answer::Value;
 use types::fuel::Fuel;
 use types::grant::Spanned;
 use types::raw::RawRef;
 use types::span::CopySpan;
 
-// By what the fuel step says.
-fn init_by(
-    step: Result<Fuel, Refusal>,
-    fuel: Fuel,
+// The fuel step of a length above 0.
+fn init_some(
     table: Table,
     segment: ElementSegment,
     cells: &mut [u64],
     items: &[u64],
     span: CopySpan,
+    fuel: Fuel,
 ) -> Spanned
     requires { (table.start + (span.to + span.len) ≤ length cells.old) × (segment.start + (span.from + span.len) ≤ length items.now) }
-    ensures { done result cells.new ≡ spanned step fuel cells.old (over cells.old (table.start + span.to) (cut items.now (segment.start + span.from) span.len)) }
+    ensures { done result cells.new ≡ init_some raw_bytes table segment cells.old items.now span fuel }
 {
-    match step {
+    let price = fuel.costs.fuel_for_copying_values(span.len, RawRef::size());
+    match fuel.consume_fuel_if(price) {
         Err(refusal) => Spanned {
             answer: Err(refusal),
             fuel,
@@ -48,23 +46,6 @@ fn init_by(
             }
         }
     }
-}
-
-fn init_some(
-    table: Table,
-    segment: ElementSegment,
-    cells: &mut [u64],
-    items: &[u64],
-    span: CopySpan,
-    fuel: Fuel,
-) -> Spanned
-    requires { (table.start + (span.to + span.len) ≤ length cells.old) × (segment.start + (span.from + span.len) ≤ length items.now) }
-    ensures { done result cells.new ≡ init_some raw_bytes table segment cells.old items.now span fuel }
-{
-    let costs = fuel.costs;
-    let price = costs.fuel_for_copying_values(span.len, RawRef::size());
-    let step = fuel.consume_fuel_if(price);
-    init_by(step, fuel, table, segment, cells, items, span)
 }
 
 fn init_bounds(
@@ -90,35 +71,6 @@ fn init_bounds(
     init_some(table, segment, cells, items, span, fuel)
 }
 
-fn init_kinds(
-    table: Table,
-    segment: ElementSegment,
-    cells: &mut [u64],
-    items: &[u64],
-    span: CopySpan,
-    fuel: Fuel,
-) -> Spanned
-    requires { Within table (length cells.old) × Places segment (length items.now) }
-    ensures { done result cells.new ≡ init_kinds raw_bytes table segment cells.old items.now span fuel }
-{
-    let ty = table.ty;
-    let kind = segment.ty;
-    if ty.element_matches(kind) {
-        return init_bounds(table, segment, cells, items, span, fuel);
-    }
-    table::not_spanned(14, fuel)
-}
-
-// Whether table and segment are both sound, each over its buffer.
-fn sound_pair(table: Table, segment: ElementSegment, len: usize, count: usize) -> bool
-    ensures { result ≡ both (sound_table table len) (sound_segment segment count) }
-{
-    if !table.is_sound(len) {
-        return false;
-    }
-    segment.is_sound(count)
-}
-
 impl Table {
     // Items of a segment go to cells of the table: 14, 13 outside, length 0 is free, 7; 19 where a record is unsound.
     pub fn init(
@@ -131,11 +83,20 @@ impl Table {
     ) -> Spanned
         ensures { done result cells.new ≡ init_table raw_bytes self segment cells.old items.now span fuel }
     {
-        let len = cells.len();
-        let count = items.len();
-        if sound_pair(self, segment, len, count) {
-            return init_kinds(self, segment, cells, items, span, fuel);
+        if !sound_pair(self, segment, cells.len(), items.len()) {
+            return table::not_spanned(19, fuel);
         }
-        table::not_spanned(19, fuel)
+        if !self.ty.element_matches(segment.ty) {
+            return table::not_spanned(14, fuel);
+        }
+        init_bounds(self, segment, cells, items, span, fuel)
     }
+}
+
+// Whether table and segment are both sound, each over its buffer.
+#[tactic(auto, using(types::proofs::Picks::cases))]
+fn sound_pair(table: Table, segment: ElementSegment, len: usize, count: usize) -> bool
+    ensures { result ≡ both (sound_table table len) (sound_segment segment count) }
+{
+    table.is_sound(len) && segment.is_sound(count)
 }

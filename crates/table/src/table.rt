@@ -1,4 +1,6 @@
 // A table's record: size, soundness, get and set.
+#![tactic(auto, using(types::proofs::Picks::cases), unfolding(crate::specs::Table::sound_buffer, crate::specs::Table::sound_table))]
+
 ghost use Rattle.std.specs.Prelude.{◌≡◌, leb, length};
 ghost use Rattle.types.specs.Answer.{refuse};
 ghost use Rattle.types.specs.Done.{done, span_of};
@@ -29,7 +31,7 @@ pub struct Table {
 pub(crate) fn refused(number: u8) -> Answer
     ensures { result ≡ refuse number 0 }
 {
-    Err(Refusal { number, amount: 0 })
+    Err(Refusal::of(number))
 }
 
 // A span operation that is refused: fuel and cells stay.
@@ -46,20 +48,14 @@ pub(crate) fn not_spanned(number: u8, fuel: Fuel) -> Spanned
 pub(crate) fn sound_buffer(start: usize, places: u64, len: usize) -> bool
     ensures { result ≡ sound_buffer start places len }
 {
-    if WORD32 < (len as u64) {
-        return false;
-    }
-    types::span::within(start as u64, places, len as u64)
+    len as u64 <= WORD32 && types::span::within(start as u64, places, len as u64)
 }
 
 // Whether `n` cells lie within sizes `a` from `i` on and `b` from `j` on.
 pub(crate) fn both_within(i: u64, a: u64, j: u64, b: u64, n: u64) -> bool
     ensures { result ≡ both (inside i n a) (inside j n b) }
 {
-    if types::span::within(i, n, a) {
-        return types::span::within(j, n, b);
-    }
-    false
+    types::span::within(i, n, a) && types::span::within(j, n, b)
 }
 
 // Whether a table of this type may have so many cells by its index type.
@@ -75,19 +71,13 @@ fn sound_cells(ty: TableType, size: u64) -> bool
     ensures { result ≡ held ty.limits (table_bound ty) size }
 {
     let limits = ty.limits;
-    if size < limits.minimum {
-        return false;
-    }
-    if !within_bound(ty, size) {
+    if size < limits.minimum || !within_bound(ty, size) {
         return false;
     }
     if !limits.bounded {
         return true;
     }
-    if limits.maximum < size {
-        return false;
-    }
-    within_bound(ty, limits.maximum)
+    size <= limits.maximum && within_bound(ty, limits.maximum)
 }
 
 impl Table {
@@ -105,10 +95,7 @@ impl Table {
     pub fn is_sound(self, len: usize) -> bool
         ensures { result ≡ sound_table self len }
     {
-        if sound_buffer(self.start, self.room, len) {
-            return self.sound_size();
-        }
-        false
+        sound_buffer(self.start, self.room, len) && self.sound_size()
     }
 
     // The reference at an index: 9 outside.

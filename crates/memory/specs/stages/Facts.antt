@@ -1,5 +1,5 @@
 -- What the inner functions of this crate ask of each other, as records of plain facts; no public function asks any.
-use Rattle.std.specs.Prelude.{ℕ, ◌+◌, ◌*◌, ◌^◌, ◌≤◌, ◌<◌, ◌≡◌, List, Some, Option}
+use Rattle.std.specs.Prelude.{ℕ, ◌+◌, ◌*◌, ◌^◌, ◌≤◌, ◌<◌, ◌≡◌, List}
 use Rattle.types.specs.Span.{cut}
 use Rattle.memory.specs.LittleEndian.{le_value}
 use Rattle.memory.specs.declared.memory.Memory.{Memory}
@@ -23,7 +23,3 @@ pub record Roomy (m : Memory) (size len : ℕ) : Type 0 where
 pub record Held (m : Memory) (size len : ℕ) : Type 0 where
   pub more : m.size ≤ size
   pub inside : m.start + m.room ≤ len
-
--- what is reached is held
-abbrev pub Reaches : Option ℕ → Memory → ℕ → Type 0
-Reaches to m len = (size : ℕ) → to ≡ Some size → Held m size len

@@ -35,3 +35,8 @@ by_kind l t start room init cs =
 unfoldable pub by_type : Result TableType Refusal → Limiter → ℕ → ℕ → TypedRawRef → List ℕ → Done CreatedTable
 by_type (Err r) l start room init cs = done (refused l r) cs
 by_type (Ok t) l start room init cs = by_kind l t start room init cs
+
+-- the table that is made of a type: 1 where there is none, 14 where the initial reference is of another kind
+unfoldable pub planned : Result TableType Refusal → TypedRawRef → ℕ → ℕ → Result Table Refusal
+planned (Err r) init start room = Err r
+planned (Ok t) init start room = pick (element_matches t init.ty) (Ok (table_of t start room t.limits.minimum)) (Err (refusal 14 0))
