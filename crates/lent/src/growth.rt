@@ -2,13 +2,12 @@
 #![tactic(auto, using(types::proofs::Picks::cases), unfolding(crate::specs::Growth::grow_at))]
 
 ghost use Rattle.std.specs.Prelude.{◌≡◌, ◌<◌, ℕ, Bool, true, List, ltb, length, get_or, set};
-ghost use Rattle.types.specs.Answer.{refusal};
 ghost use Rattle.types.specs.declared.fuel.Fuel.{Fuel};
 ghost use Rattle.types.specs.declared.limiter.Limiter.{Limiter};
 ghost use Rattle.lent.specs.Growth.{lending, grew, grow_at};
 ghost use Rattle.lent.specs.stages.Growth.{Regrown, regrown, put_back};
 
-use types::answer::{Answer, Refusal};
+use types::answer::{Answer, Reason, Refusal};
 use types::fuel::Fuel;
 use types::limiter::Limiter;
 
@@ -58,16 +57,10 @@ pub(crate) fn grow<T: Grows>(
         (put_back list.old i (T.grown (get_or list.old i T.none) cells.old by fuel.old limiter.old)) }
 {
     if !T::is_sound(count, list, cells.len()) {
-        return Err(refusal(19));
+        return Err(Refusal::from(Reason::Unsound));
     }
     if count <= i {
-        return Err(refusal(16));
+        return Err(Refusal::from(Reason::NumberUnknown));
     }
     list[i].regrow(cells, by, fuel, limiter)
-}
-
-fn refusal(number: u8) -> Refusal
-    ensures { result ≡ refusal number 0 }
-{
-    Refusal { number, amount: 0 }
 }

@@ -16,7 +16,7 @@ use super::answer_line::ANSWER;
 use super::code::Read;
 use super::{answer_line, code, line};
 use machine::row;
-use types::answer::{Answer, Refusal, Value};
+use types::answer::{Answer, Reason, Refusal, Value};
 use types::fuel::FuelCosts;
 
 // A line of more bytes is malformed, whatever it holds.
@@ -53,10 +53,7 @@ impl Session {
 fn refused() -> Answer
     ensures { result ≡ refuse 18 0 }
 {
-    Err(Refusal {
-        number: 18,
-        amount: 0,
-    })
+    Err(Refusal::from(Reason::Malformed))
 }
 
 // The machine that 00 makes, in place.
@@ -243,10 +240,7 @@ pub fn piece(
         ≡ piece_in session words.old (buffers bytes.old cells.old items.old) input.now out.old }
 {
     if !row::is_ready(words, bytes.len(), cells.len(), items.len()) {
-        return Err(Refusal {
-            number: 19,
-            amount: 0,
-        });
+        return Err(Refusal::from(Reason::Unsound));
     }
     if session.skip {
         return Ok(skip_on(session, words, bytes, cells, items, input, out));

@@ -13,7 +13,7 @@ use super::records::finds_room;
 use super::{outcome, row, words};
 use memory::grow::GrownMemory;
 use memory::memory::Memory;
-use types::answer::{Answer, Value};
+use types::answer::{Answer, Reason, Value};
 use types::fuel::Fuel;
 use types::limiter::Limiter;
 use types::memory_ty::{MemoryType, WantedMemory};
@@ -68,7 +68,7 @@ pub(crate) fn on_memory(words: &[u64], bytes: &mut [u8], number: u64, op: Memory
     let counts = words::counts_from(words);
     let i = number as usize;
     if counts.memories <= i {
-        return outcome::refuses(words, 16);
+        return outcome::refuses(words, Reason::NumberUnknown);
     }
     let grown = perform(
         row::record_at(words, i),
@@ -99,7 +99,7 @@ pub(crate) fn new_memory(
     let counts = words::counts_from(words);
     let start = row::next_room::<Memory>(words);
     if !finds_room(counts.memories, room, bytes.len() - start) {
-        return outcome::refuses(words, 17);
+        return outcome::refuses(words, Reason::NoPlace);
     }
     let created = memory::new::new_memory(wanted, start, room, bytes, words::limiter_from(words));
     outcome::made(words, created.made, created.limiter)

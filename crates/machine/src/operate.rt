@@ -10,6 +10,7 @@ use super::operation::Operation;
 use super::outcome::Outcome;
 use super::records::Machine;
 use super::{fueling, memories, outcome, segments, sound, tables, words};
+use types::answer::Reason;
 
 // 16 or 17, then the operation's own checks.
 pub(crate) fn perform(
@@ -60,10 +61,10 @@ pub(crate) fn decide(
     ensures { performed result bytes.new cells.new items.new ≡ decide raw_bytes (machine_from words.now) (buffers bytes.old cells.old items.old) op }
 {
     if !op.is_well_formed() {
-        return outcome::refuses(words, 18);
+        return outcome::refuses(words, Reason::Malformed);
     }
     if !sound::is_sound(words, bytes.len(), cells.len(), items.len()) {
-        return outcome::refuses(words, 19);
+        return outcome::refuses(words, Reason::Unsound);
     }
     perform(words, bytes, cells, items, op)
 }

@@ -1,6 +1,6 @@
 // What an operation gives back: one record changes at most.
 ghost use Rattle.std.specs.Prelude.{◌≡◌, ◌≤◌, ◌<◌, length};
-ghost use Rattle.types.specs.Answer.{refuse};
+ghost use Rattle.types.specs.Answer.{refuse, number_for};
 ghost use Rattle.machine.specs.Machine.{capacity};
 ghost use Rattle.machine.specs.Words.{row_length, machine_from};
 ghost use Rattle.machine.specs.Outcome.{leaves, keeps, made};
@@ -11,7 +11,7 @@ use super::words;
 use memory::memory::Memory;
 use table::element::ElementSegment;
 use table::table::Table;
-use types::answer::{Answer, Refusal, Value};
+use types::answer::{Answer, Reason, Refusal, Value};
 use types::fuel::Fuel;
 use types::limiter::Limiter;
 
@@ -60,11 +60,11 @@ pub(crate) fn keeps(words: &[u64], answer: Answer) -> Outcome
     )
 }
 
-pub(crate) fn refuses(words: &[u64], number: u8) -> Outcome
+pub(crate) fn refuses(words: &[u64], reason: Reason) -> Outcome
     requires { row_length ≤ length words.now }
-    ensures { result ≡ keeps (machine_from words.now) (refuse number 0) }
+    ensures { result ≡ keeps (machine_from words.now) (refuse (number_for reason) 0) }
 {
-    keeps(words, Err(Refusal { number, amount: 0 }))
+    keeps(words, Err(Refusal::from(reason)))
 }
 
 // A creation's outcome: the new number, or a refusal that takes neither number nor room.

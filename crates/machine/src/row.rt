@@ -2,7 +2,7 @@
 #![tactic(auto, using(types::proofs::Picks::cases), unfolding(crate::specs::Machine::next_byte, crate::specs::Machine::next_cell, crate::specs::Machine::next_item, crate::specs::Row::fresh_row, crate::specs::Row::fuel_of, crate::specs::Row::row_pages, crate::specs::Row::row_cells, crate::specs::stages::Rows::ends_inside, crate::specs::stages::Rows::changed_row))]
 
 ghost use Rattle.std.specs.Prelude.{◌≡◌, ◌+◌, ◌*◌, ◌≤◌, ◌<◌, ◌^◌, leb, ltb, length, get_or};
-ghost use Rattle.types.specs.Answer.{refuse};
+ghost use Rattle.types.specs.Answer.{refuse, number_for};
 ghost use Rattle.types.specs.Pick.{pick, both};
 ghost use Rattle.types.specs.Raw.{raw_bytes};
 ghost use Rattle.types.specs.Span.{over};
@@ -22,7 +22,7 @@ use super::{form, operate, sound, words};
 use memory::memory::Memory;
 use table::element::ElementSegment;
 use table::table::Table;
-use types::answer::{Answer, Refusal, Value};
+use types::answer::{Answer, Reason, Refusal, Value};
 use types::fuel::{Fuel, FuelCosts};
 
 // The record with a number.
@@ -145,10 +145,10 @@ fn go(
     outcome.answer
 }
 
-fn refused(number: u8) -> Answer
-    ensures { result ≡ refuse number 0 }
+fn refused(reason: Reason) -> Answer
+    ensures { result ≡ refuse (number_for reason) 0 }
 {
-    Err(Refusal { number, amount: 0 })
+    Err(Refusal::from(reason))
 }
 
 // One operation on a row whose form and soundness the caller carries from call to call: only its length, the counts and the next rooms' starts are tested.
@@ -163,10 +163,10 @@ pub fn proceed(
         (in_row result words.new bytes.new cells.new items.new) }
 {
     if !op.is_well_formed() {
-        return refused(18);
+        return refused(Reason::Malformed);
     }
     if words.len() < ROW || !ends_inside(words, bytes.len(), cells.len(), items.len()) {
-        return refused(19);
+        return refused(Reason::Unsound);
     }
     go(words, bytes, cells, items, op)
 }
@@ -183,10 +183,10 @@ pub fn operate(
         ≡ operate_row raw_bytes words.old (buffers bytes.old cells.old items.old) op }
 {
     if !op.is_well_formed() {
-        return refused(18);
+        return refused(Reason::Malformed);
     }
     if !is_ready(words, bytes.len(), cells.len(), items.len()) {
-        return refused(19);
+        return refused(Reason::Unsound);
     }
     go(words, bytes, cells, items, op)
 }
@@ -238,24 +238,15 @@ fn known<R: Record>(
         ≡ known R.used R.in_form R.PLACE R.WIDTH R.listed R.none words.now bytes cells items number }
 {
     if words.len() < ROW || !sound::is_sound(words, bytes, cells, items) {
-        return Err(Refusal {
-            number: 19,
-            amount: 0,
-        });
+        return Err(Refusal::from(Reason::Unsound));
     }
     let used = R::used(words::counts_from(words));
     if (used as u64) <= number {
-        return Err(Refusal {
-            number: 16,
-            amount: 0,
-        });
+        return Err(Refusal::from(Reason::NumberUnknown));
     }
     let i = number as usize;
     if !R::in_form(words, R::PLACE + R::WIDTH * i) {
-        return Err(Refusal {
-            number: 19,
-            amount: 0,
-        });
+        return Err(Refusal::from(Reason::Unsound));
     }
     Ok(record_at(words, i))
 }

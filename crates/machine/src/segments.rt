@@ -15,7 +15,7 @@ use super::records::finds_room;
 use super::{outcome, row, tables, words};
 use table::element::ElementSegment;
 use table::table::Table;
-use types::answer::Value;
+use types::answer::{Reason, Value};
 use types::raw::RefType;
 use types::span::CopySpan;
 
@@ -35,7 +35,7 @@ pub(crate) fn table_init(
     let i = number as usize;
     let j = segment as usize;
     if counts.tables <= i || counts.segments <= j {
-        return outcome::refuses(words, 16);
+        return outcome::refuses(words, Reason::NumberUnknown);
     }
     let table: Table = row::record_at(words, i);
     let given = row::record_at(words, j);
@@ -53,7 +53,7 @@ pub(crate) fn drop_segment(words: &[u64], number: u64) -> Outcome
     let counts = words::counts_from(words);
     let i = number as usize;
     if counts.segments <= i {
-        return outcome::refuses(words, 16);
+        return outcome::refuses(words, Reason::NumberUnknown);
     }
     let segment: ElementSegment = row::record_at(words, i);
     Outcome {
@@ -72,7 +72,7 @@ fn add_items(words: &[u64], items: &mut [u64], element: RefType, given: &[u64]) 
     let counts = words::counts_from(words);
     let start = row::next_room::<ElementSegment>(words);
     if !finds_room(counts.segments, given.len() as u64, items.len() - start) {
-        return outcome::refuses(words, 17);
+        return outcome::refuses(words, Reason::NoPlace);
     }
     let created = ElementSegment::new(element, start, items, given);
     outcome::made(words, created, words::limiter_from(words))

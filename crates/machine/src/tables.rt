@@ -14,7 +14,7 @@ use super::records::finds_room;
 use super::{outcome, row, words};
 use table::grow::GrownTable;
 use table::table::Table;
-use types::answer::Value;
+use types::answer::{Reason, Value};
 use types::fuel::Fuel;
 use types::grant::Spanned;
 use types::limiter::Limiter;
@@ -58,7 +58,7 @@ pub(crate) fn on_table(words: &[u64], cells: &mut [u64], number: u64, op: TableO
     let counts = words::counts_from(words);
     let i = number as usize;
     if counts.tables <= i {
-        return outcome::refuses(words, 16);
+        return outcome::refuses(words, Reason::NumberUnknown);
     }
     let grown = perform(
         row::record_at(words, i),
@@ -97,7 +97,7 @@ pub(crate) fn table_copy(
 {
     let count = words::counts_from(words).tables as u64;
     if count <= into || count <= source {
-        return outcome::refuses(words, 16);
+        return outcome::refuses(words, Reason::NumberUnknown);
     }
     let table: Table = row::record_at(words, into as usize);
     let other = row::record_at(words, source as usize);
@@ -121,7 +121,7 @@ pub(crate) fn new_table(
     let counts = words::counts_from(words);
     let start = row::next_room::<Table>(words);
     if !finds_room(counts.tables, room, cells.len() - start) {
-        return outcome::refuses(words, 17);
+        return outcome::refuses(words, Reason::NoPlace);
     }
     let created = table::new::new_table(
         wanted,

@@ -6,7 +6,7 @@ ghost use Rattle.memory.specs.LittleEndian.{le_bytes};
 ghost use Rattle.memory.specs.stages.Facts.{Read, Reach};
 ghost use Rattle.memory.specs.Access.{address_of, width_bytes, load_width, extend, load_at, load, store_width, store_at, store};
 
-use types::answer::{Answer, Refusal, Value};
+use types::answer::{Answer, Reason, Refusal, Value};
 
 // How many bytes an access has.
 #[derive(Clone, Copy)]
@@ -175,7 +175,7 @@ pub(crate) fn load_at(
 {
     let width = kind.width();
     let Some(at) = locate(size, ptr, offset, width.bytes()) else {
-        return Err(Refusal::of(9));
+        return Err(Refusal::from(Reason::AccessOutside));
     };
     let bits = load_width(bytes, base + (at as usize), width);
     Ok(value(kind, bits))
@@ -224,7 +224,7 @@ pub(crate) fn store_at(
 {
     let width = kind.width();
     let Some(at) = locate(size, ptr, offset, width.bytes()) else {
-        return Err(Refusal::of(9));
+        return Err(Refusal::from(Reason::AccessOutside));
     };
     store_width(bytes, base + (at as usize), width, bits);
     Ok(Value::Number(0))

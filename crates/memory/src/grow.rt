@@ -1,6 +1,6 @@
 // Growing a memory, in the order of checks of document 01.
 ghost use Rattle.std.specs.Prelude.{◌≡◌, true, ◌≤◌, length};
-ghost use Rattle.types.specs.Answer.{refuse, accept};
+ghost use Rattle.types.specs.Answer.{refuse, accept, number_for};
 ghost use Rattle.types.specs.Done.{done};
 ghost use Rattle.memory.specs.Memory.{pages_of, sound_memory};
 ghost use Rattle.memory.specs.stages.Facts.{Held};
@@ -9,7 +9,7 @@ ghost use Rattle.memory.specs.stages.Grow.{reach_of, grant_of, grow_to};
 
 use super::memory::Memory;
 use super::{memory, new};
-use types::answer::{Answer, Refusal, Value};
+use types::answer::{Answer, Reason, Refusal, Value};
 use types::fuel::Fuel;
 use types::grant::Growth;
 use types::limiter::Limiter;
@@ -34,10 +34,10 @@ fn answered_with(answer: Answer, memory: Memory, fuel: Fuel, limiter: Limiter) -
     }
 }
 
-fn refused(number: u8, memory: Memory, fuel: Fuel, limiter: Limiter) -> GrownMemory
-    ensures { result ≡ answered (refuse number 0) memory fuel limiter }
+fn refused(reason: Reason, memory: Memory, fuel: Fuel, limiter: Limiter) -> GrownMemory
+    ensures { result ≡ answered (refuse (number_for reason) 0) memory fuel limiter }
 {
-    answered_with(Err(Refusal::of(number)), memory, fuel, limiter)
+    answered_with(Err(Refusal::from(reason)), memory, fuel, limiter)
 }
 
 // Whether a memory of this type may have so many pages.
@@ -102,13 +102,13 @@ impl Memory {
         ensures { done result bytes.new ≡ grow_memory self bytes.old additional fuel limiter }
     {
         if !self.is_sound(bytes.len()) {
-            return refused(19, self, fuel, limiter);
+            return refused(Reason::Unsound, self, fuel, limiter);
         }
         if additional == 0 {
             return answered_with(Ok(Value::Number(self.pages())), self, fuel, limiter);
         }
         let Some(size) = reach(self, additional) else {
-            return refused(6, self, fuel, limiter);
+            return refused(Reason::GrowthDenied, self, fuel, limiter);
         };
         grow_to(self, bytes, size, fuel, limiter)
     }

@@ -13,7 +13,7 @@ ghost use Rattle.memory.specs.Host.{read_used, read_memory, write_used, write_me
 
 use super::access;
 use super::access::{LoadKind, StoreKind};
-use types::answer::{Answer, Refusal, Value};
+use types::answer::{Answer, Reason, Refusal, Value};
 use types::index_ty::IndexType;
 use types::memory_ty::{MemoryType, PageSize};
 
@@ -103,7 +103,7 @@ impl Memory {
         ensures { result ≡ load_memory kind self bytes.now ptr offset }
     {
         if !self.is_sound(bytes.len()) {
-            return Err(Refusal::of(19));
+            return Err(Refusal::from(Reason::Unsound));
         }
         access::load_at(bytes, self.start, self.size, kind, ptr, offset)
     }
@@ -120,7 +120,7 @@ impl Memory {
         ensures { done result bytes.new ≡ store_memory kind self bytes.old ptr offset bits }
     {
         if !self.is_sound(bytes.len()) {
-            return Err(Refusal::of(19));
+            return Err(Refusal::from(Reason::Unsound));
         }
         access::store_at(bytes, self.start, self.size, kind, ptr, offset, bits)
     }
@@ -130,10 +130,10 @@ impl Memory {
         ensures { done result to.new ≡ read_memory self bytes.now offset to.old }
     {
         if !self.is_sound(bytes.len()) {
-            return Err(Refusal::of(19));
+            return Err(Refusal::from(Reason::Unsound));
         }
         if !types::span::within(offset, to.len() as u64, self.size) {
-            return Err(Refusal::of(9));
+            return Err(Refusal::from(Reason::AccessOutside));
         }
         let at = self.start + (offset as usize);
         to.copy_from_slice(&bytes[at..at + to.len()]);
@@ -145,10 +145,10 @@ impl Memory {
         ensures { done result bytes.new ≡ write_memory self bytes.old offset from.now }
     {
         if !self.is_sound(bytes.len()) {
-            return Err(Refusal::of(19));
+            return Err(Refusal::from(Reason::Unsound));
         }
         if !types::span::within(offset, from.len() as u64, self.size) {
-            return Err(Refusal::of(9));
+            return Err(Refusal::from(Reason::AccessOutside));
         }
         let at = self.start + (offset as usize);
         bytes[at..at + from.len()].copy_from_slice(from);

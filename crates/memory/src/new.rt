@@ -8,7 +8,7 @@ ghost use Rattle.memory.specs.New.{refused, new_memory};
 ghost use Rattle.memory.specs.stages.New.{made_of, planned};
 
 use super::memory::Memory;
-use types::answer::Refusal;
+use types::answer::{Reason, Refusal};
 use types::limiter::Limiter;
 use types::memory_ty::{MemoryType, WantedMemory};
 
@@ -41,7 +41,7 @@ fn planned(wanted: WantedMemory, start: usize, room: u64) -> Result<Memory, Refu
 {
     let ty = MemoryType::build(wanted.wide, wanted.limits, wanted.exponent)?;
     let Some(size) = ty.minimum_byte_size() else {
-        return Err(Refusal::of(2));
+        return Err(Refusal::from(Reason::MinimumTooLarge));
     };
     Ok(Memory {
         ty,
@@ -80,7 +80,7 @@ pub fn new_memory(
     ensures { done result bytes.new ≡ new_memory wanted start room bytes.old limiter }
 {
     if !types::span::within(start as u64, room, bytes.len() as u64) {
-        return no_memory(limiter, Refusal::of(19));
+        return no_memory(limiter, Refusal::from(Reason::Unsound));
     }
     match planned(wanted, start, room) {
         Err(refusal) => no_memory(limiter, refusal),

@@ -5,7 +5,7 @@ use lines::answer_line::write_answer_line;
 use lines::code::{Read, read_line};
 use machine::records::Machine;
 use std::io;
-use types::answer::{Answer, Refusal, Value};
+use types::answer::{Answer, Reason, Refusal, Value};
 use types::fuel::FuelCosts;
 
 #[derive(Drop)]
@@ -49,10 +49,7 @@ impl Host {
                 self.machine = Machine::new(metering, costs);
                 Ok(Value::Number(0))
             }
-            _ => Err(Refusal {
-                number: 18,
-                amount: 0,
-            }),
+            _ => Err(Refusal::from(Reason::Malformed)),
         }
     }
 

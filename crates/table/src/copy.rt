@@ -8,7 +8,7 @@ ghost use Rattle.table.specs.stages.Spans.{copy_bounds};
 
 use super::table::Table;
 use super::{cells, table};
-use types::answer::Value;
+use types::answer::{Reason, Value};
 use types::fuel::Fuel;
 use types::grant::Spanned;
 use types::raw::RawRef;
@@ -21,7 +21,7 @@ fn copy_bounds(into: Table, source: Table, cells: &mut [u64], span: CopySpan, fu
 {
     let ok = table::both_within(span.to, into.size, span.from, source.size, span.len);
     let price = fuel.costs.fuel_for_copying_values(span.len, RawRef::size());
-    match types::grant::grant_span(fuel, ok, 12, price) {
+    match types::grant::grant_span(fuel, ok, Reason::CopyOutside as u8, price) {
         Err(refusal) => Spanned {
             answer: Err(refusal),
             fuel,
@@ -78,10 +78,10 @@ impl Table {
         ensures { done result cells.new ≡ copy_table raw_bytes self source cells.old span fuel }
     {
         if !sound_two(self, source, cells.len()) {
-            return table::not_spanned(19, fuel);
+            return table::not_spanned(Reason::Unsound, fuel);
         }
         if !self.ty.element_matches(source.ty.element) {
-            return table::not_spanned(14, fuel);
+            return table::not_spanned(Reason::KindsDiffer, fuel);
         }
         copy_bounds(self, source, cells, span, fuel)
     }

@@ -4,7 +4,7 @@ ghost use Rattle.types.specs.Done.{done};
 ghost use Rattle.table.specs.Element.{sound_segment, dropped, item_of, new_segment};
 
 use super::{cells, table};
-use types::answer::{Answer, Refusal, Value};
+use types::answer::{Answer, Reason, Refusal, Value};
 use types::raw::RefType;
 
 // `size` items at the `places` places from `start` on.
@@ -28,7 +28,7 @@ impl ElementSegment {
     {
         let n = given.len();
         if !table::sound_buffer(start, n as u64, items.len()) {
-            return Err(Refusal::of(19));
+            return Err(Refusal::from(Reason::Unsound));
         }
         cells::init_cells(items, start, given, 0, n);
         Ok(ElementSegment {
@@ -53,10 +53,10 @@ impl ElementSegment {
     {
         let len = items.len();
         if !self.is_sound(len) {
-            return table::refused(19);
+            return table::refused(Reason::Unsound);
         }
         if self.size <= index {
-            return table::refused(9);
+            return table::refused(Reason::AccessOutside);
         }
         let at = self.start + (index as usize);
         let cell = items[at];

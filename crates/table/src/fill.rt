@@ -8,7 +8,7 @@ ghost use Rattle.table.specs.stages.Spans.{fill_kind};
 
 use super::table::Table;
 use super::{cells, table};
-use types::answer::Value;
+use types::answer::{Reason, Value};
 use types::fuel::Fuel;
 use types::grant::Spanned;
 use types::raw::{RawRef, TypedRawRef};
@@ -21,7 +21,7 @@ fn fill_kind(table: Table, cells: &mut [u64], span: FillSpan, bits: u64, fuel: F
 {
     let in_bounds = types::span::within(span.start, span.len, table.size);
     let price = fuel.costs.fuel_for_copying_values(span.len, RawRef::size());
-    match types::grant::grant_span(fuel, in_bounds, 11, price) {
+    match types::grant::grant_span(fuel, in_bounds, Reason::FillOutside as u8, price) {
         Err(refusal) => Spanned {
             answer: Err(refusal),
             fuel,
@@ -43,10 +43,10 @@ impl Table {
         ensures { done result cells.new ≡ fill_table raw_bytes self cells.old span value fuel }
     {
         if !self.is_sound(cells.len()) {
-            return table::not_spanned(19, fuel);
+            return table::not_spanned(Reason::Unsound, fuel);
         }
         if !self.ty.element_matches(value.ty) {
-            return table::not_spanned(14, fuel);
+            return table::not_spanned(Reason::KindsDiffer, fuel);
         }
         fill_kind(self, cells, span, value.raw.bits, fuel)
     }

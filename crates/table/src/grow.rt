@@ -1,6 +1,6 @@
 // Growing a table, in the order of checks of document 01: the limiter is asked before the maximum.
 ghost use Rattle.std.specs.Prelude.{◌≡◌, ◌≤◌, ltb, length};
-ghost use Rattle.types.specs.Answer.{refuse};
+ghost use Rattle.types.specs.Answer.{refuse, number_for};
 ghost use Rattle.types.specs.Done.{done};
 ghost use Rattle.types.specs.IndexType.{max_size};
 ghost use Rattle.types.specs.Raw.{raw_bytes};
@@ -10,7 +10,7 @@ ghost use Rattle.table.specs.stages.Grow.{grant_of, grow_to, grow_some};
 
 use super::cells;
 use super::table::Table;
-use types::answer::{Answer, Refusal, Value};
+use types::answer::{Answer, Reason, Refusal, Value};
 use types::fuel::Fuel;
 use types::grant::Growth;
 use types::index_ty::IndexType;
@@ -36,10 +36,10 @@ fn answered_with(answer: Answer, table: Table, fuel: Fuel, limiter: Limiter) -> 
     }
 }
 
-fn refused(number: u8, table: Table, fuel: Fuel, limiter: Limiter) -> GrownTable
-    ensures { result ≡ answered (refuse number 0) table fuel limiter }
+fn refused(reason: Reason, table: Table, fuel: Fuel, limiter: Limiter) -> GrownTable
+    ensures { result ≡ answered (refuse (number_for reason) 0) table fuel limiter }
 {
-    answered_with(Err(Refusal::of(number)), table, fuel, limiter)
+    answered_with(Err(Refusal::from(reason)), table, fuel, limiter)
 }
 
 // The limiter's question, the maximum, the fuel step and the room.
@@ -103,13 +103,13 @@ fn grow_some(
     ensures { done result cells.new ≡ grow_some raw_bytes table cells.old delta bits fuel limiter }
 {
     if u64::MAX - table.size < delta {
-        return refused(6, table, fuel, limiter);
+        return refused(Reason::GrowthDenied, table, fuel, limiter);
     }
     let size = table.size + delta;
     if below_largest(table.ty.index, size) {
         return grow_to(table, cells, size, bits, fuel, limiter);
     }
-    refused(6, table, fuel, limiter)
+    refused(Reason::GrowthDenied, table, fuel, limiter)
 }
 
 impl Table {
@@ -125,10 +125,10 @@ impl Table {
         ensures { done result cells.new ≡ grow_table raw_bytes self cells.old delta value fuel limiter }
     {
         if !self.is_sound(cells.len()) {
-            return refused(19, self, fuel, limiter);
+            return refused(Reason::Unsound, self, fuel, limiter);
         }
         if !self.ty.element_matches(value.ty) {
-            return refused(14, self, fuel, limiter);
+            return refused(Reason::KindsDiffer, self, fuel, limiter);
         }
         if delta == 0 {
             return answered_with(Ok(Value::Number(self.size)), self, fuel, limiter);

@@ -12,7 +12,7 @@ ghost use Rattle.table.specs.stages.Spans.{init_some, init_bounds};
 use super::element::ElementSegment;
 use super::table::Table;
 use super::{cells, table};
-use types::answer::Value;
+use types::answer::{Reason, Value};
 use types::fuel::Fuel;
 use types::grant::Spanned;
 use types::raw::RawRef;
@@ -60,7 +60,7 @@ fn init_bounds(
     ensures { done result cells.new ≡ init_bounds raw_bytes table segment cells.old items.now span fuel }
 {
     if !table::both_within(span.to, table.size, span.from, segment.size, span.len) {
-        return table::not_spanned(13, fuel);
+        return table::not_spanned(Reason::InitOutside, fuel);
     }
     if span.len == 0 {
         return Spanned {
@@ -84,10 +84,10 @@ impl Table {
         ensures { done result cells.new ≡ init_table raw_bytes self segment cells.old items.now span fuel }
     {
         if !sound_pair(self, segment, cells.len(), items.len()) {
-            return table::not_spanned(19, fuel);
+            return table::not_spanned(Reason::Unsound, fuel);
         }
         if !self.ty.element_matches(segment.ty) {
-            return table::not_spanned(14, fuel);
+            return table::not_spanned(Reason::KindsDiffer, fuel);
         }
         init_bounds(self, segment, cells, items, span, fuel)
     }

@@ -8,7 +8,7 @@ ghost use Rattle.table.specs.stages.New.{made_of, planned};
 
 use super::table::Table;
 use super::{cells, table};
-use types::answer::Refusal;
+use types::answer::{Reason, Refusal};
 use types::limiter::Limiter;
 use types::raw::TypedRawRef;
 use types::table_ty::{TableType, WantedTable};
@@ -39,7 +39,7 @@ fn planned(
 {
     let ty = TableType::build(wanted.element, wanted.wide, wanted.limits)?;
     if !ty.element_matches(initial.ty) {
-        return Err(Refusal::of(14));
+        return Err(Refusal::from(Reason::KindsDiffer));
     }
     Ok(Table {
         ty,
@@ -79,7 +79,7 @@ pub fn new_table(
     ensures { done result cells.new ≡ new_table wanted initial start room cells.old limiter }
 {
     if !table::sound_buffer(start, room, cells.len()) {
-        return no_table(limiter, Refusal::of(19));
+        return no_table(limiter, Refusal::from(Reason::Unsound));
     }
     match planned(wanted, initial, start, room) {
         Err(refusal) => no_table(limiter, refusal),

@@ -2,7 +2,7 @@
 #![tactic(auto, using(types::proofs::Picks::cases), unfolding(crate::specs::Table::sound_buffer, crate::specs::Table::sound_table))]
 
 ghost use Rattle.std.specs.Prelude.{◌≡◌, leb, length};
-ghost use Rattle.types.specs.Answer.{refuse};
+ghost use Rattle.types.specs.Answer.{refuse, number_for};
 ghost use Rattle.types.specs.Done.{done, span_of};
 ghost use Rattle.types.specs.Pick.{both};
 ghost use Rattle.types.specs.Span.{inside};
@@ -12,7 +12,7 @@ ghost use Rattle.table.specs.stages.Facts.{Within};
 ghost use Rattle.table.specs.Table.{sound_buffer, sound_size, sound_table, get_table, set_sound, set_table};
 
 use super::cells;
-use types::answer::{Answer, Refusal, Value};
+use types::answer::{Answer, Reason, Refusal, Value};
 use types::fuel::Fuel;
 use types::grant::Spanned;
 use types::raw::TypedRawRef;
@@ -28,18 +28,18 @@ pub struct Table {
     pub size: u64,
 }
 
-pub(crate) fn refused(number: u8) -> Answer
-    ensures { result ≡ refuse number 0 }
+pub(crate) fn refused(reason: Reason) -> Answer
+    ensures { result ≡ refuse (number_for reason) 0 }
 {
-    Err(Refusal::of(number))
+    Err(Refusal::from(reason))
 }
 
 // A span operation that is refused: fuel and cells stay.
-pub(crate) fn not_spanned(number: u8, fuel: Fuel) -> Spanned
-    ensures { result ≡ span_of (refuse number 0) fuel }
+pub(crate) fn not_spanned(reason: Reason, fuel: Fuel) -> Spanned
+    ensures { result ≡ span_of (refuse (number_for reason) 0) fuel }
 {
     Spanned {
-        answer: refused(number),
+        answer: refused(reason),
         fuel,
     }
 }
@@ -104,10 +104,10 @@ impl Table {
     {
         let len = cells.len();
         if !self.is_sound(len) {
-            return refused(19);
+            return refused(Reason::Unsound);
         }
         if self.size <= index {
-            return refused(9);
+            return refused(Reason::AccessOutside);
         }
         let at = self.start + (index as usize);
         let cell = cells[at];
@@ -122,7 +122,7 @@ impl Table {
         if self.is_sound(len) {
             return set_sound(self, cells, index, value);
         }
-        refused(19)
+        refused(Reason::Unsound)
     }
 }
 
@@ -133,10 +133,10 @@ fn set_sound(table: Table, cells: &mut [u64], index: u64, value: TypedRawRef) ->
     let ty = table.ty;
     let kind = value.ty;
     if !ty.element_matches(kind) {
-        return refused(14);
+        return refused(Reason::KindsDiffer);
     }
     if table.size <= index {
-        return refused(10);
+        return refused(Reason::SetOutside);
     }
     let at = table.start + (index as usize);
     cells::fill_cells(cells, at, value.raw.bits, 1);

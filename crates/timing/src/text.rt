@@ -13,7 +13,7 @@ use lines::answer_line::write_answer_line;
 use lines::code::{Read, read_line};
 use lines::session::{Session, piece};
 use machine::row;
-use types::answer::{Answer, Refusal, Value};
+use types::answer::{Answer, Reason, Refusal, Value};
 use types::fuel::{Fuel, FuelCosts};
 
 // Whether a line is an operation's.
@@ -22,10 +22,7 @@ fn echo(parsed: Option<Read>) -> Answer
 {
     match parsed {
         Some(Read::Operation(_)) => Ok(Value::Number(0)),
-        _ => Err(Refusal {
-            number: 18,
-            amount: 0,
-        }),
+        _ => Err(Refusal::from(Reason::Malformed)),
     }
 }
 

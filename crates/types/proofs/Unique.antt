@@ -129,8 +129,6 @@ use Rattle.types.proofs.wide.Wide.covers.Reads as wide_covers_reads
 use Rattle.types.proofs.wide.Wide.covers.Kinds as wide_covers_kinds
 use Rattle.types.proofs.wide.Wide.exceeds.Reads as wide_exceeds_reads
 use Rattle.types.proofs.wide.Wide.exceeds.Kinds as wide_exceeds_kinds
-use Rattle.types.proofs.answer.Refusal.of.Reads as refusal_of_reads
-use Rattle.types.proofs.answer.Refusal.of.Kinds as refusal_of_kinds
 
 pub value_from_f32_bits_one : One 0 value_from_f32_bits_kinds.ps value_from_f32_bits_kinds.r value_from_f32_bits_reads.Pre value_from_f32_bits_reads.Post
 value_from_f32_bits_one κs a x x' s s' z p q = p ∙ sym q
@@ -323,6 +321,3 @@ wide_covers_one κs a x x' s s' z p q = p ∙ sym q
 
 pub wide_exceeds_one : One 0 wide_exceeds_kinds.ps wide_exceeds_kinds.r wide_exceeds_reads.Pre wide_exceeds_reads.Post
 wide_exceeds_one κs a x x' s s' z p q = p ∙ sym q
-
-pub refusal_of_one : One 0 refusal_of_kinds.ps refusal_of_kinds.r refusal_of_reads.Pre refusal_of_reads.Post
-refusal_of_one κs a x x' s s' z p q = p ∙ sym q

@@ -9,7 +9,6 @@ pub mod limiter;
 pub mod limits;
 pub mod memory_ty;
 pub mod raw;
-pub mod refusal;
 pub mod span;
 pub mod table_ty;
 pub mod wide;

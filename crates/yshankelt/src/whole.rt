@@ -20,7 +20,7 @@ use lines::code::Read;
 use lines::line::{Line, MOST_FIELDS};
 use machine::row;
 use machine::words::ROW;
-use types::answer::{Answer, Refusal};
+use types::answer::{Answer, Reason, Refusal};
 use types::fuel::Fuel;
 
 // How many words a machine takes.
@@ -88,10 +88,7 @@ fn said_of(code: u8, fields: &[u64]) -> Option<Read>
 fn malformed() -> Answer
     ensures { result ≡ refuse 18 0 }
 {
-    Err(Refusal {
-        number: 18,
-        amount: 0,
-    })
+    Err(Refusal::from(Reason::Malformed))
 }
 
 // One operation, or 18: making a machine is no operation.

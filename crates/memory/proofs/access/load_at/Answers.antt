@@ -5,7 +5,7 @@ use Rattle.memory.proofs.access.load_at.Goals as goal
 
 pub returns-in_default : goal.returns-in_default
 returns-in_default c =
-    ap Err c.of.ensures ∙ load_missed _ _ _ _ _ _ (asked _ _ _ c.width-width.ensures c.bytes.ensures c.locate.ensures c.in_default.is)
+    ap Err c.from.ensures ∙ load_missed _ _ _ _ _ _ (asked _ _ _ c.width-width.ensures c.bytes.ensures c.locate.ensures c.in_default.is)
 
 pub overflow_add-base : goal.overflow_add-base
 overflow_add-base c =

@@ -6,7 +6,7 @@ use Rattle.memory.proofs.access.store_at.Goals as goal
 
 pub returns-in_default : goal.returns-in_default
 returns-in_default c =
-    ap (λ (r : Refusal). done (Err r) c.args.bytes.now) c.of.ensures ∙ store_missed _ _ _ _ _ _ _ (asked _ _ _ c.width-width.ensures c.bytes.ensures c.locate.ensures c.in_default.is)
+    ap (λ (r : Refusal). done (Err r) c.args.bytes.now) c.from.ensures ∙ store_missed _ _ _ _ _ _ _ (asked _ _ _ c.width-width.ensures c.bytes.ensures c.locate.ensures c.in_default.is)
 
 pub overflow_add-base : goal.overflow_add-base
 overflow_add-base c =

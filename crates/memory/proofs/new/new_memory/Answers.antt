@@ -8,7 +8,7 @@ pub returns-then-not-within : goal.returns-then-not-within
 unfolding inside
 returns-then-not-within c =
     let a = c.args in
-    new_stops _ _ _ _ _ (known_test c.within.ensures c.if-not-within.true) (done_as (c.no_memory.ensures ∙ ap (λ (r : Refusal). refused a.limiter r) c.of.ensures) refl)
+    new_stops _ _ _ _ _ (known_test c.within.ensures c.if-not-within.true) (done_as (c.no_memory.ensures ∙ ap (λ (r : Refusal). refused a.limiter r) c.from.ensures) refl)
 
 pub returns-in-Err : goal.returns-in-Err
 unfolding inside

@@ -11,7 +11,7 @@ returns-in_err-ty c =
 
 pub returns-in_default : goal.returns-in_default
 unfolding sized
-returns-in_default c = ap Err c.of.ensures ∙ plan_sized _ _ _ (sym c.build.ensures ∙ c.in_ok-ty.was) c.minimum_byte_size.ensures c.in_default.is
+returns-in_default c = ap Err c.from.ensures ∙ plan_sized _ _ _ (sym c.build.ensures ∙ c.in_ok-ty.was) c.minimum_byte_size.ensures c.in_default.is
 
 pub returns : goal.returns
 unfolding sized

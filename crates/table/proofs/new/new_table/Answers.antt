@@ -7,7 +7,7 @@ use Rattle.table.proofs.new.new_table.Goals as goal
 pub returns-then-not-sound_buffer : goal.returns-then-not-sound_buffer
 returns-then-not-sound_buffer c =
     let a = c.args in
-    rw new_reads (left_by _ _ c.sound_buffer.ensures c.if-not-sound_buffer.true (done_as (c.no_table.ensures ∙ ap (λ (r : Refusal). refused a.limiter r) c.of.ensures) refl))
+    rw new_reads (left_by _ _ c.sound_buffer.ensures c.if-not-sound_buffer.true (done_as (c.no_table.ensures ∙ ap (λ (r : Refusal). refused a.limiter r) c.from.ensures) refl))
 
 pub returns-in-Err : goal.returns-in-Err
 returns-in-Err c =

@@ -9,7 +9,7 @@ returns-in_err-ty c =
     e ∙ plan_missed _ _ _ _ (sym c.build.ensures ∙ c.in_err-ty.was)
 
 pub returns-then-not-element_matches : goal.returns-then-not-element_matches
-returns-then-not-element_matches c = ap Err c.of.ensures ∙ plan_by _ _ _ _ (sym c.build.ensures ∙ c.in_ok-ty.was) (search exits)
+returns-then-not-element_matches c = ap Err c.from.ensures ∙ plan_by _ _ _ _ (sym c.build.ensures ∙ c.in_ok-ty.was) (search exits)
 
 pub returns : goal.returns
 returns c = plan_by _ _ _ _ (sym c.build.ensures ∙ c.in_ok-ty.was) (search exits)
