@@ -79,13 +79,14 @@ pub(crate) fn move_cells(cells: &mut [u64], to: usize, from: usize, n: usize)
 }
 
 // The first cells are filled, and what is there is copied on: block moves are faster than the single stores of `fill`.
-// At most 8192 cells at once, which stay in the cache.
+// At most 8192 cells at once, which stay in the cache. A function of its own, so that short fills do not pay for it.
+#[inline(never)]
 fn fill_on(cells: &mut [u64], to: usize, v: u64, n: usize)
-    requires { (to + n ≤ length cells.old) × (64 ≤ n) }
+    requires { (to + n ≤ length cells.old) × (128 ≤ n) }
     ensures { cells.new ≡ over cells.old to (replicate n v) }
 {
-    cells[to..to + 64].fill(v);
-    let mut k = 64;
+    cells[to..to + 128].fill(v);
+    let mut k = 128;
     while k < n {
         let m = k.min(n - k).min(8192);
         move_some(cells, to + k, to, m);
@@ -100,7 +101,7 @@ pub(crate) fn fill_cells(cells: &mut [u64], to: usize, v: u64, n: usize)
 {
     if v == 0 {
         cells[to..to + n].fill(0);
-    } else if n <= 64 {
+    } else if n <= 128 {
         cells[to..to + n].fill(v);
     } else {
         fill_on(cells, to, v, n);

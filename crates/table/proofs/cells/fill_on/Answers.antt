@@ -5,7 +5,7 @@ use Rattle.table.proofs.Puts.{copy_on_lem}
 use Rattle.table.proofs.cells.fill_on.Goals as goal
 
 pub loop-k-init : goal.loop-k-init
-loop-k-init c = (put_fill c.args.to 64 c.args.v _ _ (omega arith) (c.fill.ensures.after (λ y e. e)), omega arith, omega arith)
+loop-k-init c = (put_fill c.args.to 128 c.args.v _ _ (omega arith) (c.fill.ensures.after (λ y e. e)), omega arith, omega arith)
 
 pub loop-k-preserved : goal.loop-k-preserved
 loop-k-preserved c =
