@@ -9,8 +9,8 @@ pub returns-then-words-lt-ROW : goal.returns-then-words-lt-ROW
 unfolding known
 returns-then-words-lt-ROW g c =
     elim c.then-words-lt-ROW.branch [
-      | then-words-lt-ROW-via-then-words-lt-ROW w ↦ sym (pick_false _ _ _ (lt-leb _ _ w.if-words-lt-ROW.true))
-      | then-words-lt-ROW-via-else-words-lt-ROW+then-not-is_sound w ↦ sym (pick_true _ _ _ (le-leb _ _ w.if-words-lt-ROW.false) ∙ pick_false _ _ _ (sym w.is_sound.ensures ∙ w.if-not-is_sound.true))
+      | then-words-lt-ROW-via-then-words-lt-ROW w ↦ rw c.from.ensures (sym (pick_false _ _ _ (lt-leb _ _ w.if-words-lt-ROW.true)))
+      | then-words-lt-ROW-via-else-words-lt-ROW+then-not-is_sound w ↦ rw c.from.ensures (sym (pick_true _ _ _ (le-leb _ _ w.if-words-lt-ROW.false) ∙ pick_false _ _ _ (sym w.is_sound.ensures ∙ w.if-not-is_sound.true)))
     ]
 
 pub returns-then-used-number : goal.returns-then-used-number
@@ -18,8 +18,8 @@ unfolding known
 returns-then-used-number g c =
     let R = g.R.Record in
     let e = c.used-used.ensures ∙ ap R.used c.counts_from.ensures in
-    sym (pick_true _ _ _ (le-leb _ _ c.if-words-lt-ROW.false) ∙ pick_true _ _ _ (sym c.is_sound.ensures ∙ c.if-not-is_sound.false)
-    ∙ pick_false _ _ _ (le-ltb c.args.number _ (omega (arith, e, c.if-used-number.true))))
+    rw c.from-then-used-number.ensures (sym (pick_true _ _ _ (le-leb _ _ c.if-words-lt-ROW.false) ∙ pick_true _ _ _ (sym c.is_sound.ensures ∙ c.if-not-is_sound.false)
+    ∙ pick_false _ _ _ (le-ltb c.args.number _ (omega (arith, e, c.if-used-number.true)))))
 
 pub overflow_mul-WIDTH : goal.overflow_mul-WIDTH
 overflow_mul-WIDTH g c =
@@ -52,9 +52,9 @@ unfolding known
 returns-then-not-in_form g c =
     let R = g.R.Record in
     let e = c.used-used.ensures ∙ ap R.used c.counts_from.ensures in
-    sym (pick_true _ _ _ (le-leb _ _ c.if-words-lt-ROW.false) ∙ pick_true _ _ _ (sym c.is_sound.ensures ∙ c.if-not-is_sound.false)
+    rw c.from-then-not-in_form.ensures (sym (pick_true _ _ _ (le-leb _ _ c.if-words-lt-ROW.false) ∙ pick_true _ _ _ (sym c.is_sound.ensures ∙ c.if-not-is_sound.false)
     ∙ pick_true _ _ _ (lt-ltb c.args.number _ (omega (arith, e, c.if-used-number.false)))
-    ∙ pick_false _ _ _ (sym (rw (c.PLACE.ensures, c.WIDTH.ensures) at c.in_form.ensures) ∙ c.if-not-in_form.true))
+    ∙ pick_false _ _ _ (sym (rw (c.PLACE.ensures, c.WIDTH.ensures) at c.in_form.ensures) ∙ c.if-not-in_form.true)))
 
 pub record_at-requires : goal.record_at-requires
 record_at-requires g c =
