@@ -6,7 +6,7 @@ use Rattle.lines.proofs.session.piece.Goals as goal
 pub returns-then-not-is_ready : goal.returns-then-not-is_ready
 returns-then-not-is_ready c =
     let a = c.args in
-    piece_stuck a.session (a.words.now) (buffers (a.bytes.now) (a.cells.now) (a.items.now)) (a.input.now) (a.out.now) (sym c.is_ready.ensures ∙ c.if-not-is_ready.true)
+    rw c.from.ensures (piece_stuck a.session (a.words.now) (buffers (a.bytes.now) (a.cells.now) (a.items.now)) (a.input.now) (a.out.now) (sym c.is_ready.ensures ∙ c.if-not-is_ready.true))
 
 pub skip_on-requires : goal.skip_on-requires
 skip_on-requires c =
