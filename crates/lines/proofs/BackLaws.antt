@@ -1,9 +1,8 @@
 -- Laws of an operation's code and fields: their numbers and their length. Assumes nothing.
-use Rattle.types.proofs.Prelude.{◌≡◌, sym, ap, ◌∙◌, List, [], ◌∷◌, ℕ, ◌+◌, ◌<◌, ◌≤◌, arith, length, take, replicate, length-take, take_all}
-use Rattle.types.specs.{Done.Done, Names.RefType}
+use Rattle.types.proofs.Prelude.{List, [], ◌∷◌, ℕ, ◌<◌, ◌≤◌, arith, length, length-take}
 use Rattle.machine.specs.Names.{Items, Operation}
-use Rattle.lines.specs.{Fields.kind_number, Writing.numbers_of, Writing.write_line, stages.Back.filled, stages.Back.back_of, declared.line.Line.Line}
-use Rattle.lines.proofs.{FieldText.take_over, Writing.length_line}
+use Rattle.lines.specs.{Writing.numbers_of, Writing.write_line}
+use Rattle.lines.proofs.{Writing.length_line}
 use Rattle.machine.specs.declared.operation.FuelOp.TheVariants as fuel
 use Rattle.machine.specs.declared.operation.MemoryOp.TheVariants as memory
 use Rattle.machine.specs.declared.operation.TableOp.TheVariants as table

@@ -93,10 +93,6 @@ module _ (l : List ℕ) (b : Buffers) (metering : Bool) (costs : FuelCosts) (r :
   pub fresh_says : {n : ℕ} {after : List ℕ} → rowed n after ≡ fresh_row l metering costs → machine_from after ≡ fresh_machine metering costs
   fresh_says e = ap machine_from (made e) ∙ row_back (fresh_machine metering costs) l fresh
 
--- where two ways meet
-pub ready_came : {ws bs cs is ws₁ bs₁ cs₁ is₁ : List ℕ} → ws ≡ ws₁ → bs ≡ bs₁ → cs ≡ cs₁ → is ≡ is₁ → Ready ws₁ (buffers bs₁ cs₁ is₁) → Ready ws (buffers bs cs is)
-ready_came a b c d r = rw (a, b, c, d) r
-
 -- a run that stops on a row that is ready
 pub reached_row : (s l bytes cells items out : List ℕ) (first : Bool) (used wrote : ℕ) {p : Progress} → Ready l (buffers bytes cells items) → drop row_length l ≡ drop row_length s
     → p ≡ record { session = record { first = first; skip = false }; used = used; wrote = wrote }

@@ -1,6 +1,6 @@
 -- A line's text, its code and its fields: each way, and only one text. Assumes nothing.
 use Rattle.std.specs.Prelude.{Some, None, Option}
-use Rattle.types.proofs.Prelude.{◌≡◌, refl, sym, ap, ◌∙◌, true, List, [], ◌∷◌, ◌++◌, ℕ, zero, suc, ◌+◌, ◌<◌, ◌≤◌, arith, eqb, length, take, drop, replicate}
+use Rattle.types.proofs.Prelude.{◌≡◌, refl, sym, ap, ◌∙◌, List, [], ◌∷◌, ◌++◌, ℕ, zero, suc, ◌+◌, ◌<◌, ◌≤◌, arith, eqb, length, take, drop, replicate}
 use Rattle.types.proofs.{Prelude.eqb-true, Prelude.pick_true, Prelude.pick_false, Prelude.either, Spans.length_over}
 use lib.{ListN.take-append-drop, Seq.drop_at, Seq.take_at}
 use Rattle.types.specs.Span.{over}

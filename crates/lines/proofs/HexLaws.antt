@@ -1,10 +1,31 @@
 -- Laws of numbers in digits: what a loop over digits keeps. Assumes nothing.
 use Rattle.std.specs.Prelude.{Some, None, Option}
 use Rattle.types.proofs.Prelude.{◌≡◌, refl, sym, ap, ◌∙◌, List, ◌∷◌, ℕ, suc, ◌+◌, ◌-◌, ◌*◌, ◌<◌, ◌≤◌, ◌^◌, arith, add-one, ltb, length, drop, get_or, drop-cons}
-use Rattle.types.proofs.Prelude.{lt-ltb, le-ltb, pick_true, pick_false}
+use Rattle.types.proofs.Prelude.{lt-ltb, le-ltb, ltb-true, ltb-false, either, pick_true, pick_false}
 use native.Mathlib.Nat.{pow-suc, pow-le-pow_right}
 use Rattle.types.specs.Pick.{pick}
-use Rattle.lines.specs.{Hex.digit_of, Hex.hex_from}
+use Rattle.lines.specs.{Hex.digit_of, Hex.hex_from, stages.Codes.in_range}
+
+-- the digit that a byte is, if it is one
+abbrev digit_at : ℕ → Option ℕ
+digit_at b = in_range (ltb (digit_of b) 16) (digit_of b)
+
+pub digit_some : (b : ℕ) {d : ℕ} → Some d ≡ digit_at b → (d < 16) × (d ≡ digit_of b)
+unfolding pick
+digit_some b {d} e =
+    either (ltb (digit_of b) 16)
+    (λ t. let g : Some d ≡ Some (digit_of b) = rw t at e in let h : d ≡ digit_of b = cc in (omega (arith, ltb-true (digit_of b) 16 t), h))
+    (λ t. let g : Some d ≡ None = rw t at e in let h : ◌≡◌ {A = ℕ} 0 1 = cc in absurd (omega arith))
+
+digit_below : (b : ℕ) {d : ℕ} → d < 16 → d ≡ digit_of b → digit_of b < 16
+digit_below b h e = omega arith
+
+digit_none : (b : ℕ) → None ≡ digit_at b → 16 ≤ digit_of b
+unfolding pick
+digit_none b e =
+    either (ltb (digit_of b) 16)
+    (λ t. let g : None ≡ Some (digit_of b) = rw t at e in let h : ◌≡◌ {A = ℕ} 0 1 = cc in absurd (omega arith))
+    (λ t. ltb-false (digit_of b) 16 t)
 
 module _ (s : List ℕ) (i v : ℕ) {f : Option ℕ} (q : hex_from (length s - i) v (drop i s) ≡ f) where
   -- the next digit
@@ -17,15 +38,13 @@ module _ (s : List ℕ) (i v : ℕ) {f : Option ℕ} (q : hex_from (length s - i
       rw (a, b) refl
 
   -- the loop over digits: a digit more, no digit, and the end
-  pub hex_on : {d : ℕ} → i < length s → d ≡ digit_of (get_or s i 0) → d ≤ 15 → hex_from (length s - (i + 1)) (v * 16 + d) (drop (i + 1) s) ≡ f
-  hex_on {d} k e g =
-      let t : digit_of (get_or s i 0) < 16 = omega arith in
-      rw e (sym (pick_true _ _ _ (lt-ltb _ _ t)) ∙ sym (unroll k) ∙ q)
+  pub hex_on : {d : ℕ} → i < length s → Some d ≡ digit_at (get_or s i 0) → hex_from (length s - (i + 1)) (v * 16 + d) (drop (i + 1) s) ≡ f
+  hex_on {d} k e =
+      let g = digit_some _ e in
+      rw g.1 (sym (pick_true _ _ _ (lt-ltb _ _ (digit_below _ g.0 g.1))) ∙ sym (unroll k) ∙ q)
 
-  pub hex_bad : {d : ℕ} → i < length s → d ≡ digit_of (get_or s i 0) → 15 < d → None ≡ f
-  hex_bad {d} k e g =
-      let t : 16 ≤ digit_of (get_or s i 0) = omega arith in
-      sym (pick_false _ _ _ (le-ltb _ _ t)) ∙ sym (unroll k) ∙ q
+  pub hex_bad : i < length s → None ≡ digit_at (get_or s i 0) → None ≡ f
+  hex_bad k e = sym (pick_false _ _ _ (le-ltb _ _ (digit_none _ e))) ∙ sym (unroll k) ∙ q
 
   pub hex_end : length s ≤ i → Some v ≡ f
   unfolding hex_from

@@ -3,10 +3,10 @@ use Rattle.std.specs.Prelude.{Some, None, min}
 use Rattle.std.specs.List.{copy_within}
 use Rattle.std.proofs.lemmas.List.{drop-take}
 use Rattle.types.proofs.Prelude.{◌-◌, ◌≡◌, refl, sym, ap, ◌∙◌, Bool, true, false, false≢true, List, [], ◌∷◌, ◌++◌, append-nil, append_assoc, ℕ, suc, ◌+◌, ◌<◌, ◌≤◌}
-use Rattle.types.proofs.Prelude.{arith, add-one, eqb, ltb, leb, length, take, drop, set, get_or, length-append, length-take, length-drop, length-set, take_all}
+use Rattle.types.proofs.Prelude.{arith, add-one, eqb, ltb, leb, length, take, drop, set, length-append, length-take, length-drop, length-set, take_all}
 use Rattle.types.proofs.Prelude.{drop-drop, ltb-true, ltb-false, leb-true, leb-false, lt-leb, eqb-true, eqb-false, pick_true, pick_false, either}
-use Rattle.types.proofs.{Dones.done_as, Spans.over_after, Spans.over_span, Spans.length_over, Moves.put_turn}
-use lib.{ListN.drop_of_length-le, Seq.get_or-take, Seq.get_or-drop, Seq.take_at, Seq.take-suc-set, Seq.drop-nil, Seq.length-take-le}
+use Rattle.types.proofs.{Spans.over_span, Spans.length_over}
+use lib.{ListN.drop_of_length-le, Seq.take_at, Seq.take-suc-set, Seq.drop-nil, Seq.length-take-le}
 use Rattle.types.specs.{Span.over, Done.done}
 use Rattle.lines.specs.{Line.lf, Line.longest, Session.Held, Session.text_of, Session.session}
 use Rattle.lines.specs.Pieces.{lf_at, Run, ahead, whole_lines, close_of, piece_of, Host, Feed, fed, fed_all, whole}

@@ -3,10 +3,9 @@ use Rattle.std.specs.Prelude.{Some, None, Option, MatchOption, cond}
 use Rattle.std.specs.List.{position_or_len}
 use Rattle.std.proofs.lemmas.List.Recursion.{is_position_or_len}
 use Rattle.types.proofs.Prelude.{◌≡◌, refl, sym, ap, ◌∙◌, true, false, List, [], ◌∷◌, ◌++◌, append_assoc, append-nil, ℕ, zero, suc, ◌+◌, ◌<◌, ◌≤◌, arith, ltb}
-use Rattle.types.proofs.Prelude.{eqb, length, take, drop, get_or, length-drop, drop-cons, drop-drop, ltb-true, ltb-false, eq-eqb, ne_eqb, pick_true, pick_false}
+use Rattle.types.proofs.Prelude.{eqb, length, take, drop, length-drop, drop-drop, ltb-true, ltb-false, pick_true, pick_false}
 use Rattle.types.proofs.Prelude.{either}
 use lib.{ListN.drop_of_length-le, Seq.drop-append-add, Seq.take-length}
-use Rattle.types.specs.Pick.{pick}
 use Rattle.lines.specs.{Line.lf, Session.Held, Session.onto, Session.lines_of, Session.turn_of, Session.text_of, Session.answers_of, Session.session}
 use Rattle.lines.specs.Pieces.{lf_at, whole_lines}
 

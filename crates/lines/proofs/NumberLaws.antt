@@ -1,35 +1,17 @@
 -- Laws of what the numbers of fields stand for: each way, for every number in range. Assumes nothing.
-use Rattle.types.proofs.Prelude.{◌≡◌, refl, sym, ap, Bool, true, false, [], ◌∷◌, ℕ, zero, suc, ◌≤◌, arith, eqb, leb, ltb-true, leb-true, le-leb, eq-eqb}
-use Rattle.types.proofs.Prelude.{eqb-true, eqb-false, both_true, both_1, both_2, either}
+use Rattle.types.proofs.Prelude.{◌≡◌, refl, ap, Bool, true, false, [], ◌∷◌, ℕ, zero, suc, ◌≤◌, arith, leb, ltb-true, leb-true, le-leb, eq-eqb}
+use Rattle.types.proofs.Prelude.{both_true, both_1, both_2}
 use Prim.Native.Nat.{min}
-use lib.ListN.{get_or-eq_default}
 use Rattle.types.specs.{Pick.pick, Pick.both, Names.RefType, Names.TypedRawRef, Names.WantedMemory, Names.WantedTable}
 use Rattle.types.specs.declared.raw.RefType.TheVariants.{Func, Extern}
 use Rattle.memory.specs.Names.{LoadKind, StoreKind}
 use Rattle.memory.specs.declared.access.LoadKind.TheVariants as load
 use Rattle.memory.specs.declared.access.StoreKind.TheVariants as store
 use Rattle.lines.specs.Fields.{binary, yes, kind_of, reference_of, absent_as_zero, limit_ranges}
-use Rattle.lines.specs.Fields.{load_kinds, store_kinds, load_kind_of, store_kind_of, flag, kind_number, load_number, store_number, reference_fields, memory_fields, table_fields}
+use Rattle.lines.specs.Fields.{load_kind_of, store_kind_of, flag, kind_number, load_number, store_number, reference_fields, memory_fields, table_fields}
 use Rattle.lines.specs.stages.Codes.{memory_ranges, wanted_memory, table_ranges, wanted_table}
 use Rattle.lines.specs.Sayable.{LimitsSaid, MemorySaid}
 use Rattle.lines.proofs.Entries.{right, comes_back}
-
--- a number that is none of the first ones
-up : (k n : ℕ) → k ≤ n → (n ≡ k → ⊥) → suc k ≤ n
-up k n h e = omega arith
-
--- the last of a list stands for all numbers behind it too
-pub load_last : (n : ℕ) → (n ≡ 0 → ⊥) → (n ≡ 1 → ⊥) → (n ≡ 2 → ⊥) → (n ≡ 3 → ⊥) → (n ≡ 4 → ⊥) → (n ≡ 5 → ⊥) → (n ≡ 6 → ⊥) → (n ≡ 7 → ⊥) → (n ≡ 8 → ⊥) → (n ≡ 9 → ⊥) → (n ≡ 10 → ⊥) → (n ≡ 11 → ⊥) → (n ≡ 12 → ⊥) → load.I64From32U ≡ load_kind_of n
-unfolding load_kind_of
-load_last n n0 n1 n2 n3 n4 n5 n6 n7 n8 n9 n10 n11 n12 =
-    either (eqb n 13) (λ e. ap load_kind_of (sym (eqb-true n 13 e)))
-    (λ e. sym (get_or-eq_default load_kinds load.I64From32U (up 13 n (up 12 n (up 11 n (up 10 n (up 9 n (up 8 n (up 7 n (up 6 n (up 5 n (up 4 n (up 3 n (up 2 n (up 1 n (up 0 n (omega arith) n0) n1) n2) n3) n4) n5) n6) n7) n8) n9) n10) n11) n12) (eqb-false n 13 e))))
-
-pub store_last : (n : ℕ) → (n ≡ 0 → ⊥) → (n ≡ 1 → ⊥) → (n ≡ 2 → ⊥) → (n ≡ 3 → ⊥) → (n ≡ 4 → ⊥) → (n ≡ 5 → ⊥) → (n ≡ 6 → ⊥) → (n ≡ 7 → ⊥) → store.I64To32 ≡ store_kind_of n
-unfolding store_kind_of
-store_last n n0 n1 n2 n3 n4 n5 n6 n7 =
-    either (eqb n 8) (λ e. ap store_kind_of (sym (eqb-true n 8 e)))
-    (λ e. sym (get_or-eq_default store_kinds store.I64To32 (up 8 n (up 7 n (up 6 n (up 5 n (up 4 n (up 3 n (up 2 n (up 1 n (up 0 n (omega arith) n0) n1) n2) n3) n4) n5) n6) n7) (eqb-false n 8 e))))
 
 -- a number in range comes back
 pub load_number_lem : (n : ℕ) → n ≤ 13 → load_number (load_kind_of n) ≡ n

@@ -1,18 +1,18 @@
 -- Laws of a run over a piece: what its loop keeps, and its ways out. Assumes nothing.
-use Rattle.std.specs.Prelude.{Some, None, Option, MatchOption, Result, Ok, Err}
+use Rattle.std.specs.Prelude.{Some, None, Option, MatchOption, Ok, Err}
 use Rattle.std.specs.Option.{is_some}
 use Rattle.types.proofs.Prelude.{◌≡◌, refl, sym, ap, ◌∙◌, Bool, true, false, false≢true, List, ◌++◌, ℕ, suc, ◌+◌, ◌-◌, ◌*◌, ◌/◌, ◌<◌, ◌≤◌, arith, ltb, leb, length, take, take_all, length-take}
 use Rattle.types.proofs.Prelude.{drop, length-append, length-drop, drop-drop, ltb-true, ltb-false, lt-ltb, le-ltb, le-leb, lt-leb, pick_true, pick_false}
 use Rattle.types.proofs.{Prelude.either, Picks.pick_same, Spans.over_nil, Spans.over_over, Spans.length_over}
 use Rattle.types.specs.{Pick.pick, Pick.both, Answer.refuse, Answer.accept, Span.over, Raw.raw_bytes, Names.Answer}
 use Rattle.machine.specs.Names.{Buffers, fresh_machine, sound_over, Stepped, step, Machine, Operation}
-use Rattle.machine.specs.Words.{row_length, words_of, machine_from, in_form}
-use Rattle.lines.specs.{Line.longest, Line.line_of, Code.operation_of, Code.read_line, AnswerLine.answer_bytes, AnswerLine.answer_line}
+use Rattle.machine.specs.Words.{machine_from, in_form}
+use Rattle.lines.specs.{Line.longest, Code.read_line, AnswerLine.answer_bytes, AnswerLine.answer_line}
 use Rattle.lines.specs.Session.{Held, Turn, turned, malformed, costs_of, turn_by, turn_of, text_of}
 use Rattle.lines.specs.Pieces.{lf_at, Run, still, ahead, whole_lines, close_of, piece_of}
 use Rattle.lines.specs.Progress.{Progressed, progress_of, piece_in}
-use Rattle.lines.specs.stages.Runs.{Ran, run_of, held_on, row_with, session_as, skipping, end_of, WholeRan, closed_of}
-use Rattle.lines.specs.declared.{line.Line.Line, code.Read.Read, session.Session.Session, session.Progress.Progress}
+use Rattle.lines.specs.stages.Runs.{Ran, run_of, row_with, session_as, skipping, end_of, WholeRan, closed_of}
+use Rattle.lines.specs.declared.{code.Read.Read, session.Session.Session, session.Progress.Progress}
 use Rattle.lines.proofs.{Pieces.length_text, Pieces.piece_used}
 use Rattle.lines.specs.declared.code.Read.TheVariants as read
 

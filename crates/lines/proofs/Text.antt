@@ -1,7 +1,7 @@
 -- A line's text and what it says: each way, and only one text. A line of over 160 bytes says nothing; an answer line has 37. Assumes nothing.
 use Rattle.std.specs.Prelude.{Some, None, Option, option_and_then}
 use Rattle.types.proofs.Prelude.{◌≡◌, refl, sym, ap, ◌∙◌, Bool, true, false, List, [], ◌∷◌, ◌++◌, ℕ, zero, suc, ◌+◌, ◌^◌, ◌<◌, ◌≤◌, arith, eqb, length, take}
-use Rattle.types.proofs.Prelude.{get_or, length-append, length-take, ltb-true, leb-true, eqb-true, lt-ltb, le-leb, pick_true, pick_false, both_1, both_2, either}
+use Rattle.types.proofs.Prelude.{get_or, length-append, length-take, ltb-true, leb-true, eqb-true, lt-ltb, le-leb, pick_true, both_1, both_2}
 use Rattle.types.specs.{Pick.pick, Pick.both, Span.over, Names.Answer, Names.Fuel, Names.RefType}
 use Rattle.machine.specs.{Operation.item_field, Operation.item_fields, Operation.items_of, Names.Items, Names.Operation}
 use Rattle.lines.specs.{Hex.hex_text, Line.space, Line.lf, Line.longest, Line.line_text, Line.line_of, Line.at, Fields.kind_of, Fields.flag}

@@ -1,5 +1,5 @@
 -- Laws of writing: a number's digits, and the parts of a line one after the other. Assumes nothing.
-use Rattle.std.specs.Prelude.{Some, None, Option}
+use Rattle.std.specs.Prelude.{Some, None}
 use Rattle.types.proofs.Prelude.{◌≡◌, refl, sym, ap, ◌∙◌, true, List, [], ◌∷◌, ◌++◌, append_assoc, append-nil, ℕ, zero, suc, ◌+◌, ◌-◌, ◌*◌, ◌<◌, ◌≤◌, ◌/◌, ◌%◌}
 use Rattle.types.proofs.Prelude.{arith, add-one, length, take, set, get_or, length-append, length-take, take_all, lt-ltb, le-ltb, pick_true, pick_false}
 use Rattle.types.proofs.Spans.{over_nil, over_put, over_over, over_last}

@@ -23,6 +23,7 @@ use types::fuel::FuelCosts;
 const LONGEST: usize = 160;
 
 // Whether the next line is the first, and whether the input is inside a line that is too long already; the machine stands in a row of words.
+// Two facts, not one state: all four pairs of them occur.
 #[derive(Clone, Copy)]
 pub struct Session {
     pub first: bool,
@@ -72,6 +73,7 @@ fn make(words: &mut [u64], metering: bool, copied: u32) -> u8
 }
 
 // What a line gives: one operation, a machine made anew by the first, or 18.
+// The row and its buffers stay apart: `piece` and `row::proceed` take them one by one, and a struct would only be made and taken apart between them.
 fn turn(
     first: bool,
     words: &mut [u64],

@@ -1,6 +1,6 @@
--- For the code alone: what its functions of one code and of one type read.
-use Rattle.std.specs.Prelude.{ℕ, min, Bool, leb, ltb, Option, Some, None}
-use Rattle.types.specs.Names.{word32, pick, both, WantedMemory, WantedTable}
+-- For the code and its proofs alone: what fields stand for where they are in range.
+use Rattle.std.specs.Prelude.{ℕ, min, Bool, leb, Option, Some, None}
+use Rattle.types.specs.Names.{pick, both, WantedMemory, WantedTable}
 use Rattle.lines.specs.Fields.{binary, yes, kind_of, limit_ranges, limits_of}
 
 -- what fields stand for where they are in range
@@ -33,10 +33,6 @@ abbrev pub wanted_table : ℕ → ℕ → ℕ → ℕ → ℕ → WantedTable
 wanted_table kind wide bounded minimum maximum =
     record { element = kind_of kind; wide = yes wide; limits = limits_of bounded minimum maximum }
 
--- the ranges of a machine's making
-abbrev pub making_ranges : ℕ → ℕ → Bool
-making_ranges metering copied = both (ltb copied word32) (binary metering)
-
--- those of a segment
+-- the ranges of a segment
 abbrev pub segment_ranges : ℕ → ℕ → Bool
 segment_ranges kind count = both (leb count 4) (binary kind)

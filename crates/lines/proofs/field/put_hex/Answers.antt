@@ -1,4 +1,4 @@
-use Rattle.types.proofs.Prelude.{arith, rules}
+use Rattle.types.proofs.Prelude.{rules}
 use Rattle.lines.proofs.Writing.{put_on, put_end}
 use Rattle.lines.proofs.field.put_hex.Goals as goal
 

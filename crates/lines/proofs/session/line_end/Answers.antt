@@ -1,4 +1,4 @@
-use Rattle.types.proofs.Prelude.{eqb, ℕ, rules}
+use Rattle.types.proofs.Prelude.{eqb, rules}
 use Rattle.std.proofs.Common.{tests}
 use Rattle.std.proofs.lemmas.Iterator.{YieldsList-from_slice}
 use Rattle.std.proofs.lemmas.Iterator.Search.{position_from_yields_List}

@@ -1,5 +1,5 @@
 use Rattle.std.specs.Prelude.{Some}
-use Rattle.types.proofs.Prelude.{◌≡◌, ◌∙◌, ap, refl, arith, true}
+use Rattle.types.proofs.Prelude.{◌≡◌, ◌∙◌, ap, refl, arith}
 use Rattle.machine.specs.{Words.machine_from, Machine.buffers}
 use Rattle.lines.specs.declared.code.Read.{Read}
 use Rattle.lines.specs.declared.code.Read.TheVariants as read
