@@ -33,6 +33,7 @@ fn digits_of(field: u64) -> [u8; LONGEST_SCRIPT]
 {
     let mut row = [0u8; LONGEST_SCRIPT];
     let mut rest = field;
+    // By index: a proof knows a row written by `iter_mut` by its length alone.
     for i in 0..LONGEST_SCRIPT {
         row[LONGEST_SCRIPT - 1 - i] = (rest % 16) as u8;
         rest /= 16;

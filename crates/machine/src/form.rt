@@ -30,6 +30,7 @@ fn records_in_form<R: Record>(words: &[u64]) -> bool
     ensures { result ≡ all_at R.in_form R.WIDTH words.now R.PLACE capacity }
 {
     let mut fine = true;
+    // Not `all`, which stops at the first that is out of form, a branch each.
     for i in 0..CAPACITY {
         fine &= R::in_form(words, R::PLACE + R::WIDTH * i);
     }
@@ -41,6 +42,7 @@ fn script_in_form(words: &[u64]) -> bool
     ensures { result ≡ all_at answer_at 1 words.now script_at longest_script }
 {
     let mut fine = true;
+    // Not `all`, as above.
     for i in 0..LONGEST_SCRIPT {
         fine &= words[SCRIPT + i] <= 2;
     }

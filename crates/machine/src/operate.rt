@@ -1,4 +1,6 @@
 // What one operation on a machine gives back: 18, 19, then 16 or 17, then the operation's own checks.
+#![tactic(auto, using(types::proofs::Picks::cases), unfolding(crate::specs::Step::perform, crate::specs::Step::decide))]
+
 ghost use Rattle.std.specs.Prelude.{◌≡◌, ◌≤◌, length};
 ghost use Rattle.types.specs.Raw.{raw_bytes};
 ghost use Rattle.machine.specs.Machine.{buffers};

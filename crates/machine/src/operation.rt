@@ -19,7 +19,7 @@ pub struct Script {
     pub digits: u64,
 }
 
-// The items of a segment: so many of these four.
+// The items of a segment: so many of these four. Four fields, since the crates that read and write operations and `items_of` name each.
 #[derive(Clone, Copy)]
 pub struct Items {
     pub count: u64,
@@ -165,7 +165,7 @@ fn memory_well_formed(op: MemoryOp) -> bool
     }
 }
 
-// What an operation may write to a row besides the numbers in use, fuel and the script's place.
+// A value and no closure, since `writes_of` promises it: what an operation may write to a row besides the numbers in use, fuel and the script's place.
 #[derive(Clone, Copy)]
 pub enum Writes {
     Nothing,

@@ -128,7 +128,7 @@ fn settle(words: &mut [u64], outcome: Outcome, writes: Writes)
     }
 }
 
-// The operation's own checks, and what it changed.
+// The operation's own checks, and what it changed. The four slices go one by one, as `proceed` and `operate` take them and their promises name them.
 fn go(
     words: &mut [u64],
     bytes: &mut [u8],
@@ -198,7 +198,7 @@ pub fn is_ready(words: &[u64], bytes: usize, cells: usize, items: usize) -> bool
     form::in_form(words) && sound::is_sound(words, bytes, cells, items)
 }
 
-// A fresh machine in place: 0, or 19 where the row is too short.
+// A fresh machine in place: 0, or 19 where the row is too short. A number, since `fresh_row` promises one and the C interface answers it as it is.
 pub fn fresh(words: &mut [u64], metering: bool, costs: FuelCosts) -> u8
     ensures { rowed result words.new ≡ fresh_row words.old metering costs }
 {

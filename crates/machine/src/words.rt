@@ -77,6 +77,7 @@ fn put_bytes(words: &mut [u64], at: usize, row: &[u8])
     requires { at + length row.now ≤ length words.old }
     ensures { words.new ≡ over words.old at row.now }
 {
+    // By index: once an `iter_mut` is over, a proof knows the row's length alone.
     for i in 0..row.len() {
         words[at + i] = u64::from(row[i]);
     }
@@ -185,6 +186,7 @@ fn script_from(words: &[u64]) -> [u8; LONGEST_SCRIPT]
     ensures { result ≡ (limiter_from words.now).script }
 {
     let mut script = [0u8; LONGEST_SCRIPT];
+    // By index, as in `put_bytes`.
     for i in 0..LONGEST_SCRIPT {
         script[i] = (words[SCRIPT + i] % 256) as u8;
     }
