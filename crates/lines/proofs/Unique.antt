@@ -3,6 +3,8 @@ use Rattle.std.specs.Prelude.{Option}
 use Rattle.types.proofs.Prelude.{sym, ◌∙◌, ap, Bool, List, ℕ}
 use Rattle.types.proofs.One.{One, OneWith}
 use Rattle.types.specs.Done.{Done}
+use Rattle.lines.proofs.line.no_line.Reads as no_line_reads
+use Rattle.lines.proofs.line.no_line.Kinds as no_line_kinds
 use Rattle.lines.proofs.code.operation_of.Reads as operation_of_reads
 use Rattle.lines.proofs.code.operation_of.Kinds as operation_of_kinds
 use Rattle.lines.proofs.code.read_line.Reads as read_line_reads
@@ -23,6 +25,9 @@ use Rattle.lines.proofs.input.keep.Reads as keep_reads
 use Rattle.lines.proofs.input.keep.Kinds as keep_kinds
 use Rattle.lines.proofs.input.end_line.Reads as end_line_reads
 use Rattle.lines.proofs.input.end_line.Kinds as end_line_kinds
+
+pub no_line_one : One 0 no_line_kinds.ps no_line_kinds.r no_line_reads.Pre no_line_reads.Post
+no_line_one κs a x x' s s' z p q = p ∙ sym q
 
 pub operation_of_one : One 0 operation_of_kinds.ps operation_of_kinds.r operation_of_reads.Pre operation_of_reads.Post
 operation_of_one κs a x x' s s' z p q = p ∙ sym q

@@ -32,6 +32,10 @@ fields_of zero (b ∷ l) = None
 fields_of (suc n) [] = Some []
 fields_of (suc n) (b ∷ l) = pick (eqb b space) (then_field (hex_from 16 0 l) (fields_of n (drop 16 l))) None
 
+-- what a text that is no line is read as: nothing
+abbrev pub no_line : Option Line
+no_line = None
+
 -- a code, and fields behind it, as numbers: the code, how many fields, and the fields with zeros behind them
 unfoldable pub coded : Option ℕ → Option (List ℕ) → Option Line
 coded None g = None

@@ -3,7 +3,7 @@ ghost use Rattle.std.specs.Prelude.{◌+◌, ◌*◌, ◌≤◌, ◌≡◌, leng
 ghost use Rattle.types.specs.Done.{done};
 ghost use Rattle.types.specs.Span.{over};
 ghost use Rattle.lines.specs.stages.Back.{filled};
-ghost use Rattle.lines.specs.Line.{most_fields, fields_of, line_of, fields_text, line_text, wrote_of};
+ghost use Rattle.lines.specs.Line.{most_fields, no_line, fields_of, line_of, fields_text, line_text, wrote_of};
 
 use super::field;
 
@@ -24,6 +24,13 @@ pub struct Line {
     pub count: usize,
     // The fields, and zeros behind them.
     pub list: [u64; MOST_FIELDS],
+}
+
+// What a text that is no line is read as, by a name that docs/PROMISES.md has a law of (`no_line_one`).
+pub fn no_line() -> Option<Line>
+    ensures { result ≡ no_line }
+{
+    None
 }
 
 // The fields behind a line's code.

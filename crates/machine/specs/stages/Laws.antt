@@ -1,5 +1,6 @@
 -- The laws that each kind of record keeps for the functions over any kind. Assumes nothing.
-use Rattle.types.proofs.Prelude.{ℕ, ◌+◌, ◌*◌, ◌≤◌, ◌≡◌, refl, true, List, length, arith, both_1, both_2, leb-true}
+use Rattle.std.specs.Prelude.{ℕ, ◌+◌, ◌*◌, ◌≤◌, ◌≡◌, true, List, length}
+use Rattle.types.proofs.Prelude.{refl, arith, both_1, both_2, leb-true}
 use Rattle.memory.specs.{Memory.sound_memory, declared.memory.Memory.Memory}
 use Rattle.memory.proofs.Sounds.{sound_is}
 use Rattle.table.specs.{Table.sound_table, Element.sound_segment, declared.table.Table.Table, declared.element.ElementSegment.ElementSegment}
