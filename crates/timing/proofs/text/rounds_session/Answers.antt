@@ -1,4 +1,3 @@
-use Rattle.std.specs.Prelude.{Ok}
 use Rattle.types.proofs.Prelude.{sym, ap, ◌∙◌, true, List, ℕ, replicate}
 use Rattle.types.specs.{Fuel.default_costs, declared.fuel.FuelCosts.FuelCosts}
 use Rattle.machine.specs.{Machine.buffers, Row.Rowed, Row.fresh_row}
