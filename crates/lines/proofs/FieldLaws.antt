@@ -40,7 +40,7 @@ filled_then c n v list (Some l) h =
 
 -- the digits of a part, as the code cuts them
 abbrev digits : List ℕ → List ℕ
-digits p = take (length p - 1) (drop 1 p)
+digits p = take 16 (drop 1 p)
 
 -- the fields of a text that begins with a part
 at_part : (n : ℕ) (p y : List ℕ) → n < 8 → 0 < length p → fields_of (8 - n) (p ++ y)
@@ -83,7 +83,7 @@ module _ (c n : ℕ) (p y list : List ℕ) {r : Option Line} (w : 0 < length p) 
     field_at : {f : Option ℕ} → f ≡ hex_from (length (digits p)) 0 (digits p) → fields_of (8 - n) (p ++ y) ≡ then_field f (fields_of (8 - (n + 1)) y)
     field_at d =
         let a : length (drop 1 p) ≡ 16 = omega (arith, length-drop 1 p) in
-        let z : digits p ≡ drop 1 p = take_all (length p - 1) (drop 1 p) (omega (arith, length-drop 1 p)) in
+        let z : digits p ≡ drop 1 p = take_all 16 (drop 1 p) (omega arith) in
         let x : hex_from 16 0 (drop 1 p ++ y) ≡ hex_from (length (digits p)) 0 (digits p) =
         ap (λ (n : ℕ). hex_from n 0 (drop 1 p ++ y)) (sym a) ∙ hex_more 0 (drop 1 p) y ∙ ap (λ (l : List ℕ). hex_from (length l) 0 l) (sym z) in
         at_part n p y h w ∙ pick_true _ _ _ (eq-eqb _ _ e) ∙ rw (x, ← d, drop_at (drop 1 p) y 16 a) refl

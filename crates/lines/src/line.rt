@@ -43,7 +43,7 @@ fn read_fields(code: u64, s: &[u8]) -> Option<Line>
         if count == MOST_FIELDS || part.len() < FIELD || part[0] != SPACE {
             return None;
         }
-        list[count] = field::hex(&part[1..])?;
+        list[count] = field::hex(&part[1..FIELD])?;
         count += 1;
     }
     Some(Line { code, count, list })

@@ -66,8 +66,7 @@ fn make(words: &mut [u64], metering: bool, copied: u32) -> u8
         metering,
         FuelCosts {
             copied,
-            translated: 7,
-            validated: 2,
+            ..FuelCosts::default_costs()
         },
     )
 }
@@ -136,6 +135,7 @@ fn whole_lines(
     let mut first = begun;
     let mut used = from;
     let mut wrote = put;
+    // both places move by what a line takes and gives, so that no iterator counts them
     while ANSWER <= out.len() - wrote {
         let Some(n) = line_end(&input[used..]) else {
             return stopped(first, used, wrote);
