@@ -7,7 +7,7 @@ use types::answer::{Answer, Value, number, shown};
 // What an operation that gives no value answers.
 pub(crate) const DONE: Answer = Ok(Value::Number(0));
 
-// A memory or a table, with its cells.
+// A memory or a table, with its cells: what each kind says in its own way.
 pub(crate) trait Subject {
     // What a word asks for with these numbers, or nothing.
     fn act(&mut self, means: &mut Means, word: &[u8], numbers: &[u64]) -> Option<Answer>;

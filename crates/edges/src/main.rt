@@ -17,6 +17,7 @@ use std::io;
 use std::io::Read;
 use tables::TableCase;
 
+// Which of the two is read: neither is a value that may be missing.
 #[derive(Clone, Copy)]
 enum Section {
     Memory(Cases<MemoryCase>),

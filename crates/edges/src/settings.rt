@@ -35,8 +35,7 @@ impl Means {
                 enabled: metering != 0,
                 costs: FuelCosts {
                     copied: u32::try_from(per_unit).unwrap_or(u32::MAX),
-                    translated: 7,
-                    validated: 2,
+                    ..FuelCosts::default_costs()
                 },
             },
             limiter: over.limiter,

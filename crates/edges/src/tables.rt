@@ -21,7 +21,7 @@ pub(crate) struct TableCase {
     items: [u64; 5],
 }
 
-// 0 is functions.
+// A number of the script: 0 is functions, and any other is not refused, as a conversion would.
 fn kind(n: u64) -> RefType {
     if n == 0 {
         RefType::Func
@@ -80,7 +80,7 @@ impl TableCase {
         }
     }
 
-    // A creation that is refused leaves no cells in use.
+    // A creation that is refused leaves no cells in use. Each parameter is a word's number: a struct of them would be made here alone.
     fn create(
         &mut self,
         means: &mut Means,

@@ -17,7 +17,7 @@ use machine::records::{Counts, Machine};
 use memory::memory::Memory;
 use table::element::ElementSegment;
 use table::table::Table;
-use types::answer::{Answer, Refusal};
+use types::answer::{Answer, Reason, Refusal};
 use types::fuel::Fuel;
 use types::limiter::Limiter;
 
@@ -60,8 +60,12 @@ fn machine_of(
 fn unfit(op: Operation) -> Answer
     ensures { result ≡ unfit op }
 {
-    let number = if op.is_well_formed() { 19 } else { 18 };
-    Err(Refusal { number, amount: 0 })
+    let reason = if op.is_well_formed() {
+        Reason::Unsound
+    } else {
+        Reason::Malformed
+    };
+    Err(Refusal::from(reason))
 }
 
 // The record that changed goes to its place.

@@ -17,7 +17,7 @@ impl fmt::Display for Hex<'_> {
     }
 }
 
-// The cells of a record in their buffer, which has them all on every machine that a session makes.
+// The cells of a record in their buffer, which has them all on every machine of a replay.
 fn cells_of<T>(buffer: &[T], start: usize, size: u64) -> io::Result<&[T]> {
     let rest = buffer.get(start..).unwrap_or(&[]);
     rest.get(..size as usize)

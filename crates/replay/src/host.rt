@@ -27,7 +27,7 @@ impl Host {
         }
     }
 
-    // One line; 00 makes the machine anew, on the first line alone.
+    // One line; 00 makes the machine anew, on the first line alone: `first` is what a line may say, not which code runs.
     fn run(&mut self, line: &[u8], first: bool) -> Answer {
         match read_line(line) {
             Some(Read::Operation(op)) => {

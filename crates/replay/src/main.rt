@@ -13,8 +13,7 @@ use host::Host;
 use std::io;
 use std::io::Read;
 
-// Reads until the row is full or the input ends; answers how many bytes came, which `read_exact` would lose. `edges` has it too, since no
-// library stands below both programs.
+// Reads until the row is full or the input ends; answers how many bytes came, which `read_exact` would lose. `edges` has it too: no library stands below both.
 fn read_full(from: &mut impl Read, row: &mut [u8]) -> io::Result<usize>
     ensures { IfOk result (λ n. n ≤ length row.new) }
 {

@@ -56,6 +56,7 @@ impl Host {
     // All whole lines; answers how many bytes they are.
     pub(crate) fn answer(&mut self, rt: &impl Print, input: &[u8]) -> Result<usize, Failure> {
         let mut rest = input;
+        // Not a `for`: a piece takes as many lines as their answers have room for.
         while !rest.is_empty() {
             match self.piece(rt, rest)? {
                 0 => break,

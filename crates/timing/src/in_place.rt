@@ -29,7 +29,7 @@ fn once(
     }
 }
 
-// So many rounds of what a line says; what is no operation does nothing.
+// So many rounds of what a line says; what is no operation does nothing. The parameters are the export's.
 fn repeat(
     words: &mut [u64],
     bytes: &mut [u8],

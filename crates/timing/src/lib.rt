@@ -1,4 +1,4 @@
-// Exports for the benches only: each builds the records of one operation from numbers, and leaves what a host would keep.
+// Exports for the benches only: each builds the records of one operation from numbers, which are C's parameters, and leaves what a host would keep.
 #![tactic(auto, unfolding(crate::specs::Timing::page_of, crate::specs::Timing::memory_of, crate::specs::Timing::fuel_of, crate::specs::Timing::table_of, crate::specs::Timing::ref_of, crate::specs::Timing::segment_of, crate::specs::Timing::step_number, crate::specs::Timing::step_left))]
 
 pub mod in_place;
@@ -37,7 +37,7 @@ const NO_LIMITS: Limits = Limits {
     maximum: 0,
 };
 
-// A memory at the start of its buffer, with no maximum.
+// A memory at the start of its buffer, with no maximum. The two flags come from C.
 fn memory_of(wide: bool, wasm: bool, room: u64, size: u64) -> Memory
     ensures { result ≡ memory_of wide wasm room size }
 {
@@ -62,8 +62,7 @@ fn fuel_of(metered: bool, remaining: u64, per_unit: u32) -> Fuel
         enabled: metered,
         costs: FuelCosts {
             copied: per_unit,
-            translated: 7,
-            validated: 2,
+            ..FuelCosts::default_costs()
         },
     }
 }

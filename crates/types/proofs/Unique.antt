@@ -61,8 +61,8 @@ use Rattle.types.proofs.index_ty.IndexType.of.Reads as index_type_of_reads
 use Rattle.types.proofs.index_ty.IndexType.of.Kinds as index_type_of_kinds
 use Rattle.types.proofs.index_ty.IndexType.is_64.Reads as index_type_is_64_reads
 use Rattle.types.proofs.index_ty.IndexType.is_64.Kinds as index_type_is_64_kinds
-use Rattle.types.proofs.index_ty.IndexTypePartialEq.eq.Reads as index_type_same_reads
-use Rattle.types.proofs.index_ty.IndexTypePartialEq.eq.Kinds as index_type_same_kinds
+use Rattle.types.proofs.index_ty.IndexType.same.Reads as index_type_same_reads
+use Rattle.types.proofs.index_ty.IndexType.same.Kinds as index_type_same_kinds
 use Rattle.types.proofs.index_ty.IndexType.min.Reads as index_type_min_reads
 use Rattle.types.proofs.index_ty.IndexType.min.Kinds as index_type_min_kinds
 use Rattle.types.proofs.index_ty.IndexType.max_size.Reads as index_type_max_size_reads
@@ -79,8 +79,8 @@ use Rattle.types.proofs.memory_ty.PageSize.page_size_log2.Reads as page_size_pag
 use Rattle.types.proofs.memory_ty.PageSize.page_size_log2.Kinds as page_size_page_size_log2_kinds
 use Rattle.types.proofs.memory_ty.PageSize.page_size.Reads as page_size_page_size_reads
 use Rattle.types.proofs.memory_ty.PageSize.page_size.Kinds as page_size_page_size_kinds
-use Rattle.types.proofs.memory_ty.PageSizePartialEq.eq.Reads as page_size_same_reads
-use Rattle.types.proofs.memory_ty.PageSizePartialEq.eq.Kinds as page_size_same_kinds
+use Rattle.types.proofs.memory_ty.PageSize.same.Reads as page_size_same_reads
+use Rattle.types.proofs.memory_ty.PageSize.same.Kinds as page_size_same_kinds
 use Rattle.types.proofs.memory_ty.PageSize.byte_size.Reads as page_size_byte_size_reads
 use Rattle.types.proofs.memory_ty.PageSize.byte_size.Kinds as page_size_byte_size_kinds
 use Rattle.types.proofs.memory_ty.MemoryType.build.Reads as memory_type_build_reads
@@ -99,8 +99,8 @@ use Rattle.types.proofs.memory_ty.MemoryType.is_subtype_of.Reads as memory_type_
 use Rattle.types.proofs.memory_ty.MemoryType.is_subtype_of.Kinds as memory_type_is_subtype_of_kinds
 use Rattle.types.proofs.memory_ty.MemoryType.dynamic_ty.Reads as memory_type_dynamic_ty_reads
 use Rattle.types.proofs.memory_ty.MemoryType.dynamic_ty.Kinds as memory_type_dynamic_ty_kinds
-use Rattle.types.proofs.raw.RefTypePartialEq.eq.Reads as ref_type_same_reads
-use Rattle.types.proofs.raw.RefTypePartialEq.eq.Kinds as ref_type_same_kinds
+use Rattle.types.proofs.raw.RefType.same.Reads as ref_type_same_reads
+use Rattle.types.proofs.raw.RefType.same.Kinds as ref_type_same_kinds
 use Rattle.types.proofs.raw.RawRef.null.Reads as raw_ref_null_reads
 use Rattle.types.proofs.raw.RawRef.null.Kinds as raw_ref_null_kinds
 use Rattle.types.proofs.raw.RawRef.is_null.Reads as raw_ref_is_null_reads
@@ -220,7 +220,7 @@ index_type_of_one κs a x x' s s' z p q = p ∙ sym q
 pub index_type_is_64_one : One 0 index_type_is_64_kinds.ps index_type_is_64_kinds.r index_type_is_64_reads.Pre index_type_is_64_reads.Post
 index_type_is_64_one κs a x x' s s' z p q = p ∙ sym q
 
-pub index_type_same_one : One 2 index_type_same_kinds.ps index_type_same_kinds.r index_type_same_reads.Pre index_type_same_reads.Post
+pub index_type_same_one : One 0 index_type_same_kinds.ps index_type_same_kinds.r index_type_same_reads.Pre index_type_same_reads.Post
 index_type_same_one κs a x x' s s' z p q = p ∙ sym q
 
 pub index_type_min_one : One 0 index_type_min_kinds.ps index_type_min_kinds.r index_type_min_reads.Pre index_type_min_reads.Post
@@ -247,7 +247,7 @@ page_size_page_size_log2_one κs a x x' s s' z p q = p ∙ sym q
 pub page_size_page_size_one : One 0 page_size_page_size_kinds.ps page_size_page_size_kinds.r page_size_page_size_reads.Pre page_size_page_size_reads.Post
 page_size_page_size_one κs a x x' s s' z p q = p ∙ sym q
 
-pub page_size_same_one : One 2 page_size_same_kinds.ps page_size_same_kinds.r page_size_same_reads.Pre page_size_same_reads.Post
+pub page_size_same_one : One 0 page_size_same_kinds.ps page_size_same_kinds.r page_size_same_reads.Pre page_size_same_reads.Post
 page_size_same_one κs a x x' s s' z p q = p ∙ sym q
 
 pub page_size_byte_size_one : One 0 page_size_byte_size_kinds.ps page_size_byte_size_kinds.r page_size_byte_size_reads.Pre page_size_byte_size_reads.Post
@@ -277,7 +277,7 @@ memory_type_is_subtype_of_one κs a x x' s s' z p q = p ∙ sym q
 pub memory_type_dynamic_ty_one : One 0 memory_type_dynamic_ty_kinds.ps memory_type_dynamic_ty_kinds.r memory_type_dynamic_ty_reads.Pre memory_type_dynamic_ty_reads.Post
 memory_type_dynamic_ty_one κs a x x' s s' z p q = p ∙ sym q
 
-pub ref_type_same_one : One 2 ref_type_same_kinds.ps ref_type_same_kinds.r ref_type_same_reads.Pre ref_type_same_reads.Post
+pub ref_type_same_one : One 0 ref_type_same_kinds.ps ref_type_same_kinds.r ref_type_same_reads.Pre ref_type_same_reads.Post
 ref_type_same_one κs a x x' s s' z p q = p ∙ sym q
 
 pub raw_ref_null_one : One 0 raw_ref_null_kinds.ps raw_ref_null_kinds.r raw_ref_null_reads.Pre raw_ref_null_reads.Post

@@ -57,7 +57,7 @@ pub fn grant_creation(limiter: Limiter, fits: bool) -> Asked
     tell(asked.limiter, Refusal::from(Reason::RoomTooSmall))
 }
 
-// Whether a growth may go on: the limiter's question, the maximum, the fuel step, the room.
+// Whether a growth may go on: the limiter's question, the maximum, the fuel step, the room. `admits` and `fits` are tests' answers: no code hangs on them but the refusals.
 pub fn grant_growth(limiter: Limiter, fuel: Fuel, admits: bool, price: u64, fits: bool) -> Growth
     ensures { result ≡ grant_growth limiter fuel admits price fits }
 {
@@ -83,7 +83,7 @@ pub fn grant_growth(limiter: Limiter, fuel: Fuel, admits: bool, price: u64, fits
     }
 }
 
-// Whether a span operation may go on: its bounds, then the fuel step.
+// Whether a span operation may go on: its bounds, then the fuel step. The number stays a number: `grant_span` promises what it does of any.
 pub fn grant_span(fuel: Fuel, in_bounds: bool, number: u8, price: u64) -> Result<Fuel, Refusal>
     ensures { result ≡ grant_span fuel in_bounds number price }
 {

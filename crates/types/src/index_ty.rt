@@ -2,7 +2,7 @@
 #![tactic(auto, using(crate::proofs::Picks::cases), unfolding(crate::specs::Wide::halves))]
 
 ghost use Rattle.std.specs.Prelude.{◌≡◌};
-ghost use Rattle.types.specs.IndexType.{is64, index_of, smaller, max_size};
+ghost use Rattle.types.specs.IndexType.{is64, index_of, same_index, smaller, max_size};
 ghost use Rattle.types.specs.Wide.{halves};
 
 use super::wide::{WORD32, Wide};
@@ -32,7 +32,13 @@ impl IndexType {
         matches!(self, IndexType::I64)
     }
 
-    // The smaller of two index types.
+    pub fn same(self, other: IndexType) -> bool
+        ensures { result ≡ same_index self other }
+    {
+        self == other
+    }
+
+    // The smaller of two index types: a name of its own, for its law (`index_type_min_one`).
     pub fn min(self, other: IndexType) -> IndexType
         ensures { result ≡ smaller self other }
     {

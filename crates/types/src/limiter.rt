@@ -71,7 +71,7 @@ impl Limiter {
         }
     }
 
-    // One question, with the number that a no stands for.
+    // One question, with the number that a no stands for: any number, as `ask` promises.
     pub fn ask(self, deny: u8) -> Asked
         ensures { result ≡ ask self deny }
     {

@@ -2,7 +2,7 @@
 #![tactic(auto, using(crate::proofs::Picks::cases, crate::proofs::Sizes::sizes, crate::proofs::Built::built, crate::proofs::Halves::halved), unfolding(crate::specs::Wide::halves, crate::specs::MemoryType::page_bound, crate::specs::MemoryType::valid_memory, crate::specs::MemoryType::validated, crate::specs::MemoryType::byte_size, crate::specs::MemoryType::minimum_bytes, crate::specs::MemoryType::maximum_bytes, crate::specs::MemoryType::match_memory, crate::specs::MemoryType::dynamic_memory))]
 
 ghost use Rattle.std.specs.Prelude.{◌≡◌, ◌*◌};
-ghost use Rattle.types.specs.MemoryType.{log2_of, page_bytes, page_bound, memory_type, valid_memory, build_memory, validated, byte_size, minimum_bytes, maximum_bytes, match_memory, dynamic_memory};
+ghost use Rattle.types.specs.MemoryType.{log2_of, page_bytes, page_bound, memory_type, valid_memory, build_memory, validated, byte_size, minimum_bytes, maximum_bytes, match_memory, dynamic_memory, same_page};
 ghost use Rattle.types.specs.Wide.{halves};
 
 use super::answer::{Reason, Refusal};
@@ -27,6 +27,7 @@ pub struct MemoryType {
 // A memory type that is asked for, before it is built.
 #[derive(Clone, Copy)]
 pub struct WantedMemory {
+    // A yes/no field, as a line has it; `IndexType::of` reads it where the type is built.
     pub wide: bool,
     pub limits: Limits,
     pub exponent: u8,
@@ -46,6 +47,12 @@ impl PageSize {
         ensures { result ≡ page_bytes self }
     {
         1 << self.page_size_log2()
+    }
+
+    pub fn same(self, other: PageSize) -> bool
+        ensures { result ≡ same_page self other }
+    {
+        self == other
     }
 
     // The bytes of a number of pages.

@@ -2,12 +2,20 @@
 #![tactic(auto, unfolding(crate::specs::Raw::raw_bytes))]
 
 ghost use Rattle.std.specs.Prelude.{◌≡◌};
-ghost use Rattle.types.specs.Raw.{null_ref, is_null, null_of, typed_of, raw_bytes};
+ghost use Rattle.types.specs.Raw.{null_ref, is_null, null_of, typed_of, same_kind, raw_bytes};
 
 #[derive(Clone, Copy, PartialEq, Eq)]
 pub enum RefType {
     Func,
     Extern,
+}
+
+impl RefType {
+    pub fn same(self, other: RefType) -> bool
+        ensures { result ≡ same_kind self other }
+    {
+        self == other
+    }
 }
 
 #[derive(Clone, Copy, PartialEq, Eq)]

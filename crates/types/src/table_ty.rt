@@ -22,6 +22,7 @@ pub struct TableType {
 #[derive(Clone, Copy)]
 pub struct WantedTable {
     pub element: RefType,
+    // As `WantedMemory` has it.
     pub wide: bool,
     pub limits: Limits,
 }
@@ -39,7 +40,7 @@ impl TableType {
         ty.validated()
     }
 
-    // This type where it is valid, or refusal 1.
+    // This type where it is valid, or refusal 1; of its own, as `MemoryType::validated` says.
     pub fn validated(self) -> Result<TableType, Refusal>
         ensures { result ≡ validated self }
     {
