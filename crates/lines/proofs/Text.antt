@@ -1,5 +1,5 @@
 -- A line's text and what it says: each way, and only one text. A line of over 160 bytes says nothing; an answer line has 37. Assumes nothing.
-use Rattle.std.specs.Prelude.{Some, None, Option, option_and_then}
+use Rattle.std.specs.Prelude.{Some, None, Option}
 use Rattle.types.proofs.Prelude.{◌≡◌, refl, sym, ap, ◌∙◌, Bool, true, false, List, [], ◌∷◌, ◌++◌, ℕ, zero, suc, ◌+◌, ◌^◌, ◌<◌, ◌≤◌, arith, eqb, length, take}
 use Rattle.types.proofs.Prelude.{get_or, length-append, length-take, ltb-true, leb-true, eqb-true, lt-ltb, le-leb, pick_true, both_1, both_2}
 use Rattle.types.specs.{Pick.pick, Pick.both, Span.over, Names.Answer, Names.Fuel, Names.RefType}
@@ -38,7 +38,7 @@ module _ (k : RefType) (a b c d : ℕ) where
   some_items n = record { count = n; first = a; second = b; third = c; fourth = d }
 
   abbrev Says : ℕ → Type 0
-  Says n = item_fields (some_items n) ≡ true → operation_of (back_of (op.NewSegment k (some_items n))) ≡ Some (read.Operation (op.NewSegment k (some_items n)))
+  Says n = item_fields (some_items n) ≡ true → operation_of (Some (back_of (op.NewSegment k (some_items n)))) ≡ Some (read.Operation (op.NewSegment k (some_items n)))
 
   -- at most 4, and zeros past them
   items_few : (n : ℕ) → item_fields (some_items n) ≡ true → (n ≤ 4) × (n ≤ 0 → a ≡ 0) × (n ≤ 1 → b ≡ 0) × (n ≤ 2 → c ≡ 0) × (n ≤ 3 → d ≡ 0)
@@ -62,7 +62,7 @@ module _ (k : RefType) (a b c d : ℕ) where
       h
 
 -- an operation's numbers say it
-says : (o : Operation) → Said o → operation_of (back_of o) ≡ Some (read.Operation o)
+says : (o : Operation) → Said o → operation_of (Some (back_of o)) ≡ Some (read.Operation o)
 unfolding operation_of by_code taken back_of numbers_of with_fields over pick both Said
 says (op.Fuel (fuel.SetFuel amount)) h = refl
 says (op.Fuel fuel.GetFuel) h = refl
@@ -85,20 +85,20 @@ says (op.TableInit table segment span) h = refl
 says (op.DropSegment segment) h = refl
 says (op.NewSegment k i) h = segment_says k i.first i.second i.third i.fourth i.count h
 
-making_says : (m : Bool) (b : ℕ) → b < 2 ^ 32 → operation_of (making_back m b) ≡ Some (read.Making m b)
+making_says : (m : Bool) (b : ℕ) → b < 2 ^ 32 → operation_of (Some (making_back m b)) ≡ Some (read.Making m b)
 unfolding operation_of by_code taken making_back with_fields over pick both
 making_says m b h = rw (lt-ltb b (2 ^ 32) h, (flag_said m).0, (flag_said m).1) refl
 
 -- the way there: what is written is read as what was meant
 pub read_write : (o : Operation) → Sayable o → read_line (write_line o) ≡ Some (read.Operation o)
 unfolding read_line write_line back_of Sayable
-read_write o h = ap (option_and_then operation_of) (line_write (numbers_of o).code (numbers_of o).fields (few o).0 (few o).1 h.0) ∙ says o h.1
+read_write o h = ap operation_of (line_write (numbers_of o).code (numbers_of o).fields (few o).0 (few o).1 h.0) ∙ says o h.1
 
 pub making_write : (m : Bool) (b : ℕ) → b < 2 ^ 32 → read_line (write_making m b) ≡ Some (read.Making m b)
 unfolding read_line write_making making_back Small
 making_write m b h =
     let t : flag m < 2 = ltb-true (flag m) 2 (flag_said m).0 in
-    ap (option_and_then operation_of) (line_write 0 (flag m ∷ b ∷ []) (omega arith) (omega arith) (omega arith, (omega arith, tt))) ∙ making_says m b h
+    ap operation_of (line_write 0 (flag m ∷ b ∷ []) (omega arith) (omega arith) (omega arith, (omega arith, tt))) ∙ making_says m b h
 
 -- a list of 8, by its elements
 abbrev all : Line → List ℕ
@@ -190,7 +190,7 @@ unique : (l : List ℕ) (r : Read) → read_line l ≡ Some r → l ≡ written 
 unfolding read_line operation_of
 unique l r q = from_line (line_of l) refl q
   where
-    from_line : (o : Option Line) → line_of l ≡ o → option_and_then operation_of o ≡ Some r → l ≡ written r
+    from_line : (o : Option Line) → line_of l ≡ o → operation_of o ≡ Some r → l ≡ written r
     from_line None e q = let z : ◌≡◌ {A = ℕ} 0 1 = cc in absurd (omega arith)
     from_line (Some w) e q = from_code l w r (line_read l w e) q
 
@@ -204,10 +204,10 @@ making_unique l m b q = unique l (read.Making m b) q
 
 -- a line of over 160 bytes says nothing
 pub long_malformed : (l : List ℕ) → longest < length l → read_line l ≡ None
-unfolding read_line
+unfolding read_line operation_of
 long_malformed l h = nothing (line_of l) refl
   where
-    nothing : (o : Option Line) → line_of l ≡ o → option_and_then operation_of o ≡ None
+    nothing : (o : Option Line) → line_of l ≡ o → operation_of o ≡ None
     nothing None e = refl
     nothing (Some w) e =
         let t = line_read l w e in

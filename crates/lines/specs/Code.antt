@@ -1,5 +1,5 @@
 -- Document 01, "Operation lines": what a line says, by its code, its number of fields and their ranges. Codes are hexadecimal, as in the text.
-use Rattle.std.specs.Prelude.{ℕ, ◌+◌, min, Bool, true, List, leb, ltb, eqb, Option, Some, None, option_and_then}
+use Rattle.std.specs.Prelude.{ℕ, ◌+◌, min, Bool, true, List, leb, ltb, eqb, Option, Some, None}
 use Rattle.types.specs.Names.{word32, pick, both, WantedMemory, WantedTable, CopySpan}
 use Rattle.machine.specs.Names.{Items, FuelOp, MemoryOp, TableOp, Operation}
 use Rattle.lines.specs.Fields.{binary, yes, kind_of, reference_of, limit_ranges, limits_of, load_kind_of, store_kind_of}
@@ -71,10 +71,11 @@ by_code k n w =
     (pick (eqb k 0x30) (taken n 6 (memory_in w) (on_memory w (MemoryOp.LinkCheck (memory_of w))))
     None))))))))))))))))))))
 
--- what a line's numbers say
-unfoldable pub operation_of : Line → Option Read
-operation_of w = by_code w.code w.count w
+-- what a line's numbers say; where there is no line, nothing
+unfoldable pub operation_of : Option Line → Option Read
+operation_of (Some w) = by_code w.code w.count w
+operation_of None = None
 
 -- what a line of text says
 unfoldable pub read_line : List ℕ → Option Read
-read_line l = option_and_then operation_of (line_of l)
+read_line l = operation_of (line_of l)

@@ -34,10 +34,11 @@ fn on_table(number: u64, op: TableOp) -> Option<Read>
     Some(Read::Operation(Operation::Table { number, op }))
 }
 
-// What a line's numbers say: the one place where 18 is decided of codes and fields.
-pub fn operation_of(line: Line) -> Option<Read>
+// What a line's numbers say, where there is a line: the one place where 18 is decided of codes and fields.
+pub fn operation_of(line: Option<Line>) -> Option<Read>
     ensures { result ≡ operation_of line }
 {
+    let line = line?;
     let [a, b, c, d, e, f, g, h] = line.list;
     match (line.code, line.count) {
         (0x00, 2) => Some(Read::Making {
@@ -150,5 +151,5 @@ pub fn operation_of(line: Line) -> Option<Read>
 pub fn read_line(s: &[u8]) -> Option<Read>
     ensures { result ≡ read_line s.now }
 {
-    operation_of(line::read(s)?)
+    operation_of(line::read(s))
 }

@@ -1,5 +1,5 @@
 -- Laws of what C is told of a machine in a row of words. Assumes nothing.
-use Rattle.std.specs.Prelude.{Option, Some, None, option_and_then}
+use Rattle.std.specs.Prelude.{Option, Some, None}
 use Rattle.types.proofs.Prelude.{ℕ, ◌+◌, ◌≤◌, ◌<◌, ◌≡◌, refl, sym, ap, ◌∙◌, true, false, List, [], ◌∷◌, arith, length, get_or, replicate, le-leb}
 use Rattle.types.proofs.{Prelude.pick_true, Prelude.pick_false, Prelude.either, Spans.length_over}
 use Rattle.types.specs.{Pick.pick, Span.over, Answer.refuse, Raw.raw_bytes}
@@ -36,9 +36,9 @@ line_said code fields h k s =
     line_write code fields h k s ∙ ap (λ (n : ℕ). Some (good_line code n (over (replicate 8 0) 0 fields))) z ∙ sym (pick_true _ _ _ (le-leb _ _ k))
 
 pub as_line : (h : Held) (code : ℕ) (fields : List ℕ) → code < 256 → length fields ≤ 8 → Small fields
-    → turn_of raw_bytes h (line_text code fields) ≡ turn_by raw_bytes h (option_and_then operation_of (line_from code fields))
+    → turn_of raw_bytes h (line_text code fields) ≡ turn_by raw_bytes h (operation_of (line_from code fields))
 unfolding turn_of read_line
-as_line h code fields a b s = ap (λ (w : Option Line). turn_by raw_bytes h (option_and_then operation_of w)) (line_said code fields a b s)
+as_line h code fields a b s = ap (λ (w : Option Line). turn_by raw_bytes h (operation_of w)) (line_said code fields a b s)
 
 -- a session's turn in a row: the words of the machine after it
 abbrev pub turn_in : List ℕ → Turn → InRow
@@ -56,9 +56,9 @@ turn_in_lem l b (Some (read.Making metering copied)) e = ap (λ (z : List ℕ). 
 turn_in_lem l b None e = ap (λ (z : List ℕ). record { answer = refuse 18 0; words = z; buffers = b }) (form_holds l e)
 
 pub as_session : (l : List ℕ) (b : Buffers) (w : Option Line) (value fuel : ℕ) → in_form l ≡ true
-    → operate_of l b w value fuel ≡ told value fuel (turn_in l (turn_by raw_bytes (record { machine = machine_from l; first = false; buffers = b }) (option_and_then operation_of w)))
+    → operate_of l b w value fuel ≡ told value fuel (turn_in l (turn_by raw_bytes (record { machine = machine_from l; first = false; buffers = b }) (operation_of w)))
 unfolding operate_of
-as_session l b w value fuel e = ap (told value fuel) (turn_in_lem l b (option_and_then operation_of w) e)
+as_session l b w value fuel e = ap (told value fuel) (turn_in_lem l b (operation_of w) e)
 
 -- and its fuel column is that machine's, of whatever shape a program holds a machine in
 pub fuel_said : (l : List ℕ) (m : Machine) → row_length ≤ length l → Shaped m → fuel_of (over l 0 (words_of m)) ≡ m.fuel

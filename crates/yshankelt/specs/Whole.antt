@@ -1,5 +1,5 @@
 -- Document 01, "Operation lines", for C: one operation on a machine in a row of words, by its code and fields. A fresh row and the sizes are the machine's own.
-use Rattle.std.specs.Prelude.{ℕ, List, eqb, leb, length, replicate, Option, Some, None, option_and_then}
+use Rattle.std.specs.Prelude.{ℕ, List, eqb, leb, length, replicate, Option, Some, None}
 use Rattle.types.specs.Names.{pick, over, number_of, shown_of, raw_bytes}
 use Rattle.machine.specs.{Machine.Buffers, Row.InRow, Row.row_keeps, Row.operate_row, Row.fuel_of}
 use Rattle.lines.specs.{Line.most_fields, Code.operation_of, AnswerLine.fuel_shown, declared.line.Line.Line, declared.code.Read.Read}
@@ -38,4 +38,4 @@ told value fuel x =
 
 -- one operation
 unfoldable pub operate_of : List ℕ → Buffers → Option Line → ℕ → ℕ → Call
-operate_of l b w value fuel = told value fuel (answered (option_and_then operation_of w) l b)
+operate_of l b w value fuel = told value fuel (answered (operation_of w) l b)

@@ -1,7 +1,7 @@
 // A whole machine in a row of words that the host owns: made, operated, and asked for its sizes.
 #![tactic(auto, using(types::proofs::Picks::cases), unfolding(crate::specs::Whole::line_from, crate::specs::Whole::answered, crate::specs::Whole::told, crate::specs::Whole::operate_of, lines::specs::AnswerLine::fuel_shown))]
 
-ghost use Rattle.std.specs.Prelude.{◌≡◌, ◌≤◌, length, get_or, replicate, option_and_then};
+ghost use Rattle.std.specs.Prelude.{◌≡◌, ◌≤◌, length, get_or, replicate};
 ghost use Rattle.types.specs.Answer.{refuse};
 ghost use Rattle.types.specs.Span.{over};
 ghost use Rattle.machine.specs.Machine.{Buffers, buffers};
@@ -80,9 +80,9 @@ fn line_from(code: u8, fields: &[u64]) -> Option<Line>
 
 // What they say.
 fn said_of(code: u8, fields: &[u64]) -> Option<Read>
-    ensures { result ≡ option_and_then operation_of (line_from code fields.now) }
+    ensures { result ≡ operation_of (line_from code fields.now) }
 {
-    code::operation_of(line_from(code, fields)?)
+    code::operation_of(line_from(code, fields))
 }
 
 fn malformed() -> Answer
