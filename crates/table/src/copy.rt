@@ -1,4 +1,6 @@
 // Copying cells between two tables, which may be one, in the order of checks of document 01.
+#![tactic(auto, using(types::proofs::Picks::cases, types::proofs::Dones::done_as, crate::proofs::Readings::copy_reads), unfolding(types::specs::stages::Grant::spanned, types::specs::Span::inside, crate::specs::Copy::same_table, crate::specs::Copy::rooms_apart, crate::specs::Copy::sound_two, crate::specs::stages::Spans::copy_bounds, crate::specs::stages::Spans::copy_kinds))]
+
 ghost use Rattle.std.specs.Prelude.{◌≡◌, length};
 ghost use Rattle.types.specs.Done.{done};
 ghost use Rattle.types.specs.Raw.{raw_bytes};
@@ -61,7 +63,6 @@ fn rooms_apart(into: Table, source: Table) -> bool
     types::span::within(source.start as u64, source.room, into.start as u64)
 }
 
-#[tactic(auto, using(types::proofs::Picks::cases), unfolding(crate::specs::Copy::sound_two))]
 fn sound_two(into: Table, source: Table, len: usize) -> bool
     ensures { result ≡ sound_two into source len }
 {

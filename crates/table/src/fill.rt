@@ -1,4 +1,6 @@
 // Filling cells of a table, in the order of checks of document 01.
+#![tactic(auto, using(types::proofs::Picks::cases, types::proofs::Dones::done_as, crate::proofs::Readings::fill_reads, crate::proofs::Sounds::tested_within), unfolding(types::specs::stages::Grant::spanned, crate::specs::stages::Spans::fill_kind, crate::specs::stages::Spans::fill_sound))]
+
 ghost use Rattle.std.specs.Prelude.{◌≡◌, length};
 ghost use Rattle.types.specs.Done.{done};
 ghost use Rattle.types.specs.Raw.{raw_bytes};

@@ -1,4 +1,6 @@
 // Writing a segment's items into a table, in the order of checks of document 01.
+#![tactic(auto, using(types::proofs::Picks::cases, types::proofs::Dones::done_as, crate::proofs::Readings::init_reads, crate::proofs::Sounds::tested_pair), unfolding(types::specs::stages::Grant::spanned, crate::specs::stages::Spans::init_some, crate::specs::stages::Spans::init_bounds, crate::specs::stages::Spans::init_kinds))]
+
 ghost use Rattle.std.specs.Prelude.{◌≡◌, ◌+◌, ◌≤◌, length};
 ghost use Rattle.types.specs.Pick.{both};
 ghost use Rattle.types.specs.Done.{done};
@@ -94,7 +96,6 @@ impl Table {
 }
 
 // Whether table and segment are both sound, each over its buffer.
-#[tactic(auto, using(types::proofs::Picks::cases))]
 fn sound_pair(table: Table, segment: ElementSegment, len: usize, count: usize) -> bool
     ensures { result ≡ both (sound_table table len) (sound_segment segment count) }
 {

@@ -1,4 +1,6 @@
 // Making a table in a room of the buffer, in the order of checks of document 01.
+#![tactic(auto, using(types::proofs::Picks::cases, types::proofs::Dones::done_as, crate::proofs::Readings::plan_by, crate::proofs::Readings::plan_missed), unfolding(crate::specs::stages::New::made_by, crate::specs::stages::New::made_of))]
+
 ghost use Rattle.std.specs.Prelude.{◌≡◌, length};
 ghost use Rattle.types.specs.Done.{done};
 ghost use Rattle.types.specs.TableType.{build_table};

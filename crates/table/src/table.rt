@@ -1,5 +1,5 @@
 // A table's record: size, soundness, get and set.
-#![tactic(auto, using(types::proofs::Picks::cases), unfolding(crate::specs::Table::sound_buffer, crate::specs::Table::sound_table))]
+#![tactic(auto, using(types::proofs::Picks::cases, types::proofs::Dones::done_as, types::proofs::Halves::whole_halves, types::proofs::Held::held_free, types::proofs::Held::held_above, types::proofs::Held::held_by, crate::proofs::Sounds::size_past, crate::proofs::Sounds::size_by, crate::proofs::Sounds::tested_within, crate::proofs::Sounds::cell_within), unfolding(crate::specs::Table::sound_buffer, crate::specs::Table::sound_table, crate::specs::Table::get_table, crate::specs::Table::set_sound, crate::specs::Table::set_table))]
 
 ghost use Rattle.std.specs.Prelude.{◌≡◌, leb, length};
 ghost use Rattle.types.specs.Answer.{refuse, number_for};
