@@ -54,10 +54,10 @@ impl ElementSegment {
     {
         let len = items.len();
         if !self.is_sound(len) {
-            return table::refused(Reason::Unsound);
+            return Err(Refusal::from(Reason::Unsound));
         }
         if self.size <= index {
-            return table::refused(Reason::AccessOutside);
+            return Err(Refusal::from(Reason::AccessOutside));
         }
         let at = self.start + (index as usize);
         let cell = items[at];

@@ -28,18 +28,12 @@ pub struct Table {
     pub size: u64,
 }
 
-pub(crate) fn refused(reason: Reason) -> Answer
-    ensures { result ≡ refuse (number_for reason) 0 }
-{
-    Err(Refusal::from(reason))
-}
-
 // A span operation that is refused: fuel and cells stay.
 pub(crate) fn not_spanned(reason: Reason, fuel: Fuel) -> Spanned
     ensures { result ≡ span_of (refuse (number_for reason) 0) fuel }
 {
     Spanned {
-        answer: refused(reason),
+        answer: Err(Refusal::from(reason)),
         fuel,
     }
 }
@@ -104,10 +98,10 @@ impl Table {
     {
         let len = cells.len();
         if !self.is_sound(len) {
-            return refused(Reason::Unsound);
+            return Err(Refusal::from(Reason::Unsound));
         }
         if self.size <= index {
-            return refused(Reason::AccessOutside);
+            return Err(Refusal::from(Reason::AccessOutside));
         }
         let at = self.start + (index as usize);
         let cell = cells[at];
@@ -122,7 +116,7 @@ impl Table {
         if self.is_sound(len) {
             return set_sound(self, cells, index, value);
         }
-        refused(Reason::Unsound)
+        Err(Refusal::from(Reason::Unsound))
     }
 }
 
@@ -133,10 +127,10 @@ fn set_sound(table: Table, cells: &mut [u64], index: u64, value: TypedRawRef) ->
     let ty = table.ty;
     let kind = value.ty;
     if !ty.element_matches(kind) {
-        return refused(Reason::KindsDiffer);
+        return Err(Refusal::from(Reason::KindsDiffer));
     }
     if table.size <= index {
-        return refused(Reason::SetOutside);
+        return Err(Refusal::from(Reason::SetOutside));
     }
     let at = table.start + (index as usize);
     cells::fill_cells(cells, at, value.raw.bits, 1);
