@@ -1,5 +1,5 @@
 // A table's record: size, soundness, get and set.
-#![tactic(auto, using(types::proofs::Picks::cases, types::proofs::Dones::done_as, types::proofs::Halves::whole_halves, types::proofs::Held::held_free, types::proofs::Held::held_above, types::proofs::Held::held_by, crate::proofs::Sounds::size_past, crate::proofs::Sounds::size_by, crate::proofs::Sounds::tested_within, crate::proofs::Sounds::cell_within), unfolding(crate::specs::Table::sound_buffer, crate::specs::Table::sound_table, crate::specs::Table::get_table, crate::specs::Table::set_sound, crate::specs::Table::set_table))]
+#![tactic(auto, using(types::proofs::Picks::cases, types::proofs::Dones::done_as, types::proofs::Halves::whole_halves, types::proofs::Held::held_free, types::proofs::Held::held_above, types::proofs::Held::held_by, crate::proofs::Sounds::size_past, crate::proofs::Sounds::size_by, crate::proofs::Sounds::tested_within, crate::proofs::Sounds::cell_within), unfolding(crate::specs::stages::Spans::paid_by, crate::specs::Table::sound_buffer, crate::specs::Table::sound_table, crate::specs::Table::get_table, crate::specs::Table::set_sound, crate::specs::Table::set_table))]
 
 ghost use Rattle.std.specs.Prelude.{◌≡◌, leb, length};
 ghost use Rattle.types.specs.Answer.{refuse, number_for};
@@ -9,6 +9,7 @@ ghost use Rattle.types.specs.Span.{inside};
 ghost use Rattle.types.specs.TableType.{table_bound, valid_table};
 ghost use Rattle.types.specs.stages.Held.{held};
 ghost use Rattle.table.specs.stages.Facts.{Within};
+ghost use Rattle.table.specs.stages.Spans.{paid_by};
 ghost use Rattle.table.specs.Table.{sound_buffer, sound_size, sound_table, get_table, set_sound, set_table};
 
 use super::cells;
@@ -35,6 +36,22 @@ pub(crate) fn not_spanned(reason: Reason, fuel: Fuel) -> Spanned
     Spanned {
         answer: Err(Refusal::from(reason)),
         fuel,
+    }
+}
+
+// A span operation by its fuel step: refused, the fuel stays; paid, the answer is 0.
+pub(crate) fn spanned(step: Result<Fuel, Refusal>, fuel: Fuel) -> Spanned
+    ensures { result ≡ paid_by step fuel }
+{
+    match step {
+        Err(refusal) => Spanned {
+            answer: Err(refusal),
+            fuel,
+        },
+        Ok(left) => Spanned {
+            answer: Ok(Value::Number(0)),
+            fuel: left,
+        },
     }
 }
 
