@@ -1,5 +1,5 @@
 // What an operation can still say wrongly where every field has its type: a script's digits, items past the count, wide numbers.
-#![tactic(auto, using(types::proofs::Picks::cases), unfolding(crate::specs::Operation::narrow_store, crate::specs::Operation::store_fields, crate::specs::Operation::most_of, crate::specs::Operation::script_fields, crate::specs::Operation::item_field, crate::specs::Operation::item_fields, crate::specs::Operation::init_fields))]
+#![tactic(auto, using(crate::proofs::Digits::digits_end, crate::proofs::Digits::leading_bad, crate::proofs::Digits::leading_more, crate::proofs::Digits::leading_end, types::proofs::Picks::cases), unfolding(crate::specs::Operation::narrow_store, crate::specs::Operation::store_fields, crate::specs::Operation::most_of, crate::specs::Operation::script_fields, crate::specs::Operation::item_field, crate::specs::Operation::item_fields, crate::specs::Operation::init_fields))]
 
 ghost use Rattle.std.specs.Prelude.{◌≡◌, ◌-◌, take};
 ghost use Rattle.types.specs.Limiter.{hand_over};

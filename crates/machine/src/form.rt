@@ -1,6 +1,6 @@
 // When a row is in form: long enough, each flag 0 or 1, each cost below 2^32, each answer of the script at most 2.
 // No test hangs on another, so that all of them become one row of loads and a few branches.
-#![tactic(auto, using(types::proofs::Picks::cases), unfolding(crate::specs::Words::record_in_form, crate::specs::Words::fuel_in_form, crate::specs::Words::in_form, types::specs::Pick::both))]
+#![tactic(auto, using(crate::proofs::Places::all_none, crate::proofs::Places::all_next, crate::proofs::Places::all_done, types::proofs::Picks::cases), unfolding(crate::specs::Words::record_in_form, crate::specs::Words::fuel_in_form, crate::specs::Words::in_form, types::specs::Pick::both))]
 
 ghost use Rattle.std.specs.Prelude.{◌≡◌, ◌+◌, ◌≤◌, length};
 ghost use Rattle.types.specs.Limiter.{longest_script};

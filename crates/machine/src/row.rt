@@ -1,8 +1,7 @@
 // The records of a row by number, where the next room starts, and one operation on a machine in place.
-#![tactic(auto, using(types::proofs::Picks::cases), unfolding(crate::specs::Machine::next_byte, crate::specs::Machine::next_cell, crate::specs::Machine::next_item, crate::specs::Row::fresh_row, crate::specs::Row::fuel_of, crate::specs::Row::row_pages, crate::specs::Row::row_cells, crate::specs::stages::Rows::ends_inside, crate::specs::stages::Rows::changed_row))]
+#![tactic(auto, using(types::proofs::Picks::cases, crate::proofs::Formed::form_long, crate::proofs::Settling::tested_inside, crate::proofs::Settling::operates_malformed, crate::proofs::Settling::operates_unready, crate::proofs::Settling::operates_goes), unfolding(crate::specs::stages::Records::known, crate::specs::stages::Records::next_room, crate::specs::stages::Records::end_of, crate::specs::Machine::next_byte, crate::specs::Machine::next_cell, crate::specs::Machine::next_item, crate::specs::Row::fresh_row, crate::specs::Row::fuel_of, crate::specs::Row::row_pages, crate::specs::Row::row_cells, crate::specs::stages::Rows::ends_inside, crate::specs::stages::Rows::changed_row))]
 
 ghost use Rattle.std.specs.Prelude.{◌≡◌, ◌+◌, ◌*◌, ◌≤◌, ◌<◌, ◌^◌, leb, ltb, length, get_or};
-ghost use Rattle.types.specs.Answer.{refuse, number_for};
 ghost use Rattle.types.specs.Pick.{pick, both};
 ghost use Rattle.types.specs.Raw.{raw_bytes};
 ghost use Rattle.types.specs.Span.{over};
@@ -145,12 +144,6 @@ fn go(
     outcome.answer
 }
 
-fn refused(reason: Reason) -> Answer
-    ensures { result ≡ refuse (number_for reason) 0 }
-{
-    Err(Refusal::from(reason))
-}
-
 // One operation on a row whose form and soundness the caller carries from call to call: only its length, the counts and the next rooms' starts are tested.
 pub fn proceed(
     words: &mut [u64],
@@ -163,10 +156,10 @@ pub fn proceed(
         (in_row result words.new bytes.new cells.new items.new) }
 {
     if !op.is_well_formed() {
-        return refused(Reason::Malformed);
+        return Err(Refusal::from(Reason::Malformed));
     }
     if words.len() < ROW || !ends_inside(words, bytes.len(), cells.len(), items.len()) {
-        return refused(Reason::Unsound);
+        return Err(Refusal::from(Reason::Unsound));
     }
     go(words, bytes, cells, items, op)
 }
@@ -183,10 +176,10 @@ pub fn operate(
         ≡ operate_row raw_bytes words.old (buffers bytes.old cells.old items.old) op }
 {
     if !op.is_well_formed() {
-        return refused(Reason::Malformed);
+        return Err(Refusal::from(Reason::Malformed));
     }
     if !is_ready(words, bytes.len(), cells.len(), items.len()) {
-        return refused(Reason::Unsound);
+        return Err(Refusal::from(Reason::Unsound));
     }
     go(words, bytes, cells, items, op)
 }

@@ -1,5 +1,5 @@
 // A machine in place: the words of its records, the record that stands at a place of a row, and the row of a machine that goes by value.
-#![tactic(auto, unfolding(crate::specs::Words::count_words, crate::specs::Words::fuel_words, crate::specs::Words::place_words, crate::specs::Words::limits_from, crate::specs::Words::counts_from, crate::specs::Words::fuel_from, crate::specs::Words::limiter_from))]
+#![tactic(auto, using(types::proofs::Picks::cases, types::proofs::Moves::put_part, crate::proofs::Rows::then_over, crate::proofs::Rows::length_both, crate::proofs::Rows::put_none, crate::proofs::Rows::then_both), unfolding(crate::specs::Words::words_of, crate::specs::Words::count_words, crate::specs::Words::fuel_words, crate::specs::Words::place_words, crate::specs::Words::limits_from, crate::specs::Words::counts_from, crate::specs::Words::fuel_from, crate::specs::Words::limiter_from))]
 
 ghost use Rattle.std.specs.Prelude.{◌≡◌, ◌+◌, ◌-◌, ◌*◌, ◌≤◌, [], ◌∷◌, length};
 ghost use Rattle.types.specs.Span.{over};

@@ -1,4 +1,6 @@
 // Little-endian loads and stores: one routine over a byte count each, and the typed ones above them.
+#![tactic(auto, using(types::proofs::Picks::cases, types::proofs::Dones::done_as, crate::proofs::Bytes::first_bytes, crate::proofs::Bytes::length_bytes, crate::proofs::Copies::put_list, crate::proofs::Copies::part_cut), unfolding(crate::specs::Access::load_at, crate::specs::Access::load_found, crate::specs::Access::loaded_of, crate::specs::Access::store_at, crate::specs::Access::store_found))]
+
 ghost use Rattle.std.specs.Prelude.{◌≡◌, ◌+◌, ◌*◌, ◌^◌, ◌≤◌, ◌<◌, length};
 ghost use Rattle.types.specs.Done.{done};
 ghost use Rattle.types.specs.Span.{over};

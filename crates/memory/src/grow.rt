@@ -1,4 +1,6 @@
 // Growing a memory, in the order of checks of document 01.
+#![tactic(auto, using(types::proofs::Picks::cases, types::proofs::Dones::done_as, crate::proofs::Growths::may_by, crate::proofs::Growths::may_not, crate::proofs::Readings::grow_staged, crate::proofs::Growths::reach_held), unfolding(crate::specs::stages::Grow::grow_to, crate::specs::stages::Grow::grant_of, crate::specs::stages::Grow::grow_sound, crate::specs::stages::Grow::by_reach, crate::specs::stages::Grow::enlarged_by))]
+
 ghost use Rattle.std.specs.Prelude.{◌≡◌, true, ◌≤◌, length};
 ghost use Rattle.types.specs.Answer.{refuse, accept, number_for};
 ghost use Rattle.types.specs.Done.{done};

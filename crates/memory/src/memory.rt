@@ -1,5 +1,5 @@
 // A memory's record: size, soundness, loads and stores, host reads and writes.
-#![tactic(auto, using(types::proofs::Picks::cases, types::proofs::Dones::done_as), unfolding(types::specs::Span::inside, crate::specs::Memory::sound_room, crate::specs::Memory::load_memory, crate::specs::Memory::store_memory, crate::specs::Host::read_memory, crate::specs::Host::read_used, crate::specs::Host::write_memory, crate::specs::Host::write_used, crate::specs::Memory::pages_of, crate::specs::Memory::dynamic_of, crate::specs::Memory::sound_memory))]
+#![tactic(auto, using(types::proofs::Picks::cases, types::proofs::Dones::done_as, types::proofs::Held::held_free, types::proofs::Held::held_above, types::proofs::Held::held_by, crate::proofs::Sounds::size_broken, crate::proofs::Sounds::size_by, crate::proofs::Sounds::size_bytes, crate::proofs::Copies::put_list, crate::proofs::Copies::part_cut), unfolding(types::specs::Span::inside, crate::specs::Memory::sound_room, crate::specs::Memory::load_memory, crate::specs::Memory::store_memory, crate::specs::Host::read_memory, crate::specs::Host::read_used, crate::specs::Host::write_memory, crate::specs::Host::write_used, crate::specs::Memory::pages_of, crate::specs::Memory::dynamic_of, crate::specs::Memory::sound_memory))]
 
 ghost use Rattle.std.specs.Prelude.{◌≡◌, ◌+◌, ◌≤◌, length, leb};
 ghost use Rattle.types.specs.Pick.{both};
@@ -27,6 +27,7 @@ pub struct Memory {
 }
 
 // Whether so many pages are within the page bound. By cases: the bound as one number costs short accesses more.
+#[tactic(auto, using(types::proofs::Picks::cases, crate::proofs::Sounds::bound_all), unfolding(types::specs::MemoryType::page_bound, types::specs::IndexType::max_size, types::specs::MemoryType::page_bytes))]
 fn within_bound(ty: MemoryType, pages: u64) -> bool
     ensures { result ≡ leb pages (page_bound ty) }
 {

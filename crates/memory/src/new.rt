@@ -1,4 +1,6 @@
 // Making a memory in a room of the buffer, in the order of checks of document 01.
+#![tactic(auto, using(types::proofs::Picks::cases, types::proofs::Dones::done_as, types::proofs::Moves::put_fill, crate::proofs::Readings::new_staged, crate::proofs::Readings::new_refused, crate::proofs::Readings::new_made), unfolding(types::specs::Span::inside, crate::specs::stages::New::made_by, crate::specs::stages::New::made_of))]
+
 ghost use Rattle.std.specs.Prelude.{◌≡◌, ◌+◌, ◌≤◌, length, replicate};
 ghost use Rattle.types.specs.Answer.{refusal};
 ghost use Rattle.types.specs.Done.{done};
@@ -36,6 +38,7 @@ pub(crate) fn zero(bytes: &mut [u8], from: usize, n: usize)
 }
 
 // The memory that is wanted, of its minimum's size: 1, 2.
+#[tactic(auto, using(types::proofs::Picks::cases), unfolding(crate::specs::stages::New::planned, crate::specs::stages::New::sized))]
 fn planned(wanted: WantedMemory, start: usize, room: u64) -> Result<Memory, Refusal>
     ensures { result ≡ planned (build_memory wanted.wide wanted.limits wanted.exponent) start room }
 {

@@ -1,4 +1,6 @@
 // The small routines that write a lent part of the reference buffer.
+#![tactic(auto, using(types::proofs::Moves::put_fill, types::proofs::Moves::put_cut, types::proofs::Moves::through, types::proofs::Moves::put_none))]
+
 ghost use Rattle.std.specs.Prelude.{◌≡◌, ◌+◌, ◌≤◌, length, replicate};
 ghost use Rattle.types.specs.Span.{over, cut};
 ghost use Rattle.types.specs.stages.Facts.{Two};

@@ -1,4 +1,6 @@
 // Copying cells between two tables, which may be one, in the order of checks of document 01.
+#![tactic(auto, using(types::proofs::Picks::cases, types::proofs::Dones::done_as, crate::proofs::Readings::copy_reads), unfolding(crate::specs::stages::Spans::paid_by, types::specs::stages::Grant::spanned, types::specs::Span::inside, crate::specs::Copy::same_table, crate::specs::Copy::rooms_apart, crate::specs::Copy::sound_two, crate::specs::stages::Spans::copy_bounds, crate::specs::stages::Spans::copy_kinds))]
+
 ghost use Rattle.std.specs.Prelude.{◌≡◌, length};
 ghost use Rattle.types.specs.Done.{done};
 ghost use Rattle.types.specs.Raw.{raw_bytes};
@@ -8,7 +10,7 @@ ghost use Rattle.table.specs.stages.Spans.{copy_bounds};
 
 use super::table::Table;
 use super::{cells, table};
-use types::answer::{Reason, Value};
+use types::answer::Reason;
 use types::fuel::Fuel;
 use types::grant::Spanned;
 use types::raw::RawRef;
@@ -21,21 +23,13 @@ fn copy_bounds(into: Table, source: Table, cells: &mut [u64], span: CopySpan, fu
 {
     let ok = table::both_within(span.to, into.size, span.from, source.size, span.len);
     let price = fuel.costs.fuel_for_copying_values(span.len, RawRef::size());
-    match types::grant::grant_span(fuel, ok, Reason::CopyOutside as u8, price) {
-        Err(refusal) => Spanned {
-            answer: Err(refusal),
-            fuel,
-        },
-        Ok(left) => {
-            let there = into.start + (span.to as usize);
-            let here = source.start + (span.from as usize);
-            cells::move_cells(cells, there, here, span.len as usize);
-            Spanned {
-                answer: Ok(Value::Number(0)),
-                fuel: left,
-            }
-        }
+    let step = types::grant::grant_span(fuel, ok, Reason::CopyOutside as u8, price);
+    if let Ok(_) = step {
+        let there = into.start + (span.to as usize);
+        let here = source.start + (span.from as usize);
+        cells::move_cells(cells, there, here, span.len as usize);
     }
+    table::spanned(step, fuel)
 }
 
 // Whether two records are of one table.
@@ -61,7 +55,6 @@ fn rooms_apart(into: Table, source: Table) -> bool
     types::span::within(source.start as u64, source.room, into.start as u64)
 }
 
-#[tactic(auto, using(types::proofs::Picks::cases), unfolding(crate::specs::Copy::sound_two))]
 fn sound_two(into: Table, source: Table, len: usize) -> bool
     ensures { result ≡ sound_two into source len }
 {

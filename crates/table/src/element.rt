@@ -1,4 +1,6 @@
 // Element segments: a kind, and items at places of a lent buffer.
+#![tactic(auto, using(types::proofs::Picks::cases, types::proofs::Dones::done_as, crate::proofs::Puts::cut_all, crate::proofs::Sounds::tested_buffer, crate::proofs::Sounds::item_within), unfolding(crate::specs::Element::sound_segment, crate::specs::Element::item_of, crate::specs::Element::new_segment))]
+
 ghost use Rattle.std.specs.Prelude.{◌≡◌};
 ghost use Rattle.types.specs.Done.{done};
 ghost use Rattle.table.specs.Element.{sound_segment, dropped, item_of, new_segment};
@@ -40,7 +42,6 @@ impl ElementSegment {
     }
 
     // Whether the record is sound over a buffer of `len` items.
-    #[tactic(auto, using(types::proofs::Picks::cases), unfolding(crate::specs::Element::sound_segment))]
     pub fn is_sound(self, len: usize) -> bool
         ensures { result ≡ sound_segment self len }
     {
@@ -53,10 +54,10 @@ impl ElementSegment {
     {
         let len = items.len();
         if !self.is_sound(len) {
-            return table::refused(Reason::Unsound);
+            return Err(Refusal::from(Reason::Unsound));
         }
         if self.size <= index {
-            return table::refused(Reason::AccessOutside);
+            return Err(Refusal::from(Reason::AccessOutside));
         }
         let at = self.start + (index as usize);
         let cell = items[at];

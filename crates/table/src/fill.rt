@@ -1,4 +1,6 @@
 // Filling cells of a table, in the order of checks of document 01.
+#![tactic(auto, using(types::proofs::Picks::cases, types::proofs::Dones::done_as, crate::proofs::Readings::fill_reads, crate::proofs::Sounds::tested_within), unfolding(crate::specs::stages::Spans::paid_by, types::specs::stages::Grant::spanned, crate::specs::stages::Spans::fill_kind, crate::specs::stages::Spans::fill_sound))]
+
 ghost use Rattle.std.specs.Prelude.{◌≡◌, length};
 ghost use Rattle.types.specs.Done.{done};
 ghost use Rattle.types.specs.Raw.{raw_bytes};
@@ -8,7 +10,7 @@ ghost use Rattle.table.specs.stages.Spans.{fill_kind};
 
 use super::table::Table;
 use super::{cells, table};
-use types::answer::{Reason, Value};
+use types::answer::Reason;
 use types::fuel::Fuel;
 use types::grant::Spanned;
 use types::raw::{RawRef, TypedRawRef};
@@ -21,20 +23,12 @@ fn fill_kind(table: Table, cells: &mut [u64], span: FillSpan, bits: u64, fuel: F
 {
     let in_bounds = types::span::within(span.start, span.len, table.size);
     let price = fuel.costs.fuel_for_copying_values(span.len, RawRef::size());
-    match types::grant::grant_span(fuel, in_bounds, Reason::FillOutside as u8, price) {
-        Err(refusal) => Spanned {
-            answer: Err(refusal),
-            fuel,
-        },
-        Ok(left) => {
-            let at = table.start + (span.start as usize);
-            cells::fill_cells(cells, at, bits, span.len as usize);
-            Spanned {
-                answer: Ok(Value::Number(0)),
-                fuel: left,
-            }
-        }
+    let step = types::grant::grant_span(fuel, in_bounds, Reason::FillOutside as u8, price);
+    if let Ok(_) = step {
+        let at = table.start + (span.start as usize);
+        cells::fill_cells(cells, at, bits, span.len as usize);
     }
+    table::spanned(step, fuel)
 }
 
 impl Table {

@@ -1,4 +1,6 @@
 // Growing a table, in the order of checks of document 01: the limiter is asked before the maximum.
+#![tactic(auto, using(types::proofs::Picks::cases, types::proofs::Dones::done_as, types::proofs::Halves::whole_halves, crate::proofs::Growths::grows_past, crate::proofs::Readings::grow_reads, crate::proofs::Sounds::tested_room), unfolding(crate::specs::stages::Grow::grow_to, crate::specs::stages::Grow::grant_of, crate::specs::stages::Grow::grow_some, crate::specs::stages::Grow::grow_sound, crate::specs::stages::Grow::enlarged_by))]
+
 ghost use Rattle.std.specs.Prelude.{◌≡◌, ◌≤◌, ltb, length};
 ghost use Rattle.types.specs.Answer.{refuse, number_for};
 ghost use Rattle.types.specs.Done.{done};

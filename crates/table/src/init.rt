@@ -1,4 +1,6 @@
 // Writing a segment's items into a table, in the order of checks of document 01.
+#![tactic(auto, using(types::proofs::Picks::cases, types::proofs::Dones::done_as, crate::proofs::Readings::init_reads, crate::proofs::Sounds::tested_pair), unfolding(crate::specs::stages::Spans::paid_by, types::specs::stages::Grant::spanned, crate::specs::stages::Spans::init_some, crate::specs::stages::Spans::init_bounds, crate::specs::stages::Spans::init_kinds))]
+
 ghost use Rattle.std.specs.Prelude.{◌≡◌, ◌+◌, ◌≤◌, length};
 ghost use Rattle.types.specs.Pick.{both};
 ghost use Rattle.types.specs.Done.{done};
@@ -31,21 +33,13 @@ fn init_some(
     ensures { done result cells.new ≡ init_some raw_bytes table segment cells.old items.now span fuel }
 {
     let price = fuel.costs.fuel_for_copying_values(span.len, RawRef::size());
-    match fuel.consume_fuel_if(price) {
-        Err(refusal) => Spanned {
-            answer: Err(refusal),
-            fuel,
-        },
-        Ok(left) => {
-            let there = table.start + (span.to as usize);
-            let here = segment.start + (span.from as usize);
-            cells::init_cells(cells, there, items, here, span.len as usize);
-            Spanned {
-                answer: Ok(Value::Number(0)),
-                fuel: left,
-            }
-        }
+    let step = fuel.consume_fuel_if(price);
+    if let Ok(_) = step {
+        let there = table.start + (span.to as usize);
+        let here = segment.start + (span.from as usize);
+        cells::init_cells(cells, there, items, here, span.len as usize);
     }
+    table::spanned(step, fuel)
 }
 
 fn init_bounds(
@@ -94,7 +88,6 @@ impl Table {
 }
 
 // Whether table and segment are both sound, each over its buffer.
-#[tactic(auto, using(types::proofs::Picks::cases))]
 fn sound_pair(table: Table, segment: ElementSegment, len: usize, count: usize) -> bool
     ensures { result ≡ both (sound_table table len) (sound_segment segment count) }
 {

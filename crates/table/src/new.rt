@@ -1,4 +1,6 @@
 // Making a table in a room of the buffer, in the order of checks of document 01.
+#![tactic(auto, using(types::proofs::Picks::cases, types::proofs::Dones::done_as, crate::proofs::Readings::new_reads, crate::proofs::Readings::plan_stops, crate::proofs::Readings::plan_goes), unfolding(crate::specs::stages::New::made_by, crate::specs::stages::New::made_of))]
+
 ghost use Rattle.std.specs.Prelude.{◌≡◌, length};
 ghost use Rattle.types.specs.Done.{done};
 ghost use Rattle.types.specs.TableType.{build_table};
@@ -29,6 +31,7 @@ fn no_table(limiter: Limiter, refusal: Refusal) -> CreatedTable
 }
 
 // The table that is wanted, of its minimum's size: 1, 14.
+#[tactic(auto, using(types::proofs::Picks::cases), unfolding(crate::specs::stages::New::planned))]
 fn planned(
     wanted: WantedTable,
     initial: TypedRawRef,

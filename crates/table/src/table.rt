@@ -1,5 +1,5 @@
 // A table's record: size, soundness, get and set.
-#![tactic(auto, using(types::proofs::Picks::cases), unfolding(crate::specs::Table::sound_buffer, crate::specs::Table::sound_table))]
+#![tactic(auto, using(types::proofs::Picks::cases, types::proofs::Dones::done_as, types::proofs::Halves::whole_halves, types::proofs::Held::held_free, types::proofs::Held::held_above, types::proofs::Held::held_by, crate::proofs::Sounds::size_past, crate::proofs::Sounds::size_by, crate::proofs::Sounds::tested_within, crate::proofs::Sounds::cell_within), unfolding(crate::specs::stages::Spans::paid_by, crate::specs::Table::sound_buffer, crate::specs::Table::sound_table, crate::specs::Table::get_table, crate::specs::Table::set_sound, crate::specs::Table::set_table))]
 
 ghost use Rattle.std.specs.Prelude.{◌≡◌, leb, length};
 ghost use Rattle.types.specs.Answer.{refuse, number_for};
@@ -9,6 +9,7 @@ ghost use Rattle.types.specs.Span.{inside};
 ghost use Rattle.types.specs.TableType.{table_bound, valid_table};
 ghost use Rattle.types.specs.stages.Held.{held};
 ghost use Rattle.table.specs.stages.Facts.{Within};
+ghost use Rattle.table.specs.stages.Spans.{paid_by};
 ghost use Rattle.table.specs.Table.{sound_buffer, sound_size, sound_table, get_table, set_sound, set_table};
 
 use super::cells;
@@ -28,19 +29,29 @@ pub struct Table {
     pub size: u64,
 }
 
-pub(crate) fn refused(reason: Reason) -> Answer
-    ensures { result ≡ refuse (number_for reason) 0 }
-{
-    Err(Refusal::from(reason))
-}
-
 // A span operation that is refused: fuel and cells stay.
 pub(crate) fn not_spanned(reason: Reason, fuel: Fuel) -> Spanned
     ensures { result ≡ span_of (refuse (number_for reason) 0) fuel }
 {
     Spanned {
-        answer: refused(reason),
+        answer: Err(Refusal::from(reason)),
         fuel,
+    }
+}
+
+// A span operation by its fuel step: refused, the fuel stays; paid, the answer is 0.
+pub(crate) fn spanned(step: Result<Fuel, Refusal>, fuel: Fuel) -> Spanned
+    ensures { result ≡ paid_by step fuel }
+{
+    match step {
+        Err(refusal) => Spanned {
+            answer: Err(refusal),
+            fuel,
+        },
+        Ok(left) => Spanned {
+            answer: Ok(Value::Number(0)),
+            fuel: left,
+        },
     }
 }
 
@@ -104,10 +115,10 @@ impl Table {
     {
         let len = cells.len();
         if !self.is_sound(len) {
-            return refused(Reason::Unsound);
+            return Err(Refusal::from(Reason::Unsound));
         }
         if self.size <= index {
-            return refused(Reason::AccessOutside);
+            return Err(Refusal::from(Reason::AccessOutside));
         }
         let at = self.start + (index as usize);
         let cell = cells[at];
@@ -122,7 +133,7 @@ impl Table {
         if self.is_sound(len) {
             return set_sound(self, cells, index, value);
         }
-        refused(Reason::Unsound)
+        Err(Refusal::from(Reason::Unsound))
     }
 }
 
@@ -133,10 +144,10 @@ fn set_sound(table: Table, cells: &mut [u64], index: u64, value: TypedRawRef) ->
     let ty = table.ty;
     let kind = value.ty;
     if !ty.element_matches(kind) {
-        return refused(Reason::KindsDiffer);
+        return Err(Refusal::from(Reason::KindsDiffer));
     }
     if table.size <= index {
-        return refused(Reason::SetOutside);
+        return Err(Refusal::from(Reason::SetOutside));
     }
     let at = table.start + (index as usize);
     cells::fill_cells(cells, at, value.raw.bits, 1);

@@ -1,12 +1,13 @@
 -- The stages of fill, copy and init as the code has them; crates/table/proofs/Readings.antt shows that together they are the definitions.
-use Rattle.std.specs.Prelude.{ℕ, ◌+◌, ◌*◌, List, eqb, replicate}
+use Rattle.std.specs.Prelude.{ℕ, ◌+◌, ◌*◌, List, eqb, replicate, Ok, Err, Result}
 use Rattle.types.specs.Pick.{pick, both}
-use Rattle.types.specs.Done.{Done, span_done}
+use Rattle.types.specs.Done.{Done, span_of, span_done}
 use Rattle.types.specs.Span.{inside, cut, over}
 use Rattle.types.specs.Answer.{refuse, accept}
 use Rattle.types.specs.Price.{price}
 use Rattle.types.specs.Fuel.{consume_if}
 use Rattle.types.specs.stages.Grant.{grant_span, spanned}
+use Rattle.types.specs.declared.answer.Refusal.{Refusal}
 use Rattle.types.specs.declared.fuel.Fuel.{Fuel}
 use Rattle.types.specs.declared.grant.Spanned.{Spanned}
 use Rattle.types.specs.declared.span.CopySpan.{CopySpan}
@@ -15,6 +16,11 @@ use Rattle.types.specs.TableType.{element_matches}
 use Rattle.types.specs.declared.raw.TypedRawRef.{TypedRawRef}
 use Rattle.table.specs.declared.table.Table.{Table}
 use Rattle.table.specs.declared.element.ElementSegment.{ElementSegment}
+
+-- answer and fuel by the fuel step
+unfoldable pub paid_by : Result Fuel Refusal → Fuel → Spanned
+paid_by (Err r) f = span_of (Err r) f
+paid_by (Ok g) f = span_of (accept 0) g
 
 -- bounds 11, then the fuel step, at length 0 too
 unfoldable pub fill_kind : ℕ → Table → List ℕ → FillSpan → ℕ → Fuel → Done Spanned

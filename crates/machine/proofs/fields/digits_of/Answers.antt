@@ -1,5 +1,5 @@
 use Rattle.types.proofs.Prelude.{◌∙◌, ◌+◌, length-set, ◌-◌, ◌%◌, ◌≡◌, arith}
-use Rattle.machine.proofs.Digits.{digit_more, digits_end}
+use Rattle.machine.proofs.Digits.{digit_more}
 use Rattle.machine.proofs.fields.digits_of.Goals as goal
 
 pub loop-i-preserved : goal.loop-i-preserved
@@ -10,7 +10,3 @@ loop-i-preserved c =
       length-set l.row (15 - l.i) (l.rest % 16) ∙ l.invariant.0,
       rw (e, f) (digit_more c.args.field (16 - l.i) l.rest l.row (omega arith) (omega (arith, l.invariant.0)) l.invariant.1),
     )
-
-pub returns : goal.returns
-returns c =
-    let l = c.loop-i in digits_end c.args.field (16 - l.i) l.rest l.row (omega arith) l.invariant.1

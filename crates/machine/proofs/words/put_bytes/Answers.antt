@@ -1,9 +1,6 @@
-use Rattle.types.proofs.Prelude.{length-set, refl, arith}
-use Rattle.machine.proofs.Rows.{put_none, put_turn}
+use Rattle.types.proofs.Prelude.{length-set, arith}
+use Rattle.machine.proofs.Rows.{put_turn}
 use Rattle.machine.proofs.words.put_bytes.Goals as goal
-
-pub loop-i-init : goal.loop-i-init
-loop-i-init c = (put_none _ c.args.row.now c.args.at, refl)
 
 pub loop-i-preserved : goal.loop-i-preserved
 loop-i-preserved c =

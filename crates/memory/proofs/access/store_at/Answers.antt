@@ -1,12 +1,6 @@
-use Rattle.types.proofs.Prelude.{ap, ◌∙◌, arith}
-use Rattle.std.specs.Prelude.{Err}
-use Rattle.types.specs.{Done.done, declared.answer.Refusal.Refusal}
-use Rattle.memory.proofs.Accesses.{address_found, asked, store_missed, stored_at}
+use Rattle.types.proofs.Prelude.{arith}
+use Rattle.memory.proofs.Accesses.{address_found}
 use Rattle.memory.proofs.access.store_at.Goals as goal
-
-pub returns-in_default : goal.returns-in_default
-returns-in_default c =
-    ap (λ (r : Refusal). done (Err r) c.args.bytes.now) c.from.ensures ∙ store_missed _ _ _ _ _ _ _ (asked _ _ _ c.width-width.ensures c.bytes.ensures c.locate.ensures c.in_default.is)
 
 pub overflow_add-base : goal.overflow_add-base
 overflow_add-base c =
@@ -15,7 +9,3 @@ overflow_add-base c =
 
 pub store_width-requires : goal.store_width-requires
 store_width-requires c = address_found _ _ _ c.width-width.ensures c.bytes.ensures c.locate.ensures _ _ c.in-Some.is c.requires
-
-pub returns : goal.returns
-returns c =
-    stored_at _ _ _ _ _ _ _ c.width-width.ensures (asked _ _ _ c.width-width.ensures c.bytes.ensures c.locate.ensures c.in-Some.is) c.store_width.ensures

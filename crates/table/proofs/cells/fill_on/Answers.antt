@@ -1,5 +1,4 @@
-use Rattle.types.proofs.Prelude.{◌∙◌, ◌≡◌, ap, refl, replicate, arith}
-use Rattle.types.specs.Span.{over}
+use Rattle.types.proofs.Prelude.{refl, arith}
 use Rattle.types.proofs.Moves.{put_fill}
 use Rattle.table.proofs.Puts.{copy_on_lem}
 use Rattle.table.proofs.cells.fill_on.Goals as goal
@@ -12,8 +11,3 @@ loop-k-preserved c =
     let a = c.args in
     let l = c.loop-k in
     (copy_on_lem a.cells.now l.cells _ a.to l.k c.min-m.result _ a.v refl (omega arith) (omega arith) l.invariant.0 c.move_some.ensures, omega arith, omega arith)
-
-pub returns : goal.returns
-returns c =
-    let h : c.loop-k.k ≡ c.args.n = omega arith in
-    c.loop-k.invariant.0 ∙ ap (λ k. over c.args.cells.now c.args.to (replicate k c.args.v)) h

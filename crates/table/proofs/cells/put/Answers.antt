@@ -1,9 +1,6 @@
-use Rattle.types.proofs.Prelude.{length-set, refl, arith}
-use Rattle.types.proofs.Moves.{put_all, put_none, put_turn}
+use Rattle.types.proofs.Prelude.{length-set, arith}
+use Rattle.types.proofs.Moves.{put_all, put_turn}
 use Rattle.table.proofs.cells.put.Goals as goal
-
-pub loop-i-init : goal.loop-i-init
-loop-i-init c = (put_none _ c.args.source.now, omega arith, refl)
 
 pub loop-i-preserved : goal.loop-i-preserved
 loop-i-preserved c =
