@@ -1,7 +1,7 @@
 use Rattle.types.proofs.Prelude.{ap, ◌∙◌, arith}
 use Rattle.std.specs.Prelude.{Err}
 use Rattle.types.specs.{Done.done, declared.answer.Refusal.Refusal}
-use Rattle.memory.proofs.Accesses.{address_found, asked, store_missed, stored_at}
+use Rattle.memory.proofs.Accesses.{address_found, asked, store_missed, stored_by}
 use Rattle.memory.proofs.access.store_at.Goals as goal
 
 pub returns-in_default : goal.returns-in_default
@@ -18,4 +18,4 @@ store_width-requires c = address_found _ _ _ c.width-width.ensures c.bytes.ensur
 
 pub returns : goal.returns
 returns c =
-    stored_at _ _ _ _ _ _ _ c.width-width.ensures (asked _ _ _ c.width-width.ensures c.bytes.ensures c.locate.ensures c.in-Some.is) c.store_width.ensures
+    stored_by _ _ _ _ _ _ _ c.width-width.ensures (asked _ _ _ c.width-width.ensures c.bytes.ensures c.locate.ensures c.in-Some.is) c.store_width.ensures
