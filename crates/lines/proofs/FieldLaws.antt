@@ -1,12 +1,12 @@
 -- Laws of the fields of a line: what the loop over fields keeps, and its ways out. Assumes nothing.
 use Rattle.std.specs.Prelude.{Some, None, Option}
 use Rattle.types.proofs.Prelude.{◌≡◌, refl, sym, ap, ◌∙◌, List, [], ◌∷◌, ◌++◌, ℕ, zero, suc, ◌+◌, ◌-◌, ◌*◌, ◌<◌, ◌≤◌, arith, ltb, eqb, length, take, drop}
-use Rattle.types.proofs.Prelude.{get_or, set, replicate, length-append, length-drop, length-take, take_all, eq-eqb, ne_eqb, pick_true, pick_false}
+use Rattle.types.proofs.Prelude.{get_or, set, replicate, length-append, append-nil, length-drop, length-take, take_all, eq-eqb, ne_eqb, pick_true, pick_false}
 use Rattle.types.proofs.{Picks.pick_same, Spans.over_nil, Spans.over_first}
 use lib.Seq.{drop_at}
 use Rattle.types.specs.{Pick.pick, Span.over}
 use Rattle.lines.specs.Hex.{digit_of, hex_from}
-use Rattle.lines.specs.Line.{space, then_field, fields_of, coded, line_of}
+use Rattle.lines.specs.Line.{space, no_line, then_field, fields_of, coded, line_of}
 use Rattle.lines.specs.{stages.Back.with_fields, stages.Back.filled, declared.line.Line.Line}
 
 -- too few bytes are no number
@@ -62,8 +62,8 @@ module _ (c n : ℕ) (p y list : List ℕ) {r : Option Line} (w : 0 < length p) 
   no_more e = ap (filled c n list) (sym e) ∙ q
 
   -- something stands behind the eighth field
-  pub fields_many : 8 ≤ n → None ≡ r
-  fields_many h =
+  pub part_many : 8 ≤ n → None ≡ r
+  part_many h =
       let j : 8 - n ≡ 0 = omega arith in
       no_more (ap (λ (m : ℕ). fields_of m (p ++ y)) j ∙ none_left p y w)
 
@@ -96,6 +96,12 @@ module _ (c n : ℕ) (p y list : List ℕ) {r : Option Line} (w : 0 < length p) 
     -- a field more
     pub fields_on : (v : ℕ) → length list ≡ 8 → Some v ≡ hex_from (length (digits p)) 0 (digits p) → filled c (n + 1) (set list n v) (fields_of (8 - (n + 1)) y) ≡ r
     fields_on v z d = sym (filled_then c n v list (fields_of (8 - (n + 1)) y) (omega arith)) ∙ ap (filled c n list) (sym (field_at d)) ∙ q
+
+-- something stands behind the eighth field, by its place
+pub fields_many : (c n at : ℕ) (s list : List ℕ) {o r : Option Line} → o ≡ no_line → 8 ≤ n → at < length s
+    → filled c n list (fields_of (8 - n) (drop at s)) ≡ r → o ≡ r
+fields_many c n at s list e h k q =
+    e ∙ part_many c n (drop at s) [] list (omega (arith, length-drop at s)) (ap (λ (l : List ℕ). filled c n list (fields_of (8 - n) l)) (append-nil (drop at s)) ∙ q) h
 
 nothing : (k : ℕ) (x : List ℕ) → length x ≡ 0 → fields_of k x ≡ Some []
 unfolding fields_of

@@ -42,6 +42,13 @@ pub turn_none : (m : Machine) (first : Bool) (b : Buffers) {x : Option Read} {a 
 unfolding turn_by
 turn_none m first b e q = rw (e, q) refl
 
+-- a later line that is no operation
+pub turn_later : (m : Machine) (b : Buffers) (x : Option Read) {a : Answer} → ((o : Operation) → x ≡ Some (read.Operation o) → ⊥) → a ≡ refuse 18 0
+    → turned a m b ≡ turn_by raw_bytes (record { machine = m; first = false; buffers = b }) x
+turn_later m b (Some (read.Operation o)) g q = absurd (g o refl)
+turn_later m b (Some (read.Making metering copied)) g q = turn_late m b false metering copied refl refl q
+turn_later m b None g q = turn_none m false b refl q
+
 -- how far a run is, when it stops
 abbrev pub reached : List ℕ → ℕ → ℕ → List ℕ → Held → Ran
 reached s used wrote o h =

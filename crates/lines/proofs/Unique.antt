@@ -13,6 +13,8 @@ use Rattle.lines.proofs.write.write_line.Reads as write_line_reads
 use Rattle.lines.proofs.write.write_line.Kinds as write_line_kinds
 use Rattle.lines.proofs.write.write_making.Reads as write_making_reads
 use Rattle.lines.proofs.write.write_making.Kinds as write_making_kinds
+use Rattle.lines.proofs.answer_line.fuel_shown.Reads as fuel_shown_reads
+use Rattle.lines.proofs.answer_line.fuel_shown.Kinds as fuel_shown_kinds
 use Rattle.lines.proofs.answer_line.write_answer_line.Reads as write_answer_line_reads
 use Rattle.lines.proofs.answer_line.write_answer_line.Kinds as write_answer_line_kinds
 use Rattle.machine.specs.Machine.{Buffers, buffers}
@@ -41,6 +43,9 @@ write_line_one κs a x x' s s' z p q = (ap (λ (o : Done (Option ℕ)). o.out) (
 
 pub write_making_one : OneWith 1 write_making_kinds.ps write_making_kinds.r write_making_reads.Pre write_making_reads.Post (List ℕ) (λ κs s. s.1.1.0.now)
 write_making_one κs a x x' s s' z p q = (ap (λ (o : Done (Option ℕ)). o.out) (p ∙ sym q), ap (λ (o : Done (Option ℕ)). o.cells) (p ∙ sym q))
+
+pub fuel_shown_one : One 0 fuel_shown_kinds.ps fuel_shown_kinds.r fuel_shown_reads.Pre fuel_shown_reads.Post
+fuel_shown_one κs a x x' s s' z p q = p ∙ sym q
 
 pub write_answer_line_one : OneWith 1 write_answer_line_kinds.ps write_answer_line_kinds.r write_answer_line_reads.Pre write_answer_line_reads.Post (List ℕ) (λ κs s. s.0.now)
 write_answer_line_one κs a x x' s s' z p q = (ap (λ (o : Done Bool). o.out) (p ∙ sym q), ap (λ (o : Done Bool). o.cells) (p ∙ sym q))

@@ -27,7 +27,7 @@ fn write_answer(out: &mut [u8], at: usize, number: u8, shown: u64, fuel: u64)
 }
 
 // The fuel column: 0 where metering is off.
-fn fuel_shown(fuel: Fuel) -> u64
+pub fn fuel_shown(fuel: Fuel) -> u64
     ensures { result ≡ fuel_shown fuel }
 {
     if fuel.enabled { fuel.remaining } else { 0 }

@@ -1,7 +1,6 @@
 // A session: lines of input to lines of answers, a piece at a time.
 ghost use Rattle.std.specs.Prelude.{◌+◌, ◌/◌, ◌≤◌, ◌<◌, ◌≡◌, true, false, length, MatchOption};
 ghost use Rattle.types.specs.Numbers.{word32};
-ghost use Rattle.types.specs.Answer.{refuse};
 ghost use Rattle.types.specs.Raw.{raw_bytes};
 ghost use Rattle.machine.specs.Machine.{buffers};
 ghost use Rattle.machine.specs.Row.{rowed, fresh_row};
@@ -50,13 +49,6 @@ impl Session {
     }
 }
 
-// 18.
-fn refused() -> Answer
-    ensures { result ≡ refuse 18 0 }
-{
-    Err(Refusal::from(Reason::Malformed))
-}
-
 // The machine that 00 makes, in place.
 fn make(words: &mut [u64], metering: bool, copied: u32) -> u8
     ensures { (rowed result words.new ≡ fresh_row words.old metering (costs_of copied)) × (copied < word32) }
@@ -89,12 +81,12 @@ fn turn(
         Some(Read::Operation(op)) => row::proceed(words, bytes, cells, items, op),
         Some(Read::Making { metering, copied }) => {
             if !first {
-                return refused();
+                return Err(Refusal::from(Reason::Malformed));
             }
             make(words, metering, copied);
             Ok(Value::Number(0))
         }
-        None => refused(),
+        None => Err(Refusal::from(Reason::Malformed)),
     }
 }
 
@@ -222,7 +214,8 @@ fn skip_on(
             ..still
         };
     };
-    answer_line::put_answer(out, 0, refused(), row::fuel_of(words));
+    let malformed = Err(Refusal::from(Reason::Malformed));
+    answer_line::put_answer(out, 0, malformed, row::fuel_of(words));
     let p = whole_lines(false, words, bytes, cells, items, input, out, n + 1, ANSWER);
     close(input, p)
 }

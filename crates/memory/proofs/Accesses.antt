@@ -65,8 +65,16 @@ module _ (k : StoreKind) (bs : List ℕ) (base size ptr offset v : ℕ) where
   unfolding store_at store_found
   store_missed e = ap (store_found k bs base v) (sym e)
 
-  pub stored_at : {w : Width} {a : ℕ} {cs : List ℕ} → w ≡ store_width k → address_of size ptr offset (width_bytes (store_width k)) ≡ Some a
+  pub stored_by : {w : Width} {a : ℕ} {cs : List ℕ} → w ≡ store_width k → address_of size ptr offset (width_bytes (store_width k)) ≡ Some a
       → cs ≡ over bs (base + a) (le_bytes (width_bytes w) v) → done (accept 0) cs ≡ store_at k bs base size ptr offset v
   unfolding store_at store_found
-  stored_at {w} {a} p e q =
+  stored_by {w} {a} p e q =
       ap (done (accept 0)) (q ∙ ap (λ (u : Width). over bs (base + a) (le_bytes (width_bytes u) v)) p) ∙ ap (store_found k bs base v) (sym e)
+
+-- an accepted store, by where it goes
+pub stored_at : (k : StoreKind) (bs : List ℕ) (base v a : ℕ) (f : Option ℕ) (w : Width) (cs : List ℕ) → f ≡ Some a → w ≡ store_width k
+    → cs ≡ over bs (base + a) (le_bytes (width_bytes w) v) → done (accept 0) cs ≡ store_found k bs base v f
+unfolding store_found
+stored_at k bs base v a f w cs e q p =
+    ap (done (accept 0)) (p ∙ ap (λ (x : Width). over bs (base + a) (le_bytes (width_bytes x) v)) q)
+    ∙ ap (store_found k bs base v) (sym e)

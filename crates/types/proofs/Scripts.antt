@@ -2,7 +2,7 @@
 use Rattle.std.specs.Prelude.{MatchBool}
 use Rattle.std.specs.List.{AllWithin, HoldsAt}
 use Rattle.types.proofs.Prelude.{◌≡◌, refl, sym, Bool, true, false, List, [], ◌∷◌, ℕ, zero, suc, ◌<◌, ◌≤◌, arith, length}
-use Rattle.types.proofs.Prelude.{ap, ◌∙◌, ◌++◌, ◌+◌, add-one, drop, set, replicate, take, get_or, length-take, le-leb, lt-leb, leb-true, both_left, both_right}
+use Rattle.types.proofs.Prelude.{ap, ◌∙◌, ◌++◌, ◌+◌, add-one, drop, drop-cons, set, replicate, take, get_or, length-take, le-leb, lt-leb, leb-true, both_left, both_right}
 use Rattle.types.proofs.Prelude.{both_1, both_true}
 use native.Mathlib.Nat.{not-suc-le-zero, le_of_suc-le-suc}
 use lib.{ListN.get_or-eq_default, Seq.get_or-take}
@@ -59,6 +59,13 @@ pub answers_by : (s : List ℕ) (r : Bool) → length s ≤ 16
 unfolding well_formed
 answers_by s true h m = sym (both_true _ _ (le-leb _ _ h) (answers_yes s m))
 answers_by s false h m = sym (both_right _ _ (answers_no s m.0 m.1 m.2))
+
+-- past answers, a byte that is none
+pub answers_bad : (s : List ℕ) (i : ℕ) → i < length s → 2 < get_or s i 0 → all_answers (drop i s) ≡ all_answers s → false ≡ well_formed s
+unfolding well_formed all_answers
+answers_bad s i h g e =
+    let b : all_answers (drop i s) ≡ false = ap all_answers (drop-cons s i 0 h) ∙ both_left _ _ (lt-leb _ _ g) in
+    sym (both_right _ _ (sym e ∙ b))
 
 pub too_long : (s : List ℕ) → 16 < length s → false ≡ well_formed s
 unfolding well_formed

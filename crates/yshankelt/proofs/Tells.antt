@@ -1,16 +1,16 @@
 -- Laws of what C is told of a machine in a row of words. Assumes nothing.
 use Rattle.std.specs.Prelude.{Option, Some, None}
-use Rattle.types.proofs.Prelude.{ℕ, ◌+◌, ◌≤◌, ◌<◌, ◌≡◌, refl, sym, ap, ◌∙◌, true, false, List, [], ◌∷◌, arith, length, get_or, replicate, le-leb}
+use Rattle.types.proofs.Prelude.{ℕ, ◌+◌, ◌≤◌, ◌<◌, ◌≡◌, refl, sym, ap, ◌∙◌, true, false, List, [], ◌∷◌, arith, length, get_or, replicate, le-leb, ne_eqb}
 use Rattle.types.proofs.{Prelude.pick_true, Prelude.pick_false, Prelude.either, Spans.length_over}
-use Rattle.types.specs.{Pick.pick, Span.over, Answer.refuse, Raw.raw_bytes}
+use Rattle.types.specs.{Pick.pick, Span.over, Answer.refuse, Answer.number_of, Answer.shown_of, Raw.raw_bytes, Names.Answer, Names.Fuel}
 use Rattle.machine.specs.{Machine.Buffers, Operation.well_formed, Outcome.settled, Outcome.changed, Step.decide, Step.step}
 use Rattle.machine.specs.{Words.row_length, Words.machine_from, Words.in_form, Words.words_of, Row.InRow, Row.operate_row, Row.fuel_of, stages.Rows.Shaped}
 use Rattle.machine.specs.declared.records.Machine.{Machine}
 use Rattle.machine.proofs.{Back.words_length, Back.row_back, Formed.form_holds}
-use Rattle.lines.specs.{Code.operation_of, Code.read_line, Session.Held, Session.Turn, Session.turn_by, Session.turn_of}
+use Rattle.lines.specs.{Code.operation_of, Code.read_line, Session.Held, Session.Turn, Session.turn_by, Session.turn_of, AnswerLine.fuel_shown}
 use Rattle.lines.specs.{Line.line_of, Line.line_text, stages.Back.with_fields, Sayable.Small, declared.line.Line.Line, declared.code.Read.Read}
 use Rattle.lines.proofs.FieldText.{line_write}
-use Rattle.yshankelt.specs.Whole.{good_line, line_from, answered, told, operate_of}
+use Rattle.yshankelt.specs.Whole.{call, good_line, line_from, answered, told, operate_of}
 use Rattle.lines.specs.declared.code.Read.TheVariants as read
 
 -- at most 8 fields, place by place
@@ -27,6 +27,12 @@ eight_fields (a ∷ b ∷ d ∷ e ∷ f ∷ g ∷ []) h = refl
 eight_fields (a ∷ b ∷ d ∷ e ∷ f ∷ g ∷ i ∷ []) h = refl
 eight_fields (a ∷ b ∷ d ∷ e ∷ f ∷ g ∷ i ∷ j ∷ []) h = refl
 eight_fields (a ∷ b ∷ d ∷ e ∷ f ∷ g ∷ i ∷ j ∷ k ∷ l) h = absurd (omega (arith, h))
+
+-- each column, from what it is known to be, where the number is not 19
+pub told_columns : (a : Answer) {n : ℕ} (l : List ℕ) (value fuel : ℕ) → n ≡ number_of a → {v f : ℕ} {g : Fuel} → (n ≡ 19 → ⊥) → v ≡ shown_of a → f ≡ fuel_shown g → g ≡ fuel_of l
+    → (b : Buffers) → call n v f l b ≡ told value fuel (record { answer = a; words = l; buffers = b })
+unfolding told
+told_columns a l value fuel e h p q r b = rw (e, p, q, r) (sym (pick_false _ _ _ (ne_eqb _ _ (λ z. h (e ∙ z)))))
 
 -- the code and fields stand for the line of text that one would write
 pub line_said : (code : ℕ) (fields : List ℕ) → code < 256 → length fields ≤ 8 → Small fields → line_of (line_text code fields) ≡ line_from code fields

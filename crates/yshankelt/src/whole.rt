@@ -2,7 +2,6 @@
 #![tactic(auto, using(types::proofs::Picks::cases), unfolding(crate::specs::Whole::line_from, crate::specs::Whole::answered, crate::specs::Whole::told, crate::specs::Whole::operate_of, lines::specs::AnswerLine::fuel_shown))]
 
 ghost use Rattle.std.specs.Prelude.{◌≡◌, ◌≤◌, length, get_or, replicate};
-ghost use Rattle.types.specs.Answer.{refuse};
 ghost use Rattle.types.specs.Span.{over};
 ghost use Rattle.machine.specs.Machine.{Buffers, buffers};
 ghost use Rattle.machine.specs.Words.{row_length};
@@ -10,18 +9,16 @@ ghost use Rattle.machine.specs.Row.{rowed, fresh_row, in_row, row_pages, row_cel
 ghost use Rattle.lines.specs.Code.{operation_of};
 ghost use Rattle.lines.specs.Line.{most_fields};
 ghost use Rattle.lines.specs.Session.{costs_of};
-ghost use Rattle.lines.specs.AnswerLine.{fuel_shown};
 ghost use Rattle.yshankelt.specs.Face.{Given};
 ghost use Rattle.yshankelt.specs.Whole.{line_from, answered, call, told, operate_of};
 
 use super::{costs, deliver};
-use lines::code;
 use lines::code::Read;
 use lines::line::{Line, MOST_FIELDS};
+use lines::{answer_line, code};
 use machine::row;
 use machine::words::ROW;
 use types::answer::{Answer, Reason, Refusal};
-use types::fuel::Fuel;
 
 // How many words a machine takes.
 #[unsafe(no_mangle)]
@@ -85,12 +82,6 @@ fn said_of(code: u8, fields: &[u64]) -> Option<Read>
     code::operation_of(line_from(code, fields))
 }
 
-fn malformed() -> Answer
-    ensures { result ≡ refuse 18 0 }
-{
-    Err(Refusal::from(Reason::Malformed))
-}
-
 // One operation, or 18: making a machine is no operation.
 fn answered(
     words: &mut [u64],
@@ -104,16 +95,8 @@ fn answered(
 {
     match said {
         Some(Read::Operation(op)) => row::operate(words, bytes, cells, items, op),
-        Some(Read::Making { .. }) => malformed(),
-        None => malformed(),
+        Some(Read::Making { .. }) | None => Err(Refusal::from(Reason::Malformed)),
     }
-}
-
-// The fuel left, 0 where metering is off.
-fn fuel_left(fuel: Fuel) -> u64
-    ensures { result ≡ fuel_shown fuel }
-{
-    if fuel.enabled { fuel.remaining } else { 0 }
 }
 
 // The columns of the answer; 19 tells nothing else.
@@ -122,9 +105,9 @@ fn tell(words: &[u64], answer: Answer, value: &mut u64, fuel: &mut u64) -> u8
         ≡ told value.old fuel.old (record { answer = answer; words = words.now; buffers = b }) }
 {
     let number = types::answer::number(answer);
-    if number != 19 {
+    if number != Reason::Unsound as u8 {
         *value = types::answer::shown(answer);
-        *fuel = fuel_left(row::fuel_of(words));
+        *fuel = answer_line::fuel_shown(row::fuel_of(words));
     }
     number
 }

@@ -1,7 +1,7 @@
 use Rattle.types.proofs.Prelude.{◌≡◌, ◌∙◌, sym, length, arith, rules, ap, ℕ}
 use Rattle.std.specs.Prelude.{Some, None, Option}
 use Rattle.std.specs.Slice.Iter.{chunks_rest}
-use Rattle.lines.proofs.FieldLaws.{fields_many, fields_char, fields_short, fields_bad, fields_on, fields_end}
+use Rattle.lines.proofs.FieldLaws.{part_many, fields_char, fields_short, fields_bad, fields_on, fields_end}
 use Rattle.lines.proofs.line.read_fields.Goals.{then-count-eq-MOST_FIELDS-via-then-count-eq-MOST_FIELDS, then-count-eq-MOST_FIELDS-via-else-count-eq-MOST_FIELDS+then-part-lt-FIELD, then-count-eq-MOST_FIELDS-via-else-count-eq-MOST_FIELDS+else-part-lt-FIELD+then-part-ne-SPACE}
 use Rattle.lines.proofs.line.read_fields.Goals as goal
 
@@ -13,7 +13,7 @@ returns-then-count-eq-MOST_FIELDS c =
     let s = c.in-Some.ensures.steps in
     let q = rw s.1.0 at l.invariant.3 in
     elim c.then-count-eq-MOST_FIELDS.branch [
-      | then-count-eq-MOST_FIELDS-via-then-count-eq-MOST_FIELDS w ↦ fields_many _ l.count p y l.list (omega arith) q (omega arith)
+      | then-count-eq-MOST_FIELDS-via-then-count-eq-MOST_FIELDS w ↦ part_many _ l.count p y l.list (omega arith) q (omega arith)
       | then-count-eq-MOST_FIELDS-via-else-count-eq-MOST_FIELDS+then-part-lt-FIELD w ↦ fields_short _ l.count p y l.list (omega arith) q (omega arith) (omega (arith, ap length s.1.0))
       | then-count-eq-MOST_FIELDS-via-else-count-eq-MOST_FIELDS+else-part-lt-FIELD+then-part-ne-SPACE w ↦ fields_char _ l.count p y l.list (omega arith) q (omega arith) w.if-part-ne-SPACE.true
     ]

@@ -42,7 +42,7 @@ returns-then-not-first c =
     let o = c.in-Some-Making in
     let g : ◌≡◌ {A = Read} o.field-0 (read.Making o.metering o.copied) = rw o.is at o.field-0-is in
     record {
-      is = turn_late (machine_from (a.words.now)) (buffers (a.bytes.now) (a.cells.now) (a.items.now)) a.first _ _ c.if-not-first.true (o.is ∙ ap (λ (z : Read). Some z) g) c.refused.ensures;
+      is = rw c.from.ensures (turn_late (machine_from (a.words.now)) (buffers (a.bytes.now) (a.cells.now) (a.items.now)) a.first _ _ c.if-not-first.true (o.is ∙ ap (λ (z : Read). Some z) g) refl);
       ready = c.requires;
       behind = refl;
     }
@@ -51,7 +51,7 @@ pub returns-in-None : goal.returns-in-None
 returns-in-None c =
     let a = c.args in
     record {
-      is = turn_none (machine_from (a.words.now)) a.first (buffers (a.bytes.now) (a.cells.now) (a.items.now)) c.in-None.is c.refused-in-None.ensures;
+      is = rw c.from-in-None.ensures (turn_none (machine_from (a.words.now)) a.first (buffers (a.bytes.now) (a.cells.now) (a.items.now)) c.in-None.is refl);
       ready = c.requires;
       behind = refl;
     }
