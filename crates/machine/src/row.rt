@@ -33,6 +33,7 @@ pub(crate) fn record_at<R: Record>(words: &[u64], i: usize) -> R
 }
 
 // Where the next room of a kind starts.
+// 0 is a place here, and no sign: the first room of a kind starts there.
 pub(crate) fn next_room<R: Record>(words: &[u64]) -> usize
     requires { (row_length ≤ length words.now) × (R.used (machine_from words.now).counts ≤ capacity)
         × (next_room (end_of R.start R.room) R.none (R.used (machine_from words.now).counts) (R.listed (machine_from words.now)) < 2 ^ 64) }
