@@ -43,6 +43,7 @@ pub(crate) trait Grows: Copy {
 }
 
 // Growth of record `i`, of `count` in use: 19 where the list is unsound, 16 where there is no such record.
+// Its parameters are those of the public `grow` of a memory and of a table, whose contracts name each by itself.
 pub(crate) fn grow<T: Grows>(
     list: &mut [T],
     count: usize,

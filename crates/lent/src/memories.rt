@@ -64,6 +64,7 @@ impl Grows for Memory {
 }
 
 // Growth of memory `i`, of `count` in use: 19 where the list is unsound, 16 where there is no such memory.
+// Its contract names each of the seven parameters by itself.
 pub fn grow(
     memories: &mut [Memory],
     count: usize,

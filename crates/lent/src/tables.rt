@@ -67,6 +67,7 @@ impl Grows for Table {
 }
 
 // Growth of table `i`, of `count` in use: 19 where the list is unsound, 16 where there is no such table.
+// Its contract names each of the eight parameters by itself.
 pub fn grow(
     tables: &mut [Table],
     count: usize,

@@ -16,9 +16,6 @@ put_turn l s row at i h g e =
     ap (λ (x : List ℕ). set x (at + i) (get_or row i 0)) e
     ∙ rw add-one (put_more l row at i (omega arith) g)
 
-pub put_done : (l s row : List ℕ) (at i : ℕ) → length row ≤ i → s ≡ over l at (take i row) → s ≡ over l at row
-put_done l s row at i h e = e ∙ ap (over l at) (take_all i row h)
-
 -- one piece more, where the place is known
 pub then_over : (l s t vs ws : List ℕ) (a b n : ℕ) → length vs ≡ n → b ≡ a + n → b ≤ length l → s ≡ over l a vs → t ≡ over s b ws
     → t ≡ over l a (vs ++ ws)

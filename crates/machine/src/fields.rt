@@ -12,6 +12,7 @@ use types::span::CopySpan;
 use types::wide::WORD32;
 
 // Store kinds whose value has 32 bits.
+// A set of four kinds, and no equality that a derive could give.
 fn narrow_store(kind: StoreKind) -> bool
     ensures { result ≡ narrow_store kind }
 {

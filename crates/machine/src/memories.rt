@@ -61,6 +61,7 @@ pub fn perform(
 }
 
 // 11 to 14, 30: 16, then the memory's own operation.
+// Not one with `on_table`: a trait over operation, buffer and grown record would be longer than both bodies.
 pub(crate) fn on_memory(words: &[u64], bytes: &mut [u8], number: u64, op: MemoryOp) -> Outcome
     requires { (row_length ≤ length words.now) × ((machine_from words.now).counts.memories ≤ capacity) }
     ensures { done result bytes.new ≡ on_memory (machine_from words.now) bytes.old number op }

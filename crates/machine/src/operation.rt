@@ -13,6 +13,7 @@ use types::span::CopySpan;
 use types::table_ty::WantedTable;
 
 // The limiter's answers: so many, as leading digits.
+// Digits of one number, and no slice: the definition `script_of` and the C interface have them so.
 #[derive(Clone, Copy)]
 pub struct Script {
     pub count: u64,

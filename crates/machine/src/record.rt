@@ -78,6 +78,7 @@ pub(crate) trait Record: Copy {
         ensures { result ≡ read words.now at };
 
     // Whether its flags are 0 or 1.
+    // A memory's and a table's are one call; as a default it would be a segment's too, whose form is another.
     fn in_form(words: &[u64], at: usize) -> bool
         requires { at + WIDTH ≤ length words.now }
         ensures { result ≡ in_form words.now at };
@@ -95,6 +96,7 @@ pub(crate) trait Record: Copy {
     fn used(counts: Counts) -> usize
         ensures { result ≡ used counts };
 
+    // Each kind counts its own field of `Counts`, which the public definitions name.
     fn one_more(counts: Counts) -> Counts
         requires { used counts < capacity }
         ensures { result ≡ more counts };
@@ -457,6 +459,7 @@ impl Record for ElementSegment {
     ghost ends = { segment_ends };
 }
 
+// Not `From<bool>`: it would not say which kind `true` is, as the parameter's name does.
 fn element_of(external: bool) -> RefType
     ensures { result ≡ element_of external }
 {

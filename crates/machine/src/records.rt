@@ -81,6 +81,7 @@ impl Machine {
         }
     }
 
+    // Three names over one body, `record_at`: they are public, and so are their definitions.
     // The record of a memory.
     pub fn memory_at(self, i: usize) -> Memory
         ensures { result ≡ memory_at self i }

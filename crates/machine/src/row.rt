@@ -1,5 +1,5 @@
 // The records of a row by number, where the next room starts, and one operation on a machine in place.
-#![tactic(auto, using(types::proofs::Picks::cases, crate::proofs::Formed::form_long, crate::proofs::Settling::tested_inside, crate::proofs::Settling::operates_malformed, crate::proofs::Settling::operates_unready, crate::proofs::Settling::operates_goes), unfolding(crate::specs::stages::Records::known, crate::specs::stages::Records::next_room, crate::specs::stages::Records::end_of, crate::specs::Machine::next_byte, crate::specs::Machine::next_cell, crate::specs::Machine::next_item, crate::specs::Row::fresh_row, crate::specs::Row::fuel_of, crate::specs::Row::row_pages, crate::specs::Row::row_cells, crate::specs::stages::Rows::ends_inside, crate::specs::stages::Rows::changed_row))]
+#![tactic(auto, using(types::proofs::Picks::cases, crate::proofs::Formed::form_long), unfolding(crate::specs::stages::Records::known, crate::specs::stages::Records::next_room, crate::specs::stages::Records::end_of, crate::specs::Machine::next_byte, crate::specs::Machine::next_cell, crate::specs::Machine::next_item, crate::specs::Row::fresh_row, crate::specs::Row::fuel_of, crate::specs::Row::row_pages, crate::specs::Row::row_cells, crate::specs::stages::Rows::ends_inside, crate::specs::stages::Rows::changed_row))]
 
 ghost use Rattle.std.specs.Prelude.{◌≡◌, ◌+◌, ◌*◌, ◌≤◌, ◌<◌, ◌^◌, leb, ltb, length, get_or};
 ghost use Rattle.types.specs.Pick.{pick, both};
@@ -33,6 +33,7 @@ pub(crate) fn record_at<R: Record>(words: &[u64], i: usize) -> R
 }
 
 // Where the next room of a kind starts.
+// 0 is a place here, and no sign: the first room of a kind starts there.
 pub(crate) fn next_room<R: Record>(words: &[u64]) -> usize
     requires { (row_length ≤ length words.now) × (R.used (machine_from words.now).counts ≤ capacity)
         × (next_room (end_of R.start R.room) R.none (R.used (machine_from words.now).counts) (R.listed (machine_from words.now)) < 2 ^ 64) }
@@ -145,6 +146,7 @@ fn go(
 }
 
 // One operation on a row whose form and soundness the caller carries from call to call: only its length, the counts and the next rooms' starts are tested.
+#[tactic(auto, using(types::proofs::Picks::cases, crate::proofs::Settling::tested_inside))]
 pub fn proceed(
     words: &mut [u64],
     bytes: &mut [u8],
@@ -165,6 +167,7 @@ pub fn proceed(
 }
 
 // One operation on a machine in place: 18, 19 for a row out of form or unsound, then the rest.
+#[tactic(auto, using(types::proofs::Picks::cases, crate::proofs::Settling::operates_malformed, crate::proofs::Settling::operates_unready, crate::proofs::Settling::operates_goes))]
 pub fn operate(
     words: &mut [u64],
     bytes: &mut [u8],

@@ -20,6 +20,7 @@ use types::raw::RefType;
 use types::span::CopySpan;
 
 // 27: 16, then an init.
+// Six parameters: the definition `init_on`, which the public ones cite, names each by itself.
 pub(crate) fn table_init(
     words: &[u64],
     cells: &mut [u64],

@@ -51,6 +51,7 @@ pub fn perform(
 }
 
 // 21 to 25: 16, then the table's own operation.
+// Not one with `on_memory`: a trait over operation, buffer and grown record would be longer than both bodies.
 pub(crate) fn on_table(words: &[u64], cells: &mut [u64], number: u64, op: TableOp) -> Outcome
     requires { (row_length ≤ length words.now) × ((machine_from words.now).counts.tables ≤ capacity) }
     ensures { done result cells.new ≡ on_table raw_bytes (machine_from words.now) cells.old number op }

@@ -164,6 +164,7 @@ fn value(kind: LoadKind, bits: u64) -> Value
 }
 
 // A load from the `size` bytes from `base` on.
+// The definition `load_at`, which `load` and `load_memory` cite, names each parameter by itself.
 pub(crate) fn load_at(
     bytes: &[u8],
     base: usize,
@@ -212,6 +213,7 @@ fn store_width(bytes: &mut [u8], at: usize, width: Width, bits: u64)
 }
 
 // A store to the `size` bytes from `base` on.
+// The definition `store_at`, which `store` and `store_memory` cite, names each parameter by itself.
 pub(crate) fn store_at(
     bytes: &mut [u8],
     base: usize,

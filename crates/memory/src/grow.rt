@@ -25,6 +25,7 @@ pub struct GrownMemory {
     pub limiter: Limiter,
 }
 
+// Not one with a table's: each makes its own public record, whose fields the public definitions `answered` name.
 fn answered_with(answer: Answer, memory: Memory, fuel: Fuel, limiter: Limiter) -> GrownMemory
     ensures { result ≡ answered answer memory fuel limiter }
 {

@@ -110,6 +110,7 @@ impl Memory {
     }
 
     // A store: 9 outside, 19 where the record is unsound.
+    // Its public definition `store_memory` names each parameter by itself.
     pub fn store(
         self,
         bytes: &mut [u8],

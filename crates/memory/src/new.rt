@@ -20,6 +20,7 @@ pub struct CreatedMemory {
     pub limiter: Limiter,
 }
 
+// Not one with `no_table`: each makes its own public record, whose fields the public definitions `refused` name.
 fn no_memory(limiter: Limiter, refusal: Refusal) -> CreatedMemory
     ensures { result ≡ refused limiter refusal }
 {

@@ -1,20 +1,11 @@
 -- Laws of span operations: what the grant of a span shows of its bounds, and what its outcome is. Assumes nothing.
-use Rattle.std.specs.Prelude.{Ok, Err, Result}
-use Rattle.types.proofs.Prelude.{◌≡◌, sym, ap, ◌∙◌, Bool, true, List, ℕ, ◌+◌, ◌≤◌, arith, both_1, both_2, known_test}
+use Rattle.std.specs.Prelude.{Ok, Result}
+use Rattle.types.proofs.Prelude.{◌≡◌, sym, ◌∙◌, Bool, true, ℕ, ◌+◌, ◌≤◌, arith, both_1, both_2, known_test}
 use Rattle.types.proofs.{Spans.within_is, Grants.granted_span}
-use Rattle.types.specs.{Pick.both, Span.inside, Answer.accept, Done.span_done, stages.Grant.grant_span, stages.Grant.spanned, declared.answer.Refusal.Refusal}
+use Rattle.types.specs.{Pick.both, Span.inside, stages.Grant.grant_span, declared.answer.Refusal.Refusal}
 use Rattle.types.specs.{declared.fuel.Fuel.Fuel}
 use Rattle.table.specs.{stages.Facts.Within, stages.Facts.Places, stages.Facts.Goes, declared.table.Table.Table}
 use Rattle.table.specs.declared.element.ElementSegment.{ElementSegment}
-
--- by the fuel step
-pub spanned_done_lem : (s : Result Fuel Refusal) (f g : Fuel) (cs new r : List ℕ) → s ≡ Ok g → r ≡ new → span_done (accept 0) g r ≡ spanned s f cs new
-unfolding spanned
-spanned_done_lem s f g cs new r e p = rw e (ap (span_done (accept 0) g) p)
-
-pub spanned_refused : (s : Result Fuel Refusal) (f : Fuel) (r : Refusal) (cs new : List ℕ) → s ≡ Err r → span_done (Err r) f cs ≡ spanned s f cs new
-unfolding spanned
-spanned_refused s f r cs new e = rw e
 
 -- the bounds that a grant shows, in a table whose size lies in the buffer
 module _ (t : Table) (len i n : ℕ) (w : Within t len) where

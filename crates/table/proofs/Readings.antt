@@ -89,11 +89,6 @@ pub plan_missed : (b : Result TableType Refusal) (init : TypedRawRef) (start roo
 unfolding planned
 plan_missed b init start room e = sym (ap (λ (x : Result TableType Refusal). planned x init start room) e)
 
-pub plan_by : (b : Result TableType Refusal) (init : TypedRawRef) (start room : ℕ) {t : TableType} {x : Result Table Refusal} → b ≡ Ok t
-    → x ≡ pick (element_matches t init.ty) (Ok (new.table_of t start room t.limits.minimum)) (Err (refusal 14 0)) → x ≡ planned b init start room
-unfolding planned
-plan_by b init start room e q = q ∙ sym (ap (λ (x : Result TableType Refusal). planned x init start room) e)
-
 -- what is made by a plan
 unfoldable plan_made : Result Table Refusal → ℕ → List ℕ → Limiter → Done CreatedTable
 plan_made (Err r) bits cs l = done (new.refused l r) cs

@@ -1,5 +1,5 @@
 // Copying cells between two tables, which may be one, in the order of checks of document 01.
-#![tactic(auto, using(types::proofs::Picks::cases, types::proofs::Dones::done_as, crate::proofs::Readings::copy_reads), unfolding(crate::specs::stages::Spans::paid_by, types::specs::stages::Grant::spanned, types::specs::Span::inside, crate::specs::Copy::same_table, crate::specs::Copy::rooms_apart, crate::specs::Copy::sound_two, crate::specs::stages::Spans::copy_bounds, crate::specs::stages::Spans::copy_kinds))]
+#![tactic(auto, using(types::proofs::Picks::cases, types::proofs::Dones::done_as), unfolding(crate::specs::stages::Spans::paid_by, types::specs::stages::Grant::spanned, types::specs::Span::inside, crate::specs::Copy::same_table, crate::specs::Copy::rooms_apart, crate::specs::Copy::sound_two, crate::specs::stages::Spans::copy_bounds))]
 
 ghost use Rattle.std.specs.Prelude.{◌≡◌, length};
 ghost use Rattle.types.specs.Done.{done};
@@ -67,6 +67,7 @@ fn sound_two(into: Table, source: Table, len: usize) -> bool
 impl Table {
     // Cells of a table, this one or another, go to this one, read as they were before: 14, 12 outside, 7; 19 where a record is unsound
     // or the rooms of two tables meet.
+    #[tactic(auto, using(types::proofs::Picks::cases, types::proofs::Dones::done_as, crate::proofs::Readings::copy_reads), unfolding(crate::specs::stages::Spans::copy_kinds))]
     pub fn copy(self, source: Table, cells: &mut [u64], span: CopySpan, fuel: Fuel) -> Spanned
         ensures { done result cells.new ≡ copy_table raw_bytes self source cells.old span fuel }
     {

@@ -1,5 +1,5 @@
 // Filling cells of a table, in the order of checks of document 01.
-#![tactic(auto, using(types::proofs::Picks::cases, types::proofs::Dones::done_as, crate::proofs::Readings::fill_reads, crate::proofs::Sounds::tested_within), unfolding(crate::specs::stages::Spans::paid_by, types::specs::stages::Grant::spanned, crate::specs::stages::Spans::fill_kind, crate::specs::stages::Spans::fill_sound))]
+#![tactic(auto, using(types::proofs::Picks::cases, types::proofs::Dones::done_as), unfolding(crate::specs::stages::Spans::paid_by, types::specs::stages::Grant::spanned, crate::specs::stages::Spans::fill_kind))]
 
 ghost use Rattle.std.specs.Prelude.{◌≡◌, length};
 ghost use Rattle.types.specs.Done.{done};
@@ -33,6 +33,7 @@ fn fill_kind(table: Table, cells: &mut [u64], span: FillSpan, bits: u64, fuel: F
 
 impl Table {
     // The cells of the span become the reference: 14, 11 outside, 7; 19 where the record is unsound.
+    #[tactic(auto, using(types::proofs::Picks::cases, types::proofs::Dones::done_as, crate::proofs::Readings::fill_reads, crate::proofs::Sounds::tested_within), unfolding(crate::specs::stages::Spans::fill_sound))]
     pub fn fill(self, cells: &mut [u64], span: FillSpan, value: TypedRawRef, fuel: Fuel) -> Spanned
         ensures { done result cells.new ≡ fill_table raw_bytes self cells.old span value fuel }
     {

@@ -27,6 +27,7 @@ pub struct GrownTable {
     pub limiter: Limiter,
 }
 
+// Not one with a memory's: each makes its own public record, whose fields the public definitions `answered` name.
 fn answered_with(answer: Answer, table: Table, fuel: Fuel, limiter: Limiter) -> GrownTable
     ensures { result ≡ answered answer table fuel limiter }
 {
@@ -57,6 +58,7 @@ fn grant(table: Table, size: u64, fuel: Fuel, limiter: Limiter) -> Growth
 }
 
 // The growth to a size: what is granted becomes the reference.
+// Its parameters are those of the public `grow`, whose definition names each by itself; so are those of `grow_some`.
 fn grow_to(
     table: Table,
     cells: &mut [u64],
@@ -116,6 +118,7 @@ fn grow_some(
 
 impl Table {
     // Growth by a number of cells: 14, 6, the limiter's 6 or 4, then 6 above the maximum, 7 and 8 with notice; 19 where the record is unsound.
+    // The definition `grow_table` names each parameter by itself.
     pub fn grow(
         self,
         cells: &mut [u64],

@@ -1,5 +1,5 @@
 // Writing a segment's items into a table, in the order of checks of document 01.
-#![tactic(auto, using(types::proofs::Picks::cases, types::proofs::Dones::done_as, crate::proofs::Readings::init_reads, crate::proofs::Sounds::tested_pair), unfolding(crate::specs::stages::Spans::paid_by, types::specs::stages::Grant::spanned, crate::specs::stages::Spans::init_some, crate::specs::stages::Spans::init_bounds, crate::specs::stages::Spans::init_kinds))]
+#![tactic(auto, using(types::proofs::Picks::cases, types::proofs::Dones::done_as), unfolding(crate::specs::stages::Spans::paid_by, types::specs::stages::Grant::spanned, crate::specs::stages::Spans::init_some, crate::specs::stages::Spans::init_bounds))]
 
 ghost use Rattle.std.specs.Prelude.{◌≡◌, ◌+◌, ◌≤◌, length};
 ghost use Rattle.types.specs.Pick.{both};
@@ -21,6 +21,7 @@ use types::raw::RawRef;
 use types::span::CopySpan;
 
 // The fuel step of a length above 0.
+// Its parameters are those of the public `init`, whose definition names each by itself; so are those of `init_bounds`.
 fn init_some(
     table: Table,
     segment: ElementSegment,
@@ -67,6 +68,8 @@ fn init_bounds(
 
 impl Table {
     // Items of a segment go to cells of the table: 14, 13 outside, length 0 is free, 7; 19 where a record is unsound.
+    // The definition `init_table` names each parameter by itself.
+    #[tactic(auto, using(types::proofs::Picks::cases, types::proofs::Dones::done_as, crate::proofs::Readings::init_reads, crate::proofs::Sounds::tested_pair), unfolding(crate::specs::stages::Spans::init_kinds))]
     pub fn init(
         self,
         segment: ElementSegment,

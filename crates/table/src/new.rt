@@ -21,6 +21,7 @@ pub struct CreatedTable {
     pub limiter: Limiter,
 }
 
+// Not one with `no_memory`: each makes its own public record, whose fields the public definitions `refused` name.
 fn no_table(limiter: Limiter, refusal: Refusal) -> CreatedTable
     ensures { result ≡ refused limiter refusal }
 {
@@ -71,6 +72,7 @@ fn make(table: Table, bits: u64, cells: &mut [u64], limiter: Limiter) -> Created
 }
 
 // A new table in the `room` cells from `start` on: 1, 14, the limiter's 3 or 4, 5 with notice; 19 where the room is not inside the buffer.
+// The definition `new_table` names each parameter by itself.
 pub fn new_table(
     wanted: WantedTable,
     initial: TypedRawRef,

@@ -78,6 +78,7 @@ fn within_bound(ty: TableType, size: u64) -> bool
 }
 
 // Whether the type is valid and has so many cells, as for a memory.
+// Not one with `sound_pages`: a bound as two halves costs short accesses of a memory more, and one as a closure asks a `requires` of a public function.
 fn sound_cells(ty: TableType, size: u64) -> bool
     ensures { result ≡ held ty.limits (table_bound ty) size }
 {
