@@ -22,6 +22,7 @@ fn on_fuel(op: FuelOp) -> Option<Read>
     Some(Read::Operation(Operation::Fuel { op }))
 }
 
+// One of a memory and one of a table: their operations are of two types, and a trait for these two lines would be longer.
 fn on_memory(number: u64, op: MemoryOp) -> Option<Read>
     ensures { result ≡ Some (Read.Operation (Operation.Memory number op)) }
 {

@@ -119,6 +119,7 @@ pub(crate) fn table_type(
     })
 }
 
+// A load's kind and a store's: two arrays, each with its own test; one function over both would take the array and its length.
 pub(crate) fn load_kind(n: u64) -> Option<LoadKind>
     ensures { result ≡ in_range (load_in n) (load_kind_of n) }
 {

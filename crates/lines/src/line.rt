@@ -18,6 +18,7 @@ pub const MOST_FIELDS: usize = 8;
 // A field's bytes: a space and 16 digits.
 const FIELD: usize = 17;
 
+// No heap: the fields stand in a row that is as long as a line can be, with their number beside it.
 #[derive(Clone, Copy)]
 pub struct Line {
     pub code: u64,

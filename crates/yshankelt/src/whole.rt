@@ -132,7 +132,7 @@ pub extern "C" fn ysh_operate(
     tell(words, answer, value, fuel)
 }
 
-// A memory's size in pages, over buffers of these lengths: 12's answer on a row in form. Of the form that record's flags alone are tested.
+// A memory's size in pages, over buffers of these lengths: 12's answer on a row in form. Of the form that record's flags alone are tested. C has a name for each of the two sizes.
 #[unsafe(no_mangle)]
 pub extern "C" fn ysh_memory_pages(
     words: &[u64],
