@@ -2,7 +2,7 @@
 use Rattle.std.specs.Prelude.{Some, None, Option, Ok}
 use Rattle.types.proofs.Prelude.{ℕ, ◌+◌, ◌-◌, ◌^◌, ◌≤◌, ◌<◌, ◌≡◌, refl, sym, ap, ◌∙◌, Bool, true, false, List, arith, ltb, lt-ltb, le-ltb, pick_true}
 use Rattle.types.proofs.{Prelude.pick_false, Spans.within_is}
-use Rattle.types.specs.{Pick.pick, Done.done, Span.inside, Span.cut, Span.over, Answer.refuse, Answer.accept}
+use Rattle.types.specs.{Pick.pick, Done.done, Span.inside, Span.cut, Span.over, Answer.accept}
 use Rattle.memory.specs.LittleEndian.{le_bytes, le_value}
 use Rattle.memory.specs.Access.{width_bytes, address_of, load_width, extend, loaded_of, load_found, load_at, store_width, store_found, store_at}
 use Rattle.memory.specs.{declared.access.Width.Width, declared.access.LoadKind.LoadKind, declared.access.StoreKind.StoreKind}
@@ -49,10 +49,6 @@ module _ (size ptr offset : ℕ) {w v : Width} {n : ℕ} {r : Option ℕ} (p : w
 
 -- a load by what was found
 module _ (k : LoadKind) (bs : List ℕ) (base size ptr offset : ℕ) where
-  pub load_missed : address_of size ptr offset (width_bytes (load_width k)) ≡ None → refuse 9 0 ≡ load_at k bs base size ptr offset
-  unfolding load_at load_found
-  load_missed e = ap (load_found k bs base) (sym e)
-
   pub loaded_at : {w : Width} {a v : ℕ} → w ≡ load_width k → address_of size ptr offset (width_bytes (load_width k)) ≡ Some a
       → v ≡ le_value (cut bs (base + a) (width_bytes w)) → Ok (extend k v) ≡ load_at k bs base size ptr offset
   unfolding load_at load_found loaded_of
@@ -61,10 +57,6 @@ module _ (k : LoadKind) (bs : List ℕ) (base size ptr offset : ℕ) where
 
 -- a store by what was found
 module _ (k : StoreKind) (bs : List ℕ) (base size ptr offset v : ℕ) where
-  pub store_missed : address_of size ptr offset (width_bytes (store_width k)) ≡ None → done (refuse 9 0) bs ≡ store_at k bs base size ptr offset v
-  unfolding store_at store_found
-  store_missed e = ap (store_found k bs base v) (sym e)
-
   pub stored_by : {w : Width} {a : ℕ} {cs : List ℕ} → w ≡ store_width k → address_of size ptr offset (width_bytes (store_width k)) ≡ Some a
       → cs ≡ over bs (base + a) (le_bytes (width_bytes w) v) → done (accept 0) cs ≡ store_at k bs base size ptr offset v
   unfolding store_at store_found

@@ -1,6 +1,6 @@
 -- The stages of the code are the chains of checks that the definitions say. Assumes nothing.
 use Rattle.std.specs.Prelude.{Ok, Err, Some, None, Option, Result, ⊤}
-use Rattle.types.proofs.Prelude.{◌≡◌, ap, sym, ◌∙◌, Bool, true, false, List, ℕ, ◌+◌, ◌-◌, ◌^◌, eqb, leb, ltb, length, replicate, pick_true, pick_false, arith, eq-eqb, ne_eqb}
+use Rattle.types.proofs.Prelude.{◌≡◌, ap, sym, ◌∙◌, Bool, true, false, List, ℕ, ◌+◌, ◌-◌, ◌^◌, eqb, leb, ltb, length, replicate, pick_true, pick_false, arith}
 use Rattle.types.proofs.{Picks.pick_ap, Chains.growth_chain, Chains.creation_chain}
 use Rattle.types.specs.{Pick.pick, Pick.both, Pick.unless, Done.Done, Done.done, Span.over, Answer.refusal, Answer.refuse, Answer.accept, Fuel.short, Fuel.paid}
 use Rattle.types.specs.{Limiter.says_of, Limiter.moved, Limiter.heard_of, Limiter.noticed, declared.fuel.Fuel.Fuel, declared.limiter.Limiter.Limiter}
@@ -56,16 +56,6 @@ grown_as m bs size f l {g} e q =
     ap (λ (x : Result ⊤ Refusal). enlarged_by x g.fuel g.limiter m bs size) (sym q)
     ∙ ap (λ (x : Growth). enlarged_by x.permit x.fuel x.limiter m bs size) e
 
--- the ways out of a growth of a sound record
-module _ (m : Memory) (bs : List ℕ) (n : ℕ) (f : Fuel) (l : Limiter) (h : sound_memory m (length bs) ≡ true) {g : Done GrownMemory} where
-  pub grow_none : n ≡ 0 → g ≡ done (answered (accept (pages_of m)) m f l) bs → g ≡ grow_memory m bs n f l
-  unfolding grow_sound
-  grow_none e q = grow_goes m bs n f l h (q ∙ sym (pick_true _ _ _ (eq-eqb _ _ e)))
-
-  pub grow_by : {o : Option ℕ} → (n ≡ 0 → ⊥) → o ≡ reach_of m n → g ≡ by_reach o m bs f l → g ≡ grow_memory m bs n f l
-  unfolding grow_sound
-  grow_by e p q = grow_goes m bs n f l h (q ∙ ap (λ (o : Option ℕ). by_reach o m bs f l) p ∙ sym (pick_false _ _ _ (ne_eqb _ _ e)))
-
 -- by what the limiter and the room say
 pub made_as : (l : Limiter) (m : Memory) (bs : List ℕ) {a : Asked} {p : Result ⊤ Refusal} → a ≡ grant_creation l (leb m.size m.room) → a.permit ≡ p
     → made_by p a.limiter m bs ≡ made_of l m bs
@@ -77,12 +67,6 @@ made_as l m bs {a} e q =
 pub plan_missed : (b : Result MemoryType Refusal) (start room : ℕ) {r : Refusal} → b ≡ Err r → Err r ≡ planned b start room
 unfolding planned
 plan_missed b start room e = sym (ap (λ (x : Result MemoryType Refusal). planned x start room) e)
-
-pub plan_sized : (b : Result MemoryType Refusal) (start room : ℕ) {t : MemoryType} {m o : Option ℕ} → b ≡ Ok t → m ≡ minimum_bytes t → m ≡ o
-    → sized o t start room ≡ planned b start room
-unfolding planned
-plan_sized b start room {t} e p q =
-    ap (λ (x : Option ℕ). sized x t start room) (sym q ∙ p) ∙ sym (ap (λ (x : Result MemoryType Refusal). planned x start room) e)
 
 plan_stops : (b : Result MemoryType Refusal) (start room : ℕ) (bs : List ℕ) (l : Limiter) {r : Refusal} → planned b start room ≡ Err r
     → done (new.refused l r) bs ≡ by_type b l start room bs

@@ -1,5 +1,5 @@
 -- Laws of soundness: what the test shows, and the exits of the functions that test it. Assumes nothing.
-use Rattle.types.proofs.Prelude.{ℕ, ◌+◌, ◌/◌, ◌%◌, ◌^◌, ◌≤◌, ◌<◌, ◌≡◌, sym, ap, ◌∙◌, Bool, true, false, arith, leb, le-leb, lt-leb, leb-true, eq-eqb, ne_eqb}
+use Rattle.types.proofs.Prelude.{ℕ, ◌+◌, ◌/◌, ◌%◌, ◌^◌, ◌≤◌, ◌<◌, ◌≡◌, sym, ap, ◌∙◌, Bool, true, false, arith, leb, le-leb, leb-true, eq-eqb, ne_eqb}
 use Rattle.types.proofs.Prelude.{eqb-true, both_true, both_left, both_right, both_then, both_1, both_2}
 use Rattle.types.specs.{Pick.both, stages.Held.held, Limits.admits_of, MemoryType.page_bytes, MemoryType.page_bound, MemoryType.valid_memory, IndexType.max_size}
 use Rattle.types.specs.{declared.index_ty.IndexType.IndexType, declared.index_ty.IndexType.TheVariants.I64, declared.memory_ty.PageSize.PageSize}
@@ -59,15 +59,6 @@ pub bound_all : (t : MemoryType) (n : ℕ) → n < 2 ^ 64 → t.index ≡ I64 �
 bound_all t n h e d =
     let g : n ≤ 2 ^ 64 = omega arith in
     sym (le-leb n (2 ^ 64) g) ∙ bound_of t I64 One n e d
-
--- the exits of the room's test
-pub room_past : (m : Memory) (len : ℕ) → len < m.start + m.room → false ≡ sound_room m len
-unfolding sound_room
-room_past m len h = sym (both_left _ _ (lt-leb _ _ h))
-
-pub room_by : (m : Memory) (len : ℕ) → m.start + m.room ≤ len → leb m.size m.room ≡ sound_room m len
-unfolding sound_room
-room_by m len h = sym (both_then _ _ (le-leb _ _ h))
 
 -- the exits of the size's test, by the pages of each case
 module _ (m : Memory) (p : PageSize) (e : m.ty.page ≡ p) where
