@@ -1,4 +1,5 @@
 pub mod Lists
+pub mod FuelLaws
 pub mod GrowthLaws
 pub mod RecordLaws
 pub mod Unique
