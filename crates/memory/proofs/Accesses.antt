@@ -39,13 +39,14 @@ address_is size ptr offset n a = go (ltb (ptr + offset) (2 ^ 64)) (inside (ptr +
     go true false e q = let z : ◌≡◌ {A = ℕ} 0 1 = cc in absurd (omega arith)
     go false u e q = let z : ◌≡◌ {A = ℕ} 0 1 = cc in absurd (omega arith)
 
+-- an address that was found leaves room behind base for the bytes, however many
+pub address_found : (size ptr offset n base len : ℕ) (r : Option ℕ) → r ≡ address_of size ptr offset n → base + size ≤ len → (a : ℕ) → r ≡ Some a → base + (a + n) ≤ len
+address_found size ptr offset n base len r e h a q = omega (arith, (address_is size ptr offset n a (sym e ∙ q)).1)
+
 -- what the code found of an access of width w, and where
 module _ (size ptr offset : ℕ) {w v : Width} {n : ℕ} {r : Option ℕ} (p : w ≡ v) (q : n ≡ width_bytes w) (d : r ≡ address_of size ptr offset n) where
   pub asked : {x : Option ℕ} → r ≡ x → address_of size ptr offset (width_bytes v) ≡ x
   asked e = ap (λ (u : Width). address_of size ptr offset (width_bytes u)) (sym p) ∙ ap (address_of size ptr offset) (sym q) ∙ sym d ∙ e
-
-  pub address_found : (base len : ℕ) {a : ℕ} → r ≡ Some a → base + size ≤ len → base + a + width_bytes w ≤ len
-  address_found base len {a} e h = omega (arith, (address_is size ptr offset n a (sym d ∙ e)).1, q)
 
 -- a load by what was found
 module _ (k : LoadKind) (bs : List ℕ) (base size ptr offset : ℕ) where

@@ -4,8 +4,8 @@ use Rattle.memory.proofs.access.store_at.Goals as goal
 
 pub overflow_add-base : goal.overflow_add-base
 overflow_add-base c =
-    let h = address_found _ _ _ c.width-width.ensures c.bytes.ensures c.locate.ensures _ _ c.in-Some.is c.requires in
+    let h = address_found _ _ _ _ _ _ _ c.locate.ensures c.requires _ c.in-Some.is in
     omega arith
 
 pub store_width-requires : goal.store_width-requires
-store_width-requires c = address_found _ _ _ c.width-width.ensures c.bytes.ensures c.locate.ensures _ _ c.in-Some.is c.requires
+store_width-requires c = omega (arith, address_found _ _ _ _ _ _ _ c.locate.ensures c.requires _ c.in-Some.is, c.bytes.ensures)
