@@ -54,7 +54,9 @@ impl Host {
     }
 
     // All whole lines; answers how many bytes they are.
-    pub(crate) fn answer(&mut self, rt: &impl Print, input: &[u8]) -> Result<usize, Failure> {
+    pub(crate) fn answer(&mut self, rt: &impl Print, input: &[u8]) -> Result<usize, Failure>
+        ensures { IfOk result (λ used. used ≤ length input.now) }
+    {
         let mut rest = input;
         // Not a `for`: a piece takes as many lines as their answers have room for.
         while !rest.is_empty() {

@@ -1,4 +1,8 @@
 // The input that a session still has to use.
+ghost use Rattle.std.specs.Prelude.{◌≡◌};
+ghost use Rattle.types.specs.Done.{done};
+ghost use Rattle.lines.specs.Input.{kept_of};
+
 use super::failure::Failure;
 use super::host::Host;
 use lines::input::{end_line, keep};
@@ -19,11 +23,18 @@ impl Input {
         }
     }
 
+    // What is left of the first bytes, behind those used, is kept.
+    fn settle(&mut self, used: usize, end: usize)
+        ensures { done self.new.kept self.new.bytes ≡ kept_of self.old.bytes used end }
+    {
+        self.kept = keep(&mut self.bytes, used, end);
+    }
+
     // The whole lines of the first bytes are answered, and what is left comes to the start.
     fn use_up(&mut self, rt: &impl Print, host: &mut Host, end: usize) -> Result<(), Failure> {
         if let Some(input) = self.bytes.get(..end) {
             let used = host.answer(rt, input)?;
-            self.kept = keep(&mut self.bytes, used, end);
+            self.settle(used, end);
         }
         Ok(())
     }
