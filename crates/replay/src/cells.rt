@@ -1,20 +1,23 @@
 // The cells of a machine's memories and tables, in hexadecimal.
 use machine::records::Machine;
 use memory::memory::Memory;
-use std::{fmt, io};
+use std::io;
 use table::table::Table;
 
-// Two digits for each byte.
-#[derive(Drop)]
-struct Hex<'a>(&'a [u8]);
+// The bytes of one line.
+const LINE: usize = 32;
 
-impl fmt::Display for Hex<'_> {
-    fn fmt<W: fmt::Write>(&self, f: &mut fmt::Formatter<W>) -> fmt::Result {
-        for b in self.0 {
-            write!(f, "{b:02x}")?;
-        }
-        Ok(())
+const DIGITS: [u8; 16] = *b"0123456789abcdef";
+
+// A line of bytes, at most 32: two digits each, and LF. Not a `Display`, whose digits go through a formatter: that takes three to six times the instructions.
+fn digits<'a>(line: &[u8], row: &'a mut [u8; 2 * LINE + 1]) -> &'a [u8] {
+    for (pair, b) in row.chunks_exact_mut(2).zip(line) {
+        pair[0] = DIGITS[(*b / 16) as usize];
+        pair[1] = DIGITS[(*b % 16) as usize];
     }
+    let end = 2 * line.len().min(LINE);
+    row[end] = b'\n';
+    &row[..=end]
 }
 
 // The cells of a record in their buffer, which has them all on every machine of a replay.
@@ -29,8 +32,9 @@ fn show_memory(rt: &impl Print, number: usize, memory: &Memory, bytes: &[u8]) ->
     let size = memory.size;
     let part = cells_of(bytes, memory.start, size)?;
     println!(rt; "memory {number:x} {size:016x}")?;
-    for line in part.chunks(32) {
-        rt.println(Hex(line))?;
+    let mut row = [0; 2 * LINE + 1];
+    for line in part.chunks(LINE) {
+        rt.write_all(digits(line, &mut row))?;
     }
     Ok(())
 }
