@@ -1,5 +1,5 @@
 // A memory's record: size, soundness, loads and stores, host reads and writes.
-#![tactic(auto, using(types::proofs::Picks::cases, types::proofs::Dones::done_as, types::proofs::Held::held_free, types::proofs::Held::held_above, types::proofs::Held::held_by, crate::proofs::Sounds::size_broken, crate::proofs::Sounds::size_by, crate::proofs::Sounds::size_bytes, crate::proofs::Copies::put_list, crate::proofs::Copies::part_cut), unfolding(types::specs::Span::inside, crate::specs::Memory::sound_room, crate::specs::Memory::load_memory, crate::specs::Memory::store_memory, crate::specs::Host::read_memory, crate::specs::Host::read_used, crate::specs::Host::write_memory, crate::specs::Host::write_used, crate::specs::Memory::pages_of, crate::specs::Memory::dynamic_of, crate::specs::Memory::sound_memory))]
+#![tactic(auto, using(types::proofs::Picks::cases, types::proofs::Dones::done_as, types::proofs::Held::held_free, types::proofs::Held::held_above, types::proofs::Held::held_by, crate::proofs::Sounds::size_broken, crate::proofs::Sounds::size_by, crate::proofs::Sounds::size_bytes, crate::proofs::Copies::put_list, crate::proofs::Copies::part_cut, crate::proofs::Copies::cut_empty, crate::proofs::Copies::over_empty), unfolding(types::specs::Span::inside, crate::specs::Memory::sound_room, crate::specs::Memory::load_memory, crate::specs::Memory::store_memory, crate::specs::Host::read_memory, crate::specs::Host::read_used, crate::specs::Host::write_memory, crate::specs::Host::write_used, crate::specs::Memory::pages_of, crate::specs::Memory::dynamic_of, crate::specs::Memory::sound_memory))]
 
 ghost use Rattle.std.specs.Prelude.{◌≡◌, ◌+◌, ◌≤◌, length, leb};
 ghost use Rattle.types.specs.Pick.{both};
@@ -137,8 +137,11 @@ impl Memory {
         if !types::span::within(offset, to.len() as u64, self.size) {
             return Err(Refusal::from(Reason::AccessOutside));
         }
-        let at = self.start + (offset as usize);
-        to.copy_from_slice(&bytes[at..at + to.len()]);
+        // A copy of nothing would still be a call.
+        if !to.is_empty() {
+            let at = self.start + (offset as usize);
+            to.copy_from_slice(&bytes[at..at + to.len()]);
+        }
         Ok(Value::Number(0))
     }
 
@@ -152,8 +155,10 @@ impl Memory {
         if !types::span::within(offset, from.len() as u64, self.size) {
             return Err(Refusal::from(Reason::AccessOutside));
         }
-        let at = self.start + (offset as usize);
-        bytes[at..at + from.len()].copy_from_slice(from);
+        if !from.is_empty() {
+            let at = self.start + (offset as usize);
+            bytes[at..at + from.len()].copy_from_slice(from);
+        }
         Ok(Value::Number(0))
     }
 }
